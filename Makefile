@@ -1,0 +1,14 @@
+# run: build the proved program and run it on the sample session.
+# test: the whole gate.
+# bench: the measurements, each as a ratio to a baseline of the same run.
+.PHONY: run test bench
+
+run:
+	sh examples/run-first-session
+
+test:
+	bash .ci/run
+
+bench:
+	python3 bench/lines
+	python3 bench/sets
