@@ -1,0 +1,6 @@
+pub mod Answers
+pub mod Decimals
+pub mod AsNumbers
+pub mod Dotted
+pub mod Bytes
+pub mod HexGroups

@@ -1,0 +1,4 @@
+pub mod Reader
+pub mod Number
+pub mod Ipv4
+pub mod Ipv6
