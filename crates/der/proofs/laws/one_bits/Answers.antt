@@ -1,0 +1,5 @@
+use Rattle.der.proofs.Contents.{one_bits}
+use Rattle.der.proofs.laws.one_bits.Goals as goal
+
+pub returns : goal.returns
+returns c = one_bits

@@ -1,0 +1,5 @@
+use Rattle.der.proofs.Elements.{one_element}
+use Rattle.der.proofs.laws.one_element.Goals as goal
+
+pub returns : goal.returns
+returns c = one_element

@@ -1,0 +1,5 @@
+use Rattle.der.proofs.Contents.{one_unsigned}
+use Rattle.der.proofs.laws.one_unsigned.Goals as goal
+
+pub returns : goal.returns
+returns c = one_unsigned
