@@ -1,0 +1,4 @@
+pub mod Civil
+pub mod Days
+pub mod Text
+pub mod Reading
