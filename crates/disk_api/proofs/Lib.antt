@@ -1,0 +1,3 @@
+mod Replay
+mod Same
+mod Taken

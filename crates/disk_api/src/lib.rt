@@ -1,0 +1,17 @@
+//! A disk as a journal sees it: what a read gives, what a crash may leave, and how often it has
+//! failed. A disk in memory keeps exactly these rules and can be crashed. A disk over a real file
+//! tells nothing of what it holds.
+#![tactic(auto)]
+
+mod disk;
+mod file;
+mod image;
+mod memory;
+mod step;
+
+pub use disk::{Disk, DiskStop};
+pub use file::FileDisk;
+pub use memory::MemoryDisk;
+
+#[cfg(test)]
+mod tests;
