@@ -1,0 +1,4 @@
+pub mod Prefix
+pub mod Text
+pub mod Fronts
+pub mod Origin

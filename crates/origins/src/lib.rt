@@ -1,0 +1,43 @@
+//! Route origins: which AS may announce a prefix, and how far it may be split (RFC 9582).
+#![tactic(auto)]
+
+ghost use Rattle.origins.specs.Prefix.{IsPrefix, IsMaximum};
+
+mod addresses;
+mod fronts;
+mod grammar;
+mod reading;
+mod writing;
+
+pub use reading::{OriginFault, read_origin, reads_origin_once};
+pub use writing::reads_own_text;
+
+/// An address prefix of IPv4 or IPv6.
+///
+/// The order is by family, IPv4 first, then by address, then by length.
+#[derive(Clone, Copy, Debug, PartialEq, Eq, PartialOrd, Ord)]
+pub struct Prefix {
+    /// Whether the family is IPv6.
+    pub v6: bool,
+    /// The lowest address. An IPv4 address stands in the low 32 bits.
+    pub address: u128,
+    /// How many leading bits are fixed, at most 32 or 128.
+    pub length: u8,
+    ghost prefix: { IsPrefix v6 address length },
+}
+
+/// A route origin: the AS that may announce a prefix, and the longest prefix that it may announce
+/// below it.
+///
+/// The order is by prefix, then by maximum length, then by AS number.
+#[derive(Clone, Copy, Debug, PartialEq, Eq, PartialOrd, Ord)]
+pub struct Origin {
+    pub prefix: Prefix,
+    /// The greatest length that may be announced, from the prefix's length to 32 or 128.
+    pub max: u8,
+    pub asn: u32,
+    ghost maximum: { IsMaximum prefix.v6 prefix.length max },
+}
+
+#[cfg(test)]
+mod tests;
