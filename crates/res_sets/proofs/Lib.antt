@@ -1,0 +1,12 @@
+pub mod Blanks
+pub mod Canonical
+pub mod Lists
+pub mod Lookups
+pub mod Masks
+pub mod Merges
+pub mod Once
+pub mod Parts
+pub mod Plain
+pub mod Prints
+pub mod ReadBack
+pub mod Spelled

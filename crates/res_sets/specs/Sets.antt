@@ -1,0 +1,49 @@
+-- Sets of numbers of one family, said of their members.
+use Rattle.std.specs.Prelude.{◌≡◌, ℕ, Bool, ◌&&◌, ◌||◌, not, nat_lt, IsTrue, List}
+use Rattle.res_sets.specs.declared.numbers.Family.{Family}
+use Rattle.res_sets.specs.declared.numbers.Range.{Range}
+use Rattle.res_sets.specs.Numbers.{family_end, any_spans, AreCanonical}
+
+-- What contracts see of a `Ranges`.
+pub record RangeSet : Type 0 where
+  pub family : Family
+  pub ranges : List Range
+
+-- whether the number is a member
+abbrev pub holds : RangeSet → ℕ → Bool
+holds set n = any_spans set.ranges n
+
+abbrev pub IsCanonical : RangeSet → Type 0
+IsCanonical set = AreCanonical set.family set.ranges
+
+-- No number is a member.
+abbrev pub IsEmpty : RangeSet → Type 0
+IsEmpty set = (n : ℕ) → ¬ IsTrue (holds set n)
+
+-- Whole has each number of the family.
+pub record IsWhole (numbers : Family) (whole : RangeSet) : Type 0 where
+  pub family : whole.family ≡ numbers
+  pub members : (n : ℕ) → holds whole n ≡ nat_lt n (family_end numbers)
+  pub canonical : IsCanonical whole
+
+-- Both has the numbers that are in a and in b.
+pub record IsMeet (a b both : RangeSet) : Type 0 where
+  pub family : both.family ≡ a.family
+  pub members : (n : ℕ) → holds both n ≡ (holds a n && holds b n)
+  pub canonical : IsCanonical both
+
+-- Either has the numbers that are in a or in b.
+pub record IsJoin (a b either : RangeSet) : Type 0 where
+  pub family : either.family ≡ a.family
+  pub members : (n : ℕ) → holds either n ≡ (holds a n || holds b n)
+  pub canonical : IsCanonical either
+
+-- Rest has the numbers that are in a and not in b.
+pub record IsMinus (a b rest : RangeSet) : Type 0 where
+  pub family : rest.family ≡ a.family
+  pub members : (n : ℕ) → holds rest n ≡ (holds a n && not (holds b n))
+  pub canonical : IsCanonical rest
+
+-- Each number of a is in b.
+abbrev pub IsInside : RangeSet → RangeSet → Type 0
+IsInside a b = (n : ℕ) → IsTrue (holds a n) → IsTrue (holds b n)

@@ -1,0 +1,24 @@
+//! Sets of Internet number resources: AS numbers, IPv4 addresses and IPv6 addresses (RFC 3779).
+//!
+//! A set's meaning is the numbers that are in it. A set is kept as the one sorted list of ranges
+//! that has them, and each operation goes over such lists once.
+#![tactic(auto)]
+
+mod bytes;
+mod holdings;
+mod lookup;
+mod merging;
+mod numbers;
+mod prefixes;
+mod printing;
+mod sets;
+mod texts;
+
+pub use holdings::Resources;
+pub use numbers::{Family, Range};
+pub use printing::reads_own_texts;
+pub use sets::{Ranges, same_members_same_set};
+pub use texts::{TextFault, reads_texts_once};
+
+#[cfg(test)]
+mod tests;
