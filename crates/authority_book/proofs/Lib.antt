@@ -1,0 +1,9 @@
+mod OriginOrder
+mod Repeats
+mod Indexed
+mod Distinct
+mod Sorted
+mod Changes
+mod Folds
+mod Inserted
+mod Same

@@ -1,0 +1,6 @@
+pub mod Origins
+pub mod Index
+pub mod Settings
+pub mod Refusals
+pub mod Verdict
+pub mod Fold

@@ -1,0 +1,48 @@
+-- Lists of route origins: the order of origins, membership, and what stands twice.
+use Rattle.std.specs.Prelude.{◌≡◌, Bool, not, List, [], ◌∷◌, ◌++◌, Option, None, Some, filter, if◌then◌else◌}
+use Rattle.std.specs.List.{list_any, IsDistinct}
+use Rattle.std.specs.List.Sorted.{IsStrictlySortedBy}
+use Rattle.std.specs.Ordering.{nat_cmp, bool_cmp, then_cmp, on, eq_by_cmp}
+use Rattle.std.specs.declared.cmp.Ordering.{Ordering}
+use Rattle.origins.specs.declared.Prefix.{Prefix}
+use Rattle.origins.specs.declared.Origin.{Origin}
+
+-- Prefixes by family, IPv4 first, then by address, then by length.
+abbrev pub prefix_cmp : Prefix → Prefix → Ordering
+prefix_cmp = then_cmp (on (λ p. p.v6) bool_cmp) (then_cmp (on (λ p. p.address) nat_cmp) (on (λ p. p.length) nat_cmp))
+
+-- Origins by prefix, then by maximum length, then by AS number.
+unfoldable pub origin_cmp : Origin → Origin → Ordering
+origin_cmp = then_cmp (on (λ o. o.prefix) prefix_cmp) (then_cmp (on (λ o. o.max) nat_cmp) (on (λ o. o.asn) nat_cmp))
+
+-- Whether two origins are one and the same.
+abbrev pub is_same : Origin → Origin → Bool
+is_same = eq_by_cmp origin_cmp
+
+-- Whether the list has the origin.
+abbrev pub is_there : List Origin → Origin → Bool
+is_there origins origin = list_any (is_same origin) origins
+
+-- The list without the origins of another.
+abbrev pub without : List Origin → List Origin → List Origin
+without origins removed = filter (λ o. not (is_there removed o)) origins
+
+-- The first origin of a list that stands earlier in it, or among those that came before the list.
+abbrev pub first_repeated_after : List Origin → List Origin → Option Origin
+first_repeated_after earlier [] = None
+first_repeated_after earlier (o ∷ rest) =
+    if is_there earlier o then Some o else first_repeated_after (earlier ++ o ∷ []) rest
+
+-- The first origin of a list that stands earlier in it.
+abbrev pub first_repeated : List Origin → Option Origin
+first_repeated origins = first_repeated_after [] origins
+
+-- A list in ascending order, each origin once.
+abbrev pub IsAscending : List Origin → Type 0
+IsAscending origins = IsStrictlySortedBy origin_cmp origins
+
+-- The origins of a list, none of which stands twice in it, in ascending order.
+pub record IsSortedFrom (origins sorted : List Origin) : Type 0 where
+  pub distinct : IsDistinct is_same origins
+  pub members : (origin : Origin) → is_there sorted origin ≡ is_there origins origin
+  pub ascending : IsAscending sorted

@@ -1,0 +1,23 @@
+//! An authority's book: its commands, which of them are accepted, and the configuration that the
+//! accepted ones come to.
+#![tactic(auto)]
+
+mod commands;
+mod configs;
+mod laws;
+mod origin_lists;
+mod refusals;
+mod sorted_origins;
+mod verdicts;
+
+pub use commands::Command;
+pub use configs::Config;
+pub use laws::membership_is_by_equality;
+pub use origin_lists::OriginList;
+pub use refusals::Refusal;
+pub use verdicts::{verdict, verdict_on_the_fold};
+
+#[cfg(test)]
+mod plain;
+#[cfg(test)]
+mod tests;

@@ -1,0 +1,153 @@
+//! Lists of route origins, as a command gives them.
+
+ghost use Rattle.std.specs.Prelude.{◌≡◌, ◌↔◌, ◌<◌, ◌^◌, [], length, IfOk, List, IsTrue, Some};
+ghost use Rattle.origins.specs.declared.Origin.{Origin};
+ghost use Rattle.authority_book.specs.Origins.{is_there, first_repeated};
+ghost use Rattle.authority_book.specs.Index.{IsIndexed};
+
+use origins::Origin;
+use std::alloc::{AllocError, Global};
+use std::collections::BTreeSet;
+use std::marker::Model;
+
+/// Route origins in the order in which they were given, repetitions and all.
+///
+/// Beside a list that isn't short stands what answers look-ups in logarithmic time, so that a
+/// verdict on a command takes no memory. A clause sees the list alone.
+#[derive(Drop)]
+pub struct OriginList {
+    items: Vec<Origin>,
+    members: Option<BTreeSet<Origin>>,
+    repeated: Option<Origin>,
+}
+
+// A list of so many origins at most is looked through as it stands.
+const SHORT_LEN: usize = 8;
+
+impl Model for OriginList {
+    ghost Value = { List Origin };
+
+    ghost view = { λ list. list.items.items };
+
+    ghost invariant = { λ list. IsIndexed list.items.items list.members list.repeated };
+}
+
+impl OriginList {
+    /// The list of these origins.
+    pub fn new(alloc: Global, items: Vec<Origin>) -> Result<OriginList, AllocError>
+        ensures { IfOk result (λ list. list ≡ items.items) }
+    {
+        let (members, repeated) = index(alloc, items.as_slice())?;
+        Ok(OriginList {
+            items,
+            members,
+            repeated,
+        })
+    }
+
+    /// The origins in their order.
+    pub fn as_slice(&self) -> &[Origin]
+        ensures { result.now ≡ self.now }
+    {
+        self.items.as_slice()
+    }
+
+    /// How many origins the list has, counting each repetition.
+    pub fn len(&self) -> usize
+        ensures len { result ≡ length self.now }
+        ensures small { result < 2 ^ 63 }
+    {
+        self.items.len()
+    }
+
+    /// Whether the list has no origin.
+    pub fn is_empty(&self) -> bool
+        ensures { IsTrue result ↔ (self.now ≡ []) }
+    {
+        self.items.is_empty()
+    }
+
+    /// The origins in their order, as they were given.
+    pub fn into_vec(self) -> Vec<Origin>
+        ensures { result.items ≡ self }
+    {
+        self.items
+    }
+
+    /// The same list once more.
+    pub fn copy(&self, alloc: Global) -> Result<OriginList, AllocError>
+        ensures { IfOk result (λ copy. copy ≡ self.now) }
+    {
+        OriginList::new(alloc, self.items.as_slice().to_vec(alloc)?)
+    }
+
+    /// Whether the list has the origin, found in logarithmic time.
+    pub fn contains(&self, origin: &Origin) -> bool
+        ensures { result ≡ is_there self.now origin.now }
+    {
+        match &self.members {
+            Some(members) => members.contains(origin),
+            None => is_in(self.items.as_slice(), origin),
+        }
+    }
+
+    /// The first origin that stands earlier in the list, if an origin stands there twice.
+    pub fn first_repeated(&self) -> Option<Origin>
+        ensures { result ≡ first_repeated self.now }
+    {
+        self.repeated
+    }
+}
+
+// What stands beside the list of these origins.
+fn index(
+    alloc: Global,
+    items: &[Origin],
+) -> Result<(Option<BTreeSet<Origin>>, Option<Origin>), AllocError>
+    ensures { IfOk result (λ made. IsIndexed items.now made.0 made.1) }
+{
+    if items.len() <= SHORT_LEN {
+        return Ok((None, repeated_of_few(items)));
+    }
+    let (members, repeated) = index_many(alloc, items)?;
+    Ok((Some(members), repeated))
+}
+
+// The first origin that stands earlier in the list, which is short.
+fn repeated_of_few(items: &[Origin]) -> Option<Origin>
+    ensures { result ≡ first_repeated items.now }
+{
+    let mut repeated = None;
+    for place in 0..items.len() {
+        let origin = items[place];
+        if is_in(&items[..place], &origin) {
+            repeated = repeated.or(Some(origin));
+        }
+    }
+    repeated
+}
+
+// The members of the list as a set, and the first that stands earlier in it.
+fn index_many(
+    alloc: Global,
+    items: &[Origin],
+) -> Result<(BTreeSet<Origin>, Option<Origin>), AllocError>
+    ensures { IfOk result (λ made. IsIndexed items.now (Some made.0) made.1) }
+{
+    let mut members = BTreeSet::new(alloc);
+    let mut repeated = None;
+    for origin in items {
+        let is_new = members.insert(*origin)?;
+        if !is_new {
+            repeated = repeated.or(Some(*origin));
+        }
+    }
+    Ok((members, repeated))
+}
+
+// Whether the list has the origin, by looking at each.
+pub(crate) fn is_in(list: &[Origin], origin: &Origin) -> bool
+    ensures { result ≡ is_there list.now origin.now }
+{
+    list.iter().any(|other| origin.cmp(other).is_eq())
+}
