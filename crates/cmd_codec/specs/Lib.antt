@@ -1,0 +1,4 @@
+pub mod Spelling
+pub mod Fault
+pub mod Places
+pub mod Outcome
