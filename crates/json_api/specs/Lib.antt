@@ -1,0 +1,5 @@
+pub mod Name
+pub mod Reply
+pub mod Tokens
+pub mod Line
+pub mod Plain

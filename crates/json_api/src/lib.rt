@@ -1,0 +1,16 @@
+//! Commands as lines of JSON, and the replies to them.
+#![tactic(auto)]
+
+mod line;
+mod name;
+mod plain;
+mod reply;
+#[cfg(test)]
+mod tests;
+
+pub use line::{Line, LineFault, LineReader, MAX_LINE_LEN, means_one_thing, read_line};
+pub use name::is_name;
+pub use reply::{
+    BAD_LINE_REPLY, LineReply, MEMORY_REPLY, accepted_into, constant_replies, refusal_into,
+    reply_text,
+};
