@@ -1,0 +1,12 @@
+use Rattle.std.proofs.Common.{◌≤◌, length}
+use Rattle.line_loop.specs.Progress.{AnswersQuietly, Advances}
+use Rattle.line_loop.proofs.session.answer_batch.Given as goal
+
+abbrev pub invariant-lines : goal.invariant-lines
+invariant-lines g l = record {
+  quiet : Advances (AnswersQuietly g.H.LineHandler.answers) l.initial.handler l.initial.window l.out.items l.handler l.window;
+  no_longer : length l.window.bytes ≤ length l.initial.window.bytes;
+}
+
+abbrev pub decreases-lines : goal.decreases-lines
+decreases-lines g l = length l.window.bytes

@@ -1,0 +1,8 @@
+pub mod Fault
+pub mod Lines
+pub mod Replies
+pub mod Session
+pub mod Memory
+pub mod Pending
+pub mod Progress
+pub mod Streams

@@ -1,0 +1,97 @@
+// What answers a session's lines, one at a time.
+ghost use Rattle.std.specs.Prelude.{◌≡◌, ℕ, ◌<◌, ◌≤◌, Bool, false, List, [], ◌++◌, length, take, IfOk, OnOk, OnErr, IfSome, IfNone};
+ghost use Rattle.line_loop.specs.Pending.{NoFeed, IsTailOf, IsTail};
+ghost use Rattle.line_loop.specs.Progress.{AnswersOne, Advances};
+
+use crate::LINE_LIMIT;
+use crate::window::Window;
+use std::alloc::{AllocError, Global};
+
+/// What answers lines. A reply is the bytes that it writes, its line feed among them, and none where a
+/// line has no reply.
+pub trait LineHandler {
+    /// From the first state the handler may answer this line, which stands without its line feed, with
+    /// this reply, and be left in the second state. The flag says whether the line changed what its
+    /// reply acknowledges.
+    ghost answers: { Self → List ℕ → List ℕ → Bool → Self → Type 0 };
+
+    /// Answers a line of at most [`crate::LINE_LIMIT`] bytes, at the end of `out`, and says whether it
+    /// changed what its reply acknowledges: such a reply is given before the next line is answered.
+    /// An `Err` changes nothing.
+    fn answer(&mut self, alloc: Global, line: &[u8], out: &mut Vec<u8>) -> Result<bool, AllocError>
+        requires { length line.now ≤ 1048576 }
+        ensures ok { IfOk result (λ changes. (reply : List ℕ) × answers self.old line.now reply changes self.new
+            × (out.new.items ≡ out.old.items ++ reply)) }
+        ensures err { OnErr result ((self.new ≡ self.old) × (out.new.items ≡ out.old.items)) };
+
+    /// Answers a longer line, whose bytes were not kept: with one reply, whichever they were. It
+    /// changes nothing that a reply acknowledges.
+    fn refuse_long(&mut self, alloc: Global, out: &mut Vec<u8>) -> Result<(), AllocError>
+        ensures ok { OnOk result ((reply : List ℕ)
+            × ((line : List ℕ) → 1048576 < length line → answers self.old line reply false self.new)
+            × (out.new.items ≡ out.old.items ++ reply)) }
+        ensures err { OnErr result ((self.new ≡ self.old) × (out.new.items ≡ out.old.items)) };
+}
+
+// Answers the first line of the window, which has so many bytes of those that are kept.
+fn answer_line<H: LineHandler>(
+    alloc: Global,
+    handler: &mut H,
+    window: &Window,
+    n: usize,
+    out: &mut Vec<u8>,
+) -> Result<bool, AllocError>
+    requires { n ≤ length window.now.bytes }
+    ensures ok { IfOk result (λ changes. (reply : List ℕ) × (out.new.items ≡ out.old.items ++ reply)
+        × ((line : List ℕ) → IsTailOf line (take n window.now.bytes) window.now.skips →
+        H.answers handler.old line reply changes handler.new)) }
+    ensures err { OnErr result ((handler.new ≡ handler.old) × (out.new.items ≡ out.old.items)) }
+{
+    if window.skips() || n > LINE_LIMIT {
+        handler.refuse_long(alloc, out)?;
+        return Ok(false);
+    }
+    handler.answer(alloc, window.front(n), out)
+}
+
+/// Answers the first pending line, where it has ended, and says whether it changed anything. None
+/// where no line has ended.
+pub(crate) fn answer_next<H: LineHandler>(
+    alloc: Global,
+    handler: &mut H,
+    window: &mut Window,
+    out: &mut Vec<u8>,
+) -> Result<Option<bool>, AllocError>
+    ensures answered { IfOk result (λ found. IfSome found (λ changes. (reply : List ℕ)
+        × (out.new.items ≡ out.old.items ++ reply)
+        × Advances (AnswersOne H.answers changes) handler.old window.old reply handler.new window.new)) }
+    ensures fewer { IfOk result (λ found. IfSome found (λ _. length window.new.bytes < length window.old.bytes)) }
+    ensures none { IfOk result (λ found. IfNone found (NoFeed window.old.bytes
+        × (window.new ≡ window.old) × (handler.new ≡ handler.old)
+        × (out.new.items ≡ out.old.items))) }
+    ensures err { OnErr result ((window.new ≡ window.old) × (handler.new ≡ handler.old)
+        × (out.new.items ≡ out.old.items)) }
+{
+    let Some(n) = window.find_line() else {
+        return Ok(None);
+    };
+    let changes = answer_line(alloc, handler, window, n, out)?;
+    window.drop_line(n);
+    Ok(Some(changes))
+}
+
+/// Answers what is pending as the input's last line.
+pub(crate) fn answer_last<H: LineHandler>(
+    alloc: Global,
+    handler: &mut H,
+    window: &Window,
+    out: &mut Vec<u8>,
+) -> Result<(), AllocError>
+    ensures ok { OnOk result ((reply : List ℕ) × (changes : Bool) × (out.new.items ≡ out.old.items ++ reply)
+        × ((tail : List ℕ) → IsTail tail window.now →
+        H.answers handler.old tail reply changes handler.new)) }
+    ensures err { OnErr result ((handler.new ≡ handler.old) × (out.new.items ≡ out.old.items)) }
+{
+    let _last = answer_line(alloc, handler, window, window.len(), out)?;
+    Ok(())
+}

@@ -1,0 +1,241 @@
+// Ends in memory, whose calls fail where they are told to.
+ghost use Rattle.std.specs.Prelude.{◌≡◌, ◌≢◌, ◌↔◌, ℕ, ◌+◌, ◌-◌, ◌^◌, ◌<◌, ◌≤◌, Some, Err, List, [], ◌++◌, length, take, drop, min, slice_index, vec_len, IsTrue, IfOk};
+ghost use Rattle.std.specs.Bool.{OnTrue, OnFalse};
+ghost use Rattle.std.specs.Io.KnownBytes.{ReadConsumes, WriteAppends};
+ghost use Rattle.line_loop.specs.Fault.{Rose};
+
+use crate::{Clock, Sink, SinkStop, Source, SourceStop};
+use std::alloc::Global;
+
+/// Which calls of an end are to fail.
+#[derive(Drop)]
+pub struct Schedule {
+    fails: Vec<u64>,
+    calls: u64,
+    faults: u64,
+}
+
+impl Schedule {
+    ghost use Rattle.line_loop.specs.Memory.{IsToFail, IsFresh, CountsCall};
+
+    fn new(fails: Vec<u64>) -> Self
+        ensures { IsFresh result fails.items }
+    {
+        Schedule {
+            fails,
+            calls: 0,
+            faults: 0,
+        }
+    }
+
+    // Counts a call, and its fault where it is to fail.
+    fn count_call(&mut self) -> bool
+        ensures fails { IsTrue result ↔ IsToFail self.old }
+        ensures counts { CountsCall self.old self.new }
+        ensures fault { OnTrue result (Rose self.old.faults self.new.faults) }
+        ensures no_fault { OnFalse result (self.new.faults ≡ self.old.faults) }
+    {
+        self.calls = self.calls.saturating_add(1);
+        let call = self.calls;
+        let is_to_fail = self.fails.contains(&call);
+        if is_to_fail {
+            self.faults = self.faults.saturating_add(1);
+        }
+        is_to_fail
+    }
+}
+
+/// A source that gives these bytes and then its end.
+#[derive(Drop)]
+pub struct MemorySource {
+    bytes: Vec<u8>,
+    at: usize,
+    piece: usize,
+    schedule: Schedule,
+    ghost within: { at ≤ vec_len bytes },
+    ghost some: { 0 < piece },
+}
+
+impl MemorySource {
+    ghost use Rattle.line_loop.specs.Memory.{IsFresh, source_left, source_piece, source_schedule};
+
+    /// A source whose calls of these numbers, from 1, fail.
+    pub fn new(bytes: Vec<u8>, fails: Vec<u64>) -> Self
+        ensures left { source_left result ≡ bytes.items }
+        ensures piece { source_piece result ≡ usize.MAX }
+        ensures fresh { IsFresh (source_schedule result) fails.items }
+    {
+        MemorySource::in_pieces(bytes, fails, usize::MAX)
+    }
+
+    /// The same, which gives at most so many bytes in a call.
+    pub fn in_pieces(bytes: Vec<u8>, fails: Vec<u64>, piece: usize) -> Self
+        requires { 0 < piece }
+        ensures left { source_left result ≡ bytes.items }
+        ensures piece { source_piece result ≡ piece }
+        ensures fresh { IsFresh (source_schedule result) fails.items }
+    {
+        MemorySource {
+            bytes,
+            at: 0,
+            piece,
+            schedule: Schedule::new(fails),
+        }
+    }
+}
+
+// Copies the first bytes as far as there is room, at most so many, and says how many.
+fn copy_front(from: &[u8], into: &mut [u8], most: usize) -> usize
+    ensures count { result ≡ min (length from.now) (min (length into.old) most) }
+    ensures bytes { take result into.new ≡ take result from.now }
+{
+    let n = from.len().min(into.len()).min(most);
+    into[..n].copy_from_slice(&from[..n]);
+    n
+}
+
+impl Source for MemorySource {
+    ghost use Rattle.line_loop.specs.Memory.{source_left, source_piece, source_schedule, fault_count, IsToFail, CountsCall};
+
+    ghost left = { λ source. Some (source_left source) };
+
+    ghost faults = { λ source. fault_count (source_schedule source) };
+
+    fn take(&mut self, into: &mut [u8]) -> Result<usize, SourceStop>
+        ensures room { IfOk result (λ n. n ≤ length into.new) }
+        ensures bytes { ReadConsumes (Some (source_left self.old)) (Some (source_left self.new)) result into.new }
+        ensures later { fault_count (source_schedule self.old) ≤ fault_count (source_schedule self.new) }
+        ensures fault { result ≡ Err SourceStop.Fault →
+            Rose (fault_count (source_schedule self.old)) (fault_count (source_schedule self.new)) }
+
+        // It fails where it is told to and nowhere else, and gives what there is room for.
+        ensures fails { (result ≡ Err SourceStop.Fault) ↔ IsToFail (source_schedule self.old) }
+        ensures memory { result ≢ Err SourceStop.Memory }
+        ensures count { IfOk result (λ n. n ≡
+            min (length (source_left self.old)) (min (length into.old) (source_piece self.old))) }
+        ensures counts { CountsCall (source_schedule self.old) (source_schedule self.new) }
+        ensures piece { source_piece self.new ≡ source_piece self.old }
+    {
+        if self.schedule.count_call() {
+            return Err(SourceStop::Fault);
+        }
+        let n = copy_front(&self.bytes[self.at..], into, self.piece);
+        self.at += n;
+        Ok(n)
+    }
+}
+
+/// A sink that keeps what it takes.
+#[derive(Drop)]
+pub struct MemorySink {
+    bytes: Vec<u8>,
+    piece: usize,
+    schedule: Schedule,
+    ghost some: { 0 < piece },
+}
+
+impl MemorySink {
+    ghost use Rattle.line_loop.specs.Memory.{IsFresh, sink_bytes, sink_piece, sink_schedule};
+
+    /// An empty sink, whose calls of these numbers, from 1, fail.
+    pub fn new(alloc: Global, fails: Vec<u64>) -> Self
+        ensures bytes { sink_bytes result ≡ [] }
+        ensures piece { sink_piece result ≡ usize.MAX }
+        ensures fresh { IsFresh (sink_schedule result) fails.items }
+    {
+        MemorySink::in_pieces(alloc, fails, usize::MAX)
+    }
+
+    /// The same, which takes at most so many bytes in a call.
+    pub fn in_pieces(alloc: Global, fails: Vec<u64>, piece: usize) -> Self
+        requires { 0 < piece }
+        ensures bytes { sink_bytes result ≡ [] }
+        ensures piece { sink_piece result ≡ piece }
+        ensures fresh { IsFresh (sink_schedule result) fails.items }
+    {
+        MemorySink {
+            bytes: Vec::new(alloc),
+            piece,
+            schedule: Schedule::new(fails),
+        }
+    }
+
+    /// What it has taken.
+    pub fn bytes(&self) -> &[u8]
+        ensures { result.now ≡ sink_bytes self.now }
+    {
+        &self.bytes
+    }
+}
+
+impl Sink for MemorySink {
+    ghost use Rattle.line_loop.specs.Memory.{sink_bytes, sink_piece, sink_schedule, fault_count, IsToFail, CountsCall};
+
+    ghost taken = { λ sink. Some (sink_bytes sink) };
+
+    ghost faults = { λ sink. fault_count (sink_schedule sink) };
+
+    fn give(&mut self, bytes: &[u8]) -> Result<usize, SinkStop>
+        ensures piece { IfOk result (λ n. n ≤ length bytes.now) }
+        ensures some { IfOk result (λ n. 0 < length bytes.now → 0 < n) }
+        ensures bytes { WriteAppends (Some (sink_bytes self.old)) (Some (sink_bytes self.new)) result bytes.now }
+        ensures later { fault_count (sink_schedule self.old) ≤ fault_count (sink_schedule self.new) }
+        ensures fault { result ≡ Err SinkStop.Fault →
+            Rose (fault_count (sink_schedule self.old)) (fault_count (sink_schedule self.new)) }
+
+        // It fails where it is told to and nowhere else.
+        ensures fails { (result ≡ Err SinkStop.Fault) ↔ IsToFail (sink_schedule self.old) }
+        ensures count { IfOk result (λ n. n ≡ min (length bytes.now) (sink_piece self.old)) }
+        ensures counts { CountsCall (sink_schedule self.old) (sink_schedule self.new) }
+        ensures same_piece { sink_piece self.new ≡ sink_piece self.old }
+    {
+        if self.schedule.count_call() {
+            return Err(SinkStop::Fault);
+        }
+        let n = bytes.len().min(self.piece);
+        match self.bytes.extend_from_slice(&bytes[..n]) {
+            Ok(()) => Ok(n),
+            Err(_) => Err(SinkStop::Memory),
+        }
+    }
+}
+
+/// A clock that gives these moments in their order and then the last again and again, or 0 where there
+/// are none.
+#[derive(Drop)]
+pub struct ListClock {
+    moments: Vec<u64>,
+    at: usize,
+    ghost within: { at ≤ vec_len moments },
+}
+
+impl ListClock {
+    ghost use Rattle.line_loop.specs.Memory.{clock_moments};
+
+    /// A clock that begins at the first moment.
+    pub fn new(moments: Vec<u64>) -> Self
+        ensures { clock_moments result ≡ moments.items }
+    {
+        ListClock { moments, at: 0 }
+    }
+}
+
+impl Clock for ListClock {
+    ghost use Rattle.line_loop.specs.Memory.{clock_moments, later};
+
+    fn now(&mut self) -> u64
+        ensures moment { result ≡ slice_index (clock_moments self.old) 0 }
+        ensures later { clock_moments self.new ≡ later (clock_moments self.old) }
+    {
+        let rest = &self.moments[self.at..];
+        match rest {
+            [] => 0,
+            [last] => *last,
+            [first, ..] => {
+                let moment = *first;
+                self.at += 1;
+                moment
+            }
+        }
+    }
+}

@@ -1,0 +1,64 @@
+// The ends of a session as the loop sees them. What an end holds is told or not; its faults are counted.
+ghost use Rattle.std.specs.Prelude.{◌≡◌, ℕ, ◌<◌, ◌≤◌, List, Option, Err, length, IfOk};
+ghost use Rattle.std.specs.Io.KnownBytes.{ReadConsumes, WriteAppends};
+ghost use Rattle.line_loop.specs.Fault.{Rose};
+
+use thiserror::Error;
+
+/// Why a source gave nothing.
+#[derive(Clone, Copy, Debug, PartialEq, Eq, Error)]
+pub enum SourceStop {
+    #[error("the source failed")]
+    Fault,
+    #[error("out of memory")]
+    Memory,
+}
+
+/// Why a sink took nothing.
+#[derive(Clone, Copy, Debug, PartialEq, Eq, Error)]
+pub enum SinkStop {
+    #[error("the sink failed")]
+    Fault,
+    #[error("out of memory")]
+    Memory,
+}
+
+/// Where a session's bytes come from.
+pub trait Source: Drop {
+    /// The bytes that it will still give, where it tells.
+    ghost left: { Self → Option (List ℕ) };
+
+    /// How often it has failed.
+    ghost faults: { Self → ℕ };
+
+    /// Puts the next bytes into the first places, as many as it answers. It answers 0 for room that
+    /// isn't empty exactly at the end. An `Err` gives nothing.
+    fn take(&mut self, into: &mut [u8]) -> Result<usize, SourceStop>
+        ensures room { IfOk result (λ n. n ≤ length into.new) }
+        ensures bytes { ReadConsumes (left self.old) (left self.new) result into.new }
+        ensures later { faults self.old ≤ faults self.new }
+        ensures fault { result ≡ Err SourceStop.Fault → Rose (faults self.old) (faults self.new) };
+}
+
+/// Where a session's replies go.
+pub trait Sink: Drop {
+    /// All bytes that it has taken, where it tells.
+    ghost taken: { Self → Option (List ℕ) };
+
+    /// How often it has failed.
+    ghost faults: { Self → ℕ };
+
+    /// Takes the first bytes, as many as it answers. An `Err` takes none.
+    fn give(&mut self, bytes: &[u8]) -> Result<usize, SinkStop>
+        ensures piece { IfOk result (λ n. n ≤ length bytes.now) }
+        ensures some { IfOk result (λ n. 0 < length bytes.now → 0 < n) }
+        ensures bytes { WriteAppends (taken self.old) (taken self.new) result bytes.now }
+        ensures later { faults self.old ≤ faults self.new }
+        ensures fault { result ≡ Err SinkStop.Fault → Rose (faults self.old) (faults self.new) };
+}
+
+/// What tells the time.
+pub trait Clock {
+    /// Seconds since 1970-01-01 UTC.
+    fn now(&mut self) -> u64;
+}
