@@ -1,0 +1,35 @@
+-- How a run ends: its status, and the line that says why.
+use Rattle.std.specs.Prelude.{ℕ, List, ◌++◌, Option, None, Some, codes, decimal}
+use Rattle.line_loop.specs.declared.session.SessionEnd.{SessionEnd}
+use Rattle.line_loop.specs.declared.session.SessionEnd.TheVariants.{End, SourceFault, SinkFault, Spent, Memory}
+use Rattle.krill_top.specs.declared.faults.OpenFault.{OpenFault}
+use Rattle.krill_top.specs.declared.faults.OpenFault.TheVariants as opening
+use Rattle.krill_top.specs.declared.faults.RunFault.{RunFault}
+use Rattle.krill_top.specs.declared.faults.RunFault.TheVariants as faults
+
+-- 0 where the source was read to its end, 4 where the source or the sink failed, 5 where the session
+-- took all that it may, 6 where memory was wanting.
+abbrev pub status_of : SessionEnd → ℕ
+status_of End = 0
+status_of SourceFault = 4
+status_of SinkFault = 4
+status_of (Spent bytes) = 5
+status_of Memory = 6
+
+abbrev pub fault_of : SessionEnd → Option RunFault
+fault_of End = None
+fault_of SourceFault = Some faults.Device
+fault_of SinkFault = Some faults.Device
+fault_of (Spent bytes) = Some (faults.Spent bytes)
+fault_of Memory = Some faults.Memory
+
+abbrev pub opening_spelling : OpenFault → List ℕ
+opening_spelling (opening.WrongCount what needed found) =
+    codes "WrongCount what " ++ decimal what ++ codes " needed " ++ decimal needed ++ codes " found " ++ decimal found
+
+abbrev pub fault_spelling : RunFault → List ℕ
+fault_spelling faults.Words = codes "usage: krillc run"
+fault_spelling (faults.Refused fault) = codes "opening refused: " ++ opening_spelling fault
+fault_spelling faults.Device = codes "device failed"
+fault_spelling (faults.Spent bytes) = codes "budget spent"
+fault_spelling faults.Memory = codes "out of memory"

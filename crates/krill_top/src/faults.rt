@@ -1,0 +1,59 @@
+//! Why a run ended otherwise than well.
+
+ghost use Rattle.std.specs.Prelude.{◌≡◌, Some, IfOk, string_bytes};
+ghost use Rattle.krill_top.specs.Ends.{opening_spelling, fault_spelling};
+
+use std::alloc::{AllocError, Global};
+use std::fmt;
+
+/// Why opening was refused, before anything was read.
+#[derive(Clone, Copy, Debug, PartialEq, Eq)]
+pub enum OpenFault {
+    /// Another number of things was handed in than is needed. `what` is 2 for sessions.
+    WrongCount { what: u32, needed: u64, found: u64 },
+}
+
+impl fmt::Display for OpenFault {
+    ghost use Rattle.std.specs.Prelude.{Some};
+    ghost use Rattle.krill_top.specs.Ends.{opening_spelling};
+
+    ghost output = { λ fault. Some (opening_spelling fault) };
+
+    fn fmt<W: fmt::Write>(&self, f: &mut fmt::Formatter<W>) -> fmt::Result {
+        match self {
+            OpenFault::WrongCount {
+                what,
+                needed,
+                found,
+            } => write!(f, "WrongCount what {what} needed {needed} found {found}"),
+        }
+    }
+}
+
+/// Why a run ended with another status than 0.
+#[derive(Clone, Copy, Debug, PartialEq, Eq)]
+pub enum RunFault {
+    /// The words name no command: status 2.
+    Words,
+    /// Opening was refused: status 3.
+    Refused { fault: OpenFault },
+    /// A source or a sink failed: status 4.
+    Device,
+    /// A session took as many bytes as it may: status 5.
+    Spent { bytes: u64 },
+    /// Memory was wanting: status 6.
+    Memory,
+}
+
+/// The line that tells the user of the fault, without the program's name and the line feed.
+pub fn fault_text(alloc: Global, fault: &RunFault) -> Result<String, AllocError>
+    ensures { IfOk result (λ text. string_bytes text ≡ fault_spelling fault.now) }
+{
+    match fault {
+        RunFault::Words => String::from_str(alloc, "usage: krillc run"),
+        RunFault::Refused { fault } => format!(in alloc; "opening refused: {fault}"),
+        RunFault::Device => String::from_str(alloc, "device failed"),
+        RunFault::Spent { .. } => String::from_str(alloc, "budget spent"),
+        RunFault::Memory => String::from_str(alloc, "out of memory"),
+    }
+}

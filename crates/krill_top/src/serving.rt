@@ -1,0 +1,46 @@
+//! A session: its lines, answered over the anchor's configuration.
+
+ghost use Rattle.std.specs.Prelude.{◌≡◌, List};
+ghost use Rattle.line_loop.specs.Fault.{Rose};
+ghost use Rattle.authority_book.specs.declared.commands.Command.{Command};
+ghost use Rattle.krill_top.specs.Stands.{StandsFor};
+ghost use Rattle.krill_top.specs.Ended.{Served};
+
+use crate::anchor::Anchor;
+use line_loop::{Clock, SessionEnd, Sink, Source, serve_lines};
+use std::alloc::Global;
+
+/// The ends of a session.
+#[derive(Drop)]
+pub struct SessionEnds<S: Source, K: Sink, C: Clock + Drop> {
+    /// Where its lines come from.
+    pub source: S,
+    /// Where its replies go.
+    pub sink: K,
+    /// What its publications take the time from.
+    pub clock: C,
+}
+
+/// Serves sessions.
+pub struct Session;
+
+impl Session {
+    /// Answers the session's lines, each once and in order, until the session ends.
+    ///
+    /// Before it waits for more input it has given the replies to all lines that have come.
+    pub fn serve<S: Source, K: Sink, C: Clock + Drop>(
+        alloc: Global,
+        anchor: &mut Anchor,
+        ends: &mut SessionEnds<S, K, C>,
+    ) -> SessionEnd
+        ensures session { (before : List Command) → StandsFor anchor.old before
+            → Served (S.left ends.old.source) (S.left ends.new.source) (K.taken ends.old.sink) (K.taken ends.new.sink) before anchor.new result }
+        ensures source_fault { result ≡ SessionEnd.SourceFault →
+            Rose (S.faults ends.old.source) (S.faults ends.new.source) }
+        ensures sink_fault { result ≡ SessionEnd.SinkFault →
+            Rose (K.faults ends.old.sink) (K.faults ends.new.sink) }
+        ensures clock { ends.new.clock ≡ ends.old.clock }
+    {
+        serve_lines(alloc, anchor, &mut ends.source, &mut ends.sink)
+    }
+}
