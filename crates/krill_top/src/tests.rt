@@ -87,6 +87,18 @@ fn lines_get_their_replies(rt: HostRuntime) -> Result<(), Fail> {
 }
 
 #[test]
+fn no_input_gets_no_reply(rt: HostRuntime) -> Result<(), Fail> {
+    let alloc = rt.alloc();
+    let sessions = vec![in alloc; session(alloc, "", &[], &[])?]?;
+    let end = run(alloc, "run", sessions)?;
+    assert_eq!(rt; end.status, 0);
+    assert!(rt; end.fault.is_none());
+    assert_eq!(rt; end.sessions.len(), 1);
+    assert!(rt; end.sessions[0].sink.bytes().is_empty());
+    Ok(())
+}
+
+#[test]
 fn more_than_1024_origins_are_refused(rt: HostRuntime) -> Result<(), Fail> {
     let alloc = rt.alloc();
     let mut line = String::from_str(
