@@ -1,11 +1,12 @@
 -- AS numbers, with and without the mark.
-use Rattle.std.proofs.Common.{◌≡◌, ℕ, ◌<◌, ◌≤◌, List, [], ◌∷◌, ◌++◌, length, take, drop, take-append-drop, Option, Some, None, refl, sym, ◌∙◌, arith, inl, inr}
+use Rattle.std.proofs.Common.{◌≡◌, ℕ, ◌^◌, ◌<◌, ◌≤◌, List, [], ◌∷◌, ◌++◌, take, drop, take-append-drop, refl, sym, subst, ◌∙◌, arith, inl, inr, Result, Ok, Err}
 use Rattle.std.proofs.lemmas.Bool.Decides.{nat_tests}
-use Rattle.std.proofs.lemmas.Fmt.{decimal_injective}
 use Rattle.std.specs.Char.{to_ascii_lowercase}
+use Rattle.std.specs.Prelude.{OkIff}
+use Rattle.std.specs.Result.{result_ok}
 use Rattle.ip_text.specs.Reader.{Reads}
-use Rattle.ip_text.specs.Number.{IsDecimalText, IsAsMark, IsAsNumberText}
-use Rattle.ip_text.proofs.Decimals.{front_text}
+use Rattle.ip_text.specs.Number.{IsDecimalText, IsSaturatedText, IsAsMark, FollowsMark, IsBareOrMarked, IsAsNumberText}
+use Rattle.ip_text.proofs.Decimals.{front_text, same_decimals}
 
 -- no digit is a letter
 digit_is_lower : (d : ℕ) → d ≤ 57 → to_ascii_lowercase d ≡ d
@@ -28,37 +29,44 @@ marked (a ∷ []) digits text is e = absurd cc
 marked (a ∷ s ∷ []) digits text is e = rw e (refl, refl)
 marked (a ∷ s ∷ t ∷ rest) digits text is e = absurd cc
 
-pub reads_marked : (text : List ℕ) (r : Option ℕ) → IsAsMark (take 2 text) → Reads (IsDecimalText (drop 2 text)) r → Reads (IsAsNumberText text) r
-reads_marked text (Some n) mark h = inr (take 2 text, drop 2 text, mark, sym (take-append-drop 2 text), h)
-reads_marked text None mark h = λ n is. elim is [
-  | inl bare ↦ bare_has_none text n bare mark
-  | inr (m, ds, is_mark, e, number) ↦ h n (rw (marked m ds text is_mark e).1 number)
-]
+spelled_follows : (text rest : List ℕ) (n : ℕ) → FollowsMark text rest → IsBareOrMarked text n → IsDecimalText rest n
+spelled_follows text rest n (inl (mark, e)) (inl bare) = absurd (bare_has_none text n bare mark)
+spelled_follows text rest n (inr (none, e)) (inl bare) = subst (λ t. IsDecimalText t n) (sym e) bare
+spelled_follows text rest n (inl (mark, e)) (inr (m, ds, is, spelled, number)) =
+    subst (λ t. IsDecimalText t n) (sym (e ∙ (marked m ds text is spelled).1)) number
+spelled_follows text rest n (inr (none, e)) (inr (m, ds, is, spelled, number)) =
+    absurd (none (subst IsAsMark (sym (marked m ds text is spelled).0) is))
 
-pub reads_bare : (text : List ℕ) (r : Option ℕ) → (IsAsMark (take 2 text) → ⊥) → Reads (IsDecimalText text) r → Reads (IsAsNumberText text) r
-reads_bare text (Some n) no_mark h = inl h
-reads_bare text None no_mark h = λ n is. elim is [
-  | inl bare ↦ h n bare
-  | inr (m, ds, is_mark, e, number) ↦ no_mark (rw (marked m ds text is_mark e).0 is_mark)
-]
+-- an AS number is what follows the mark
+pub number_follows : (text rest : List ℕ) (n : ℕ) → FollowsMark text rest → IsAsNumberText text n → IsDecimalText rest n
+number_follows text rest n follows is = spelled_follows text rest n follows is.spelled
 
--- no mark is shorter than two letters
-pub short_has_no_mark : (text : List ℕ) → length text < 2 → IsAsMark (take 2 text) → ⊥
-short_has_no_mark [] h is = cc
-short_has_no_mark (a ∷ []) h is = cc
-short_has_no_mark (a ∷ b ∷ rest) h is = omega arith
+-- and what follows the mark is one, where it fits
+follows_number : (text rest : List ℕ) (n : ℕ) → FollowsMark text rest → n < 2 ^ 32 → IsDecimalText rest n → IsAsNumberText text n
+follows_number text rest n (inl (mark, e)) fits number = record {
+  fits = fits;
+  spelled = inr (take 2 text, drop 2 text, mark, sym (take-append-drop 2 text), subst (λ t. IsDecimalText t n) e number);
+}
+follows_number text rest n (inr (none, e)) fits number = record { fits = fits; spelled = inl (subst (λ t. IsDecimalText t n) e number) }
 
-same_decimals : (text : List ℕ) (m n : ℕ) → IsDecimalText text m → IsDecimalText text n → m ≡ n
-same_decimals text m n a b = decimal_injective m n (omega arith) (omega arith) (sym a.1 ∙ b.1)
+-- what follows the mark is told by 64 bits, and is an AS number where it has 32
+pub reads_as_number : {E : Type 0} (text rest : List ℕ) (told : ℕ) (r : Result ℕ E) → FollowsMark text rest → IsSaturatedText rest told → OkIff r (told < 2 ^ 32) told
+    → Reads (IsAsNumberText text) (result_ok r)
+reads_as_number text rest told (Ok v) follows is small =
+    let same : v ≡ is.number = omega (arith, is.value, small) in
+    follows_number text rest v follows (omega (arith, is.value, small)) (subst (IsDecimalText rest) (sym same) is.written)
+reads_as_number text rest told (Err e) follows is large = λ k number.
+    let same = same_decimals rest is.number k is.written (number_follows text rest k follows number) in
+    large (omega (arith, is.value, same, number.fits))
 
--- a bare number and one behind the mark are no one text
-bare_or_marked : (text mark digits : List ℕ) (n : ℕ) → IsDecimalText text n → IsAsMark mark → text ≡ mark ++ digits → ⊥
-bare_or_marked text mark digits n bare is e = bare_has_none text n bare (rw (marked mark digits text is e).0 is)
+-- no text writes two AS numbers
+same_spelled : (text : List ℕ) (m n : ℕ) → IsBareOrMarked text m → IsBareOrMarked text n → m ≡ n
+same_spelled text m n (inl a) (inl b) = same_decimals text m n a b
+same_spelled text m n (inl a) (inr (k, ds, mark, e, b)) = absurd (bare_has_none text m a (subst IsAsMark (sym (marked k ds text mark e).0) mark))
+same_spelled text m n (inr (k, ds, mark, e, a)) (inl b) = absurd (bare_has_none text n b (subst IsAsMark (sym (marked k ds text mark e).0) mark))
+same_spelled text m n (inr (k, ds, mark, e, a)) (inr (k', ds', mark', e', b)) =
+    let same : ds ≡ ds' = sym (marked k ds text mark e).1 ∙ (marked k' ds' text mark' e').1 in
+    same_decimals ds' m n (subst (λ t. IsDecimalText t m) same a) b
 
 pub same_numbers : (text : List ℕ) (m n : ℕ) → IsAsNumberText text m → IsAsNumberText text n → m ≡ n
-same_numbers text m n (inl a) (inl b) = same_decimals text m n a b
-same_numbers text m n (inl a) (inr (k, ds, mark, e, b)) = absurd (bare_or_marked text k ds m a mark e)
-same_numbers text m n (inr (k, ds, mark, e, a)) (inl b) = absurd (bare_or_marked text k ds n b mark e)
-same_numbers text m n (inr (k, ds, mark, e, a)) (inr (k', ds', mark', e', b)) =
-    let same : ds ≡ ds' = sym (marked k ds text mark e).1 ∙ (marked k' ds' text mark' e').1 in
-    same_decimals ds' m n (a.0, sym same ∙ a.1) b
+same_numbers text m n a b = same_spelled text m n a.spelled b.spelled

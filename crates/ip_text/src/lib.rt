@@ -9,31 +9,39 @@ mod number;
 
 pub use ipv4::{push_ipv4, read_ipv4, reads_ipv4_once};
 pub use ipv6::{push_ipv6, read_ipv6, reads_ipv6_once, reads_own_ipv6_text};
-pub use number::{read_as_number, read_decimal, reads_as_number_once};
+pub use number::{read_as_number, read_saturating, reads_as_number_once};
 
 #[cfg(test)]
 mod tests {
-    use super::{push_ipv4, push_ipv6, read_as_number, read_decimal, read_ipv4, read_ipv6};
+    use super::{push_ipv4, push_ipv6, read_as_number, read_ipv4, read_ipv6, read_saturating};
 
     #[test]
     fn reads_numbers_without_sign_or_leading_zero(rt: HostRuntime) {
-        let texts: [(&[u8], Option<u32>); 7] = [
+        let texts: [(&[u8], Option<u64>); 12] = [
             (b"0", Some(0)),
-            (b"4294967295", Some(4_294_967_295)),
-            (b"4294967296", None),
+            (b"128", Some(128)),
+            (b"4294967296", Some(4_294_967_296)),
+            (b"18446744073709551615", Some(u64::MAX)),
+            (b"18446744073709551616", Some(u64::MAX)),
+            (b"1000000000000000000000000000000000000000", Some(u64::MAX)),
             (b"", None),
+            (b"00", None),
             (b"05", None),
             (b"+5", None),
             (b"5 ", None),
+            (b"0000000000000000000000000000000000000001", None),
         ];
         for (text, number) in texts {
-            assert_eq!(rt; read_decimal(text), number);
+            assert_eq!(rt; read_saturating(text), number);
         }
     }
 
     #[test]
     fn reads_as_numbers_in_any_case(rt: HostRuntime) {
-        let texts: [(&[u8], Option<u32>); 7] = [
+        let texts: [(&[u8], Option<u32>); 10] = [
+            (b"4294967295", Some(u32::MAX)),
+            (b"as4294967296", None),
+            (b"18446744073709551616", None),
             (b"64496", Some(64496)),
             (b"AS64496", Some(64496)),
             (b"as5", Some(5)),

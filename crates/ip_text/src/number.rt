@@ -1,37 +1,45 @@
 // Decimal numbers, and AS numbers with or without `AS` in front.
 ghost use Rattle.std.specs.Prelude.{◌≡◌, ℕ, List};
 ghost use Rattle.ip_text.specs.Reader.{Reads};
-ghost use Rattle.ip_text.specs.Number.{IsDecimalText, IsAsNumberText};
+ghost use Rattle.ip_text.specs.Number.{IsSaturatedText, FollowsMark, IsAsNumberText};
 
-use std::str;
-
-/// The number that the whole text writes in decimal, with no sign and no leading zero, where it
-/// is below 2^32.
-pub fn read_decimal(text: &[u8]) -> Option<u32>
-    ensures { Reads (IsDecimalText text.now) result }
+/// The number that the whole text writes in decimal, with no sign and no leading zero, or
+/// `u64::MAX` where that number is greater.
+pub fn read_saturating(text: &[u8]) -> Option<u64>
+    ensures { Reads (IsSaturatedText text.now) result }
 {
-    let first = *text.first()?;
-    if first == b'+' {
+    if let [] | [b'0', _, ..] = text {
         return None;
     }
-    if first == b'0' && text.len() > 1 {
-        return None;
+    let mut value = 0u64;
+    for byte in text {
+        if !byte.is_ascii_digit() {
+            return None;
+        }
+        value = value
+            .saturating_mul(10)
+            .saturating_add(u64::from(*byte - b'0'));
     }
-    str::from_utf8(text).ok()?.parse().ok()
+    Some(value)
 }
 
-/// The AS number that the whole text writes: a decimal number, with or without `AS` in front, in
-/// any case of its letters.
+// What stands behind `AS`, or the whole text where it doesn't begin so.
+fn after_mark(text: &[u8]) -> &[u8]
+    ensures { FollowsMark text.now result.now }
+{
+    match text.split_at_checked(2) {
+        Some((mark, digits)) if mark.eq_ignore_ascii_case(b"as") => digits,
+        _ => text,
+    }
+}
+
+/// The AS number that the whole text writes: a decimal number below 2^32, with or without `AS` in
+/// front, in any case of its letters.
 pub fn read_as_number(text: &[u8]) -> Option<u32>
     ensures { Reads (IsAsNumberText text.now) result }
 {
-    let Some((mark, number)) = text.split_at_checked(2) else {
-        return read_decimal(text);
-    };
-    if mark.eq_ignore_ascii_case(b"as") {
-        return read_decimal(number);
-    }
-    read_decimal(text)
+    let number = read_saturating(after_mark(text))?;
+    u32::try_from(number).ok()
 }
 
 /// A law, with nothing to run: no text writes two AS numbers.

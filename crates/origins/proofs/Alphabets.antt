@@ -1,7 +1,6 @@
 -- The bytes that the pieces of an origin's text are made of.
-use Rattle.std.proofs.Common.{◌≡◌, ◌≢◌, ℕ, zero, suc, lit<, lit≤, ◌^◌, ◌<◌, ◌≤◌, Bool, true, false, List, [], ◌∷◌, ◌++◌, get_or, decimal, ap, arith, inl, inr}
+use Rattle.std.proofs.Common.{◌≡◌, ◌≢◌, ℕ, zero, suc, lit<, lit≤, ◌^◌, ◌<◌, ◌≤◌, Bool, true, false, List, [], ◌∷◌, ◌++◌, get_or, ap, arith, inl, inr}
 use Rattle.std.proofs.lemmas.Bool.Decides.{nat_tests}
-use Rattle.std.proofs.lemmas.Fmt.{decimal_is_IsNumeral}
 use Rattle.std.proofs.lemmas.List.Elements.{recursion_from_All}
 use Rattle.std.proofs.lemmas.Str.Parse.{digit_from_value}
 use Rattle.std.proofs.NetLemmas.Alphabet.{IsDigitOrDot, All-ipv4_text}
@@ -23,7 +22,7 @@ passes_digits p h (c ∷ cs) all =
     (h c digit.0 digit.1, passes_digits p h cs all.1)
 
 pub passes_decimal : (p : ℕ → Bool) → ((c : ℕ) → 48 ≤ c → c ≤ 57 → p c ≡ true) → (text : List ℕ) (n : ℕ) → IsDecimalText text n → Passes p text
-passes_decimal p h text n is = rw is.1 (passes_digits p h (decimal n) (decimal_is_IsNumeral n (omega arith)).0.1)
+passes_decimal p h text n is = passes_digits p h text is.digits.1
 
 -- a byte of an address
 abbrev pub IsAddressByte : ℕ → Type 0
@@ -93,5 +92,7 @@ mark_stops (a ∷ rest) digits is = let first : to_ascii_lowercase a ≡ 97 = cc
 
 -- an AS number begins with no blank
 pub as_number_stops : (text : List ℕ) (n : ℕ) → IsAsNumberText text n → Stops is_blank text
-as_number_stops text n (inl bare) = decimal_stops text (passes_decimal _ digit_in_word text n bare)
-as_number_stops text n (inr (mark, digits, is, e, number)) = rw e (mark_stops mark digits is)
+as_number_stops text n number = elim number.spelled [
+  | inl bare ↦ decimal_stops text (passes_decimal _ digit_in_word text n bare)
+  | inr (mark, digits, is, e, _) ↦ rw e (mark_stops mark digits is)
+]

@@ -1,9 +1,9 @@
 -- A length, and a maximum after a hyphen or none.
-use Rattle.std.proofs.Common.{◌≡◌, ℕ, Bool, false, List, [], ◌∷◌, ◌++◌, take, drop, Option, Some, None, refl, sym, ap, ◌∙◌, arith, append-nil, append_assoc}
+use Rattle.std.proofs.Common.{◌≡◌, ℕ, Bool, false, List, [], ◌∷◌, ◌++◌, take, drop, Option, Some, None, refl, sym, ap, subst, ◌∙◌, arith, append-nil, append_assoc}
 use Rattle.std.proofs.lemmas.Bool.Decides.{nat_tests}
-use Rattle.std.proofs.lemmas.Fmt.{decimal_injective}
 use Rattle.std.specs.List.{prefix_len}
 use Rattle.ip_text.specs.Number.{IsDecimalText}
+use Rattle.ip_text.proofs.Decimals.{same_decimals}
 use Rattle.origins.specs.Fronts.{is_none_of, Stops}
 use Rattle.origins.specs.Text.{IsLengthsText}
 use Rattle.origins.proofs.FrontLemmas.{front_is, back_is, front_and_back, back_stops}
@@ -40,7 +40,7 @@ pub lengths_join : (text : List ℕ) (len : ℕ) (maximum : Option ℕ) → IsDe
     → IsLengthsText text len maximum
 lengths_join text len None is tail =
     let whole : text ≡ before_hyphen text = front_and_back no_hyphen text ∙ (ap (λ t. before_hyphen text ++ t) tail ∙ append-nil _) in
-    (is.0, whole ∙ is.1)
+    subst (λ t. IsDecimalText t len) (sym whole) is
 lengths_join text len (Some maximum) is (digits, e, number) =
     (before_hyphen text, digits, front_and_back no_hyphen text ∙ (ap (λ t. before_hyphen text ++ t) e ∙ sym (append_assoc (before_hyphen text) (45 ∷ []) digits)), is, number)
 
@@ -60,15 +60,12 @@ ends (c ∷ cs) stop none = absurd (none cs (ap (λ b. b ∷ cs) (stop_is_hyphen
 pub tail_ends : (text : List ℕ) → ((rest : List ℕ) → from_hyphen text ≡ 45 ∷ rest → ⊥) → from_hyphen text ≡ []
 tail_ends text none = ends (from_hyphen text) (back_stops no_hyphen text) none
 
-same_decimals : (text : List ℕ) (m n : ℕ) → IsDecimalText text m → IsDecimalText text n → m ≡ n
-same_decimals text m n a b = decimal_injective m n (omega arith) (omega arith) (sym a.1 ∙ b.1)
-
 same_tails : (text : List ℕ) (m n : Option ℕ) → IsTail text m → IsTail text n → m ≡ n
 same_tails text None None a b = refl
 same_tails text None (Some n) a (ds, e, b) = absurd cc
 same_tails text (Some m) None (ds, e, a) b = absurd cc
 same_tails text (Some m) (Some n) (ds, e, a) (es, f, b) =
-    let same : ds ≡ es = cc in ap Some (same_decimals es m n (a.0, sym same ∙ a.1) b)
+    let same : ds ≡ es = cc in ap Some (same_decimals es m n (subst (λ t. IsDecimalText t m) same a) b)
 
 pub same_lengths : (text : List ℕ) (l l' : ℕ) (m m' : Option ℕ) → IsLengthsText text l m → IsLengthsText text l' m' → (l ≡ l') × (m ≡ m')
 same_lengths text l l' m m' a b =

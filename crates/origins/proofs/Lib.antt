@@ -6,3 +6,4 @@ pub mod Arounds
 pub mod RangeLemmas
 pub mod Printed
 pub mod Same
+pub mod Told

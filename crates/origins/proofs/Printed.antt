@@ -1,5 +1,7 @@
 -- What is printed of an origin is in the grammar.
-use Rattle.std.proofs.Common.{◌≡◌, ℕ, ◌^◌, ◌<◌, ◌≤◌, Bool, true, false, cond, ◌==◌, List, [], ◌∷◌, ◌++◌, Some, None, unwrap_or, decimal, refl, sym, inl, arith, eqb-true, append-nil, append_assoc}
+use Rattle.std.proofs.Common.{◌≡◌, ℕ, ◌^◌, ◌<◌, ◌≤◌, Bool, true, false, cond, ◌==◌, List, [], ◌∷◌, ◌++◌, Some, None, unwrap_or, decimal, refl, sym, subst, inl, arith, eqb-true, append-nil, append_assoc}
+use Rattle.ip_text.specs.Number.{IsDecimalText}
+use Rattle.ip_text.proofs.Decimals.{decimal_text}
 use Rattle.ip_text.proofs.HexGroups.{printed}
 use Rattle.origins.specs.Prefix.{address_bits}
 use Rattle.origins.specs.Text.{Parts, IsAddressText, IsLengthsText, IsOriginText}
@@ -8,8 +10,9 @@ use Rattle.origins.specs.declared.Origin.{Origin}
 
 printed_lengths : (len max : ℕ) (b : Bool) → len < 2 ^ 32 → max < 2 ^ 32
     → IsLengthsText (decimal len ++ cond b [] ((45 ∷ []) ++ decimal max)) len (cond b None (Some max))
-printed_lengths len max true fits fits' = (fits, append-nil (decimal len))
-printed_lengths len max false fits fits' = (decimal len, decimal max, sym (append_assoc (decimal len) (45 ∷ []) (decimal max)), (fits, refl), (fits', refl))
+printed_lengths len max true fits fits' = subst (λ t. IsDecimalText t len) (sym (append-nil (decimal len))) (decimal_text len (omega arith))
+printed_lengths len max false fits fits' =
+    (decimal len, decimal max, sym (append_assoc (decimal len) (45 ∷ []) (decimal max)), decimal_text len (omega arith), decimal_text max (omega arith))
 
 kept_maximum : (len max : ℕ) (b : Bool) → (max == len) ≡ b → unwrap_or (cond b None (Some max)) len ≡ max
 kept_maximum len max true e = sym (eqb-true max len e)
@@ -58,7 +61,7 @@ printed_text o fits =
       };
       before = (inl refl, tt);
       after = (inl refl, tt);
-      asn_is = inl (fits, refl);
+      asn_is = record { fits = fits; spelled = inl (decimal_text o.asn (omega arith)) };
     }
 
 pub spells_own_text : (o : Origin) → o.asn < 2 ^ 32 → SpellsOrigin (origin_text o) o

@@ -1,4 +1,5 @@
 pub mod Prefix
 pub mod Text
+pub mod Told
 pub mod Fronts
 pub mod Origin

@@ -1,5 +1,5 @@
 -- Which origin a text spells, and the one text that is printed of an origin.
-use Rattle.std.specs.Prelude.{◌≡◌, ◌≢◌, ℕ, ◌-◌, ◌%◌, ◌^◌, Bool, true, false, List, [], ◌++◌, unwrap_or, codes, decimal, Result, Ok, Err, ◌==◌, if◌then◌else◌}
+use Rattle.std.specs.Prelude.{◌≡◌, ◌≢◌, ℕ, ◌-◌, ◌%◌, ◌^◌, Bool, true, false, List, [], ◌++◌, Option, unwrap_or, codes, decimal, Result, Ok, Err, ◌==◌, if◌then◌else◌}
 use Rattle.ip_text.specs.Ipv4.{dotted}
 use Rattle.ip_text.specs.Ipv6.{ipv6_text}
 use Rattle.origins.specs.Prefix.{address_bits, IsMaximum}
@@ -46,13 +46,13 @@ ReadsOrigin text (Ok origin) = (parts : Parts) × IsOriginText text parts × Mak
 abbrev pub SpellsOrigin : List ℕ → Origin → Type 0
 SpellsOrigin text origin = ReadsOrigin text (Ok origin)
 
--- what was written, as parts
-abbrev pub parts_of : WrittenPrefix → ℕ → Parts
-parts_of prefix asn = record {
+-- what was written, as parts with this maximum
+abbrev pub parts_of : WrittenPrefix → ℕ → Option ℕ → Parts
+parts_of prefix asn maximum = record {
   v6 = prefix.v6;
   address = prefix.address;
   len = prefix.length;
-  maximum = prefix.maximum;
+  maximum = maximum;
   asn = asn;
 }
 

@@ -27,7 +27,7 @@ IsLengthsText text len (Some maximum) = (length_text maximum_text : List ℕ)
     × IsDecimalText length_text len × IsDecimalText maximum_text maximum
 
 -- An address, and the lengths after a slash. The length is at most that of an address; a maximum
--- is any number below 2^32.
+-- is any number.
 pub record IsPrefixText (text : List ℕ) (v6 : Bool) (address len : ℕ) (maximum : Option ℕ) : Type 0 where
   pub address_text : List ℕ
   pub lengths_text : List ℕ

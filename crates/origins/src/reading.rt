@@ -1,8 +1,9 @@
 // From texts to origins.
-ghost use Rattle.std.specs.Prelude.{◌≡◌, ◌≢◌, ◌-◌, ◌%◌, ◌^◌, ◌<◌, ◌≤◌, ◌↔◌, ℕ, List, IsTrue, MatchOption, unwrap_or};
+ghost use Rattle.std.specs.Prelude.{◌≡◌, ◌≢◌, ◌-◌, ◌%◌, ◌^◌, ◌<◌, ◌≤◌, ◌↔◌, ℕ, List, Option, IsTrue, MatchOption, unwrap_or};
 ghost use Rattle.origins.specs.Prefix.{IsPrefix, IsMaximum};
 ghost use Rattle.origins.specs.Prefix as bits;
 ghost use Rattle.origins.specs.Text.{IsPrefixText, IsOriginText, Parts};
+ghost use Rattle.origins.specs.Told.{IsTold};
 ghost use Rattle.origins.specs.Fronts.{IsAround};
 ghost use Rattle.origins.specs.declared.Origin.{Origin};
 ghost use Rattle.origins.specs.Origin.{ReadsOrigin, MakesOrigin, SpellsOrigin, parts_of};
@@ -41,7 +42,8 @@ fn split_arrow(text: &[u8]) -> Option<(&[u8], &[u8])>
 fn read_parts(text: &[u8]) -> Option<(WrittenPrefix, u32)>
     ensures { MatchOption result
         ((parts : Parts) → ¬ (IsOriginText text.now parts))
-        (λ found. IsOriginText text.now (parts_of found.0 found.1)) }
+        (λ found. (maximum : Option ℕ) × IsTold found.0.maximum maximum
+        × IsOriginText text.now (parts_of found.0 found.1 maximum)) }
 {
     let (prefix, asn) = split_arrow(text)?;
     Some((read_prefix(prefix)?, read_as_number(asn)?))
@@ -63,13 +65,13 @@ fn has_host_bits(prefix: &WrittenPrefix) -> bool
 fn make_origin(prefix: WrittenPrefix, asn: u32) -> Result<Origin, OriginFault>
     requires short { prefix.length ≤ bits.address_bits prefix.v6 }
     requires fits { prefix.address < 2 ^ bits.address_bits prefix.v6 }
-    ensures { MakesOrigin (parts_of prefix asn) result }
+    ensures { MakesOrigin (parts_of prefix asn prefix.maximum) result }
 {
     if has_host_bits(&prefix) {
         return Err(OriginFault::HostBits);
     }
-    let max = prefix.maximum.unwrap_or(u32::from(prefix.length));
-    if max < u32::from(prefix.length) || max > u32::from(address_bits(prefix.v6)) {
+    let max = prefix.maximum.unwrap_or(u64::from(prefix.length));
+    if max < u64::from(prefix.length) || max > u64::from(address_bits(prefix.v6)) {
         return Err(OriginFault::MaxLength);
     }
     let WrittenPrefix {

@@ -27,13 +27,25 @@ fn reads_texts_as_their_printed_form(rt: HostRuntime) {
 fn refuses_texts_by_the_first_cause(rt: HostRuntime) {
     let texts = [
         ("10.0.0.0/33 => 1", OriginFault::BadOrigin),
+        ("10.0.0.0/4294967296 => 1", OriginFault::BadOrigin),
+        (
+            "10.0.0.0/1000000000000000000000000000000000000000 => 1",
+            OriginFault::BadOrigin,
+        ),
         ("10.0.0.0/016 => 1", OriginFault::BadOrigin),
+        ("10.0.0.0/04294967296 => 1", OriginFault::BadOrigin),
+        ("10.0.0.0/16-04294967296 => 1", OriginFault::BadOrigin),
+        ("10.0.0.0/16- => 1", OriginFault::BadOrigin),
         ("10.0.0.256/32 => 1", OriginFault::BadOrigin),
         ("10.0.0.0/16 -24 => 1", OriginFault::BadOrigin),
         (" 10.0.0.0/16 => 1", OriginFault::BadOrigin),
         ("10.0.0.0/16 => 1 ", OriginFault::BadOrigin),
         ("10.0.0.0/16 = > 1", OriginFault::BadOrigin),
         ("10.0.0.0/16 => 4294967296", OriginFault::BadOrigin),
+        (
+            "10.0.0.0/16 => AS1000000000000000000000000000000000000000",
+            OriginFault::BadOrigin,
+        ),
         ("2001:db8::/129 => 1", OriginFault::BadOrigin),
         ("::ffff:10.0.0.0/104 => 1", OriginFault::BadOrigin),
         ("", OriginFault::BadOrigin),
@@ -43,6 +55,19 @@ fn refuses_texts_by_the_first_cause(rt: HostRuntime) {
         ("::/0-129 => 1", OriginFault::MaxLength),
         ("10.0.0.0/16-15 => 1", OriginFault::MaxLength),
         ("10.0.0.0/16-33 => 1", OriginFault::MaxLength),
+        ("10.0.0.0/16-4294967296 => 1", OriginFault::MaxLength),
+        (
+            "10.0.0.0/16-18446744073709551632 => 1",
+            OriginFault::MaxLength,
+        ),
+        (
+            "10.0.0.0/16-1000000000000000000000000000000000000000 => 1",
+            OriginFault::MaxLength,
+        ),
+        (
+            "10.0.0.1/16-1000000000000000000000000000000000000000 => 1",
+            OriginFault::HostBits,
+        ),
     ];
     for (text, fault) in texts {
         assert_eq!(rt; read_origin(text), Err(fault), "{text}");

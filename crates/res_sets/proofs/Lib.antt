@@ -10,3 +10,4 @@ pub mod Plain
 pub mod Prints
 pub mod ReadBack
 pub mod Spelled
+pub mod Told

@@ -1,21 +1,23 @@
 -- No text is read in two ways.
-use Rattle.std.proofs.Common.{◌≡◌, ℕ, ◌-◌, ◌%◌, ◌^◌, ◌≤◌, Bool, true, false, List, [], ◌∷◌, zero, suc, Ok, Err, refl, ap, sym, subst, ◌∙◌, arith}
+use Rattle.std.proofs.Common.{◌≡◌, ◌≢◌, ℕ, ◌-◌, ◌%◌, ◌^◌, ◌≤◌, Bool, true, false, List, [], ◌∷◌, zero, suc, Ok, Err, refl, ap, sym, subst, ◌∙◌, arith}
 use Rattle.std.specs.Bool.{MatchBool}
 use Rattle.std.specs.List.{list_any, before_first, after_first}
-use Rattle.std.proofs.lemmas.Fmt.{decimal_injective}
 use Rattle.ip_text.specs.Number.{IsDecimalText, IsAsNumberText}
 use Rattle.ip_text.specs.Ipv4.{IsIpv4Text}
+use Rattle.ip_text.proofs.Decimals.{same_decimals}
 use Rattle.ip_text.specs.Ipv6.{IsIpv6Text}
 use Rattle.res_sets.specs.declared.numbers.Family.{Family}
 use Rattle.res_sets.specs.declared.numbers.Family.TheVariants.{Asn, V4, V6}
 use Rattle.res_sets.specs.declared.numbers.Range.{Range}
 use Rattle.res_sets.specs.declared.prefixes.BlockFault.{BlockFault}
 use Rattle.res_sets.specs.declared.prefixes.BlockFault.TheVariants.{BadNumber, BadRange, HostBits}
+use Rattle.res_sets.specs.declared.texts.TextFault.{TextFault}
+use Rattle.res_sets.specs.declared.texts.TextFault.TheVariants as text_fault
 use Rattle.res_sets.specs.Numbers.{any_spans, AreCanonical}
 use Rattle.res_sets.specs.Sets.{RangeSet}
 use Rattle.res_sets.specs.Blocks.{is_hyphen, is_slash, without_leading, without_trailing, blocks}
 use Rattle.res_sets.specs.Prefixes.{ReadsPrefix}
-use Rattle.res_sets.specs.Texts.{Writes, ReadsNumber, ReadsEnds, ReadsAddress, ReadsOne, ReadsBlock, AllRead, Spells, IsFirstFault}
+use Rattle.res_sets.specs.Texts.{Writes, ReadsNumber, ReadsEnds, ReadsAddress, ReadsOne, ReadsBlock, AllRead, Spells, IsFirstFault, HasFault, fault_at}
 use Rattle.res_sets.proofs.Canonical.{same_range, same_sets}
 
 -- what is known of the texts of numbers and addresses
@@ -28,9 +30,6 @@ writes_once : NumbersOnce → (family : Family) (text : List ℕ) (m n : ℕ) �
 writes_once once Asn = once.asn
 writes_once once V4 = once.v4
 writes_once once V6 = once.v6
-
-decimals_once : (text : List ℕ) (m n : ℕ) → IsDecimalText text m → IsDecimalText text n → m ≡ n
-decimals_once text m n a b = decimal_injective m n (omega (arith, a.0)) (omega (arith, b.0)) (sym a.1 ∙ b.1)
 
 abbrev Once : (ℕ → Type 0) → Type 0
 Once P = (m n : ℕ) → P m → P n → m ≡ n
@@ -78,9 +77,9 @@ either_once : (P Q : Range → Type 0) (b : Bool) (r s : Range) → (P r → P s
 either_once P Q true r s f g = f
 either_once P Q false r s f g = g
 
-either_no_fault : (P Q R S : Type 0) (b : Bool) → (P → R → ⊥) → (Q → S → ⊥) → MatchBool b P Q → MatchBool b R S → ⊥
-either_no_fault P Q R S true f g = f
-either_no_fault P Q R S false f g = g
+from_either : (P Q R S T : Type 0) (b : Bool) → (P → R → T) → (Q → S → T) → MatchBool b P Q → MatchBool b R S → T
+from_either P Q R S T true f g = f
+from_either P Q R S T false f g = g
 
 address_once : NumbersOnce → (bits : ℕ) (family : Family) (block : List ℕ) (r s : Range) → ReadsAddress bits family block (Ok r) → ReadsAddress bits family block (Ok s) → r ≡ s
 address_once once bits family block r s =
@@ -88,7 +87,7 @@ address_once once bits family block r s =
     let After : ℕ → Type 0 = IsDecimalText (after_first is_slash block) in
     let Whole : ℕ → Type 0 = Writes family block in
     either_once (λ x. ReadsPrefix bits Before After (Ok x)) (λ x. ReadsNumber Whole (Ok x)) (list_any is_slash block) r s
-    (prefix_once bits Before After r s (writes_once once family (before_first is_slash block)) (decimals_once (after_first is_slash block)))
+    (prefix_once bits Before After r s (writes_once once family (before_first is_slash block)) (same_decimals (after_first is_slash block)))
     (number_once Whole r s (writes_once once family block))
 
 one_once : NumbersOnce → (family : Family) (block : List ℕ) (r s : Range) → ReadsOne family block (Ok r) → ReadsOne family block (Ok s) → r ≡ s
@@ -109,8 +108,8 @@ address_no_fault once bits family block r fault =
     let Before : ℕ → Type 0 = Writes family (before_first is_slash block) in
     let After : ℕ → Type 0 = IsDecimalText (after_first is_slash block) in
     let Whole : ℕ → Type 0 = Writes family block in
-    either_no_fault (ReadsPrefix bits Before After (Ok r)) (ReadsNumber Whole (Ok r)) (ReadsPrefix bits Before After (Err fault)) (ReadsNumber Whole (Err fault)) (list_any is_slash block)
-    (prefix_no_fault bits Before After r fault (writes_once once family (before_first is_slash block)) (decimals_once (after_first is_slash block)))
+    from_either (ReadsPrefix bits Before After (Ok r)) (ReadsNumber Whole (Ok r)) (ReadsPrefix bits Before After (Err fault)) (ReadsNumber Whole (Err fault)) ⊥ (list_any is_slash block)
+    (prefix_no_fault bits Before After r fault (writes_once once family (before_first is_slash block)) (same_decimals (after_first is_slash block)))
     (number_no_fault Whole r fault)
 
 one_no_fault : NumbersOnce → (family : Family) (block : List ℕ) (r : Range) (fault : BlockFault) → ReadsOne family block (Ok r) → ReadsOne family block (Err fault) → ⊥
@@ -122,7 +121,7 @@ block_no_fault : NumbersOnce → (family : Family) (block : List ℕ) (r : Range
 block_no_fault once family block r fault =
     let First : ℕ → Type 0 = Writes family (without_trailing (before_first is_hyphen block)) in
     let Last : ℕ → Type 0 = Writes family (without_leading (after_first is_hyphen block)) in
-    either_no_fault (ReadsEnds First Last (Ok r)) (ReadsOne family block (Ok r)) (ReadsEnds First Last (Err fault)) (ReadsOne family block (Err fault)) (list_any is_hyphen block)
+    from_either (ReadsEnds First Last (Ok r)) (ReadsOne family block (Ok r)) (ReadsEnds First Last (Err fault)) (ReadsOne family block (Err fault)) ⊥ (list_any is_hyphen block)
     (ends_no_fault First Last r fault (writes_once once family (without_trailing (before_first is_hyphen block))) (writes_once once family (without_leading (after_first is_hyphen block))))
     (one_no_fault once family block r fault)
 
@@ -153,3 +152,79 @@ spells_once once family text a b spells_a spells_b =
 
 pub spells_no_fault : NumbersOnce → (family : Family) (text : List ℕ) (set : RangeSet) (at : ℕ) (fault : BlockFault) → Spells family text set → IsFirstFault family (blocks text) at fault → ⊥
 spells_no_fault once family text set at fault spells = all_no_fault once family (blocks text) spells.ranges.members.0 at fault spells.ranges.members.1.0
+
+-- no text has two faults
+
+number_one_fault : (P : ℕ → Type 0) (f g : BlockFault) → ReadsNumber P (Err f) → ReadsNumber P (Err g) → f ≡ g
+number_one_fault P BadNumber BadNumber a b = refl
+number_one_fault P BadNumber BadRange a b = absurd b
+number_one_fault P BadNumber HostBits a b = absurd b
+number_one_fault P BadRange g a b = absurd a
+number_one_fault P HostBits g a b = absurd a
+
+ends_one_fault : (P Q : ℕ → Type 0) (f g : BlockFault) → ReadsEnds P Q (Err f) → ReadsEnds P Q (Err g) → f ≡ g
+ends_one_fault P Q BadNumber BadNumber a b = refl
+ends_one_fault P Q BadNumber BadRange a (m, (n, (first, last, less))) = absurd (a m n first last)
+ends_one_fault P Q BadNumber HostBits a b = absurd b
+ends_one_fault P Q BadRange BadNumber (m, (n, (first, last, less))) b = absurd (b m n first last)
+ends_one_fault P Q BadRange BadRange a b = refl
+ends_one_fault P Q BadRange HostBits a b = absurd b
+ends_one_fault P Q HostBits g a b = absurd a
+
+prefix_one_fault : (bits : ℕ) (P Q : ℕ → Type 0) (f g : BlockFault) → Once Q → ReadsPrefix bits P Q (Err f) → ReadsPrefix bits P Q (Err g) → f ≡ g
+prefix_one_fault bits P Q BadNumber BadNumber once a b = refl
+prefix_one_fault bits P Q BadNumber BadRange once a (m, (len, (address, length, _))) = absurd (a m len address length)
+prefix_one_fault bits P Q BadNumber HostBits once a (m, (len, (address, length, _, _))) = absurd (a m len address length)
+prefix_one_fault bits P Q BadRange BadNumber once (m, (len, (address, length, _))) b = absurd (b m len address length)
+prefix_one_fault bits P Q BadRange BadRange once a b = refl
+prefix_one_fault bits P Q BadRange HostBits once (m, (len, (_, length, long))) (n, (l, (_, other, short, _))) =
+    absurd (omega (arith, once len l length other, long, short))
+prefix_one_fault bits P Q HostBits BadNumber once (m, (len, (address, length, _, _))) b = absurd (b m len address length)
+prefix_one_fault bits P Q HostBits BadRange once (n, (l, (_, other, short, _))) (m, (len, (_, length, long))) =
+    absurd (omega (arith, once len l length other, long, short))
+prefix_one_fault bits P Q HostBits HostBits once a b = refl
+
+address_one_fault : (bits : ℕ) (family : Family) (block : List ℕ) (f g : BlockFault) → ReadsAddress bits family block (Err f) → ReadsAddress bits family block (Err g) → f ≡ g
+address_one_fault bits family block f g =
+    let Before : ℕ → Type 0 = Writes family (before_first is_slash block) in
+    let After : ℕ → Type 0 = IsDecimalText (after_first is_slash block) in
+    let Whole : ℕ → Type 0 = Writes family block in
+    from_either (ReadsPrefix bits Before After (Err f)) (ReadsNumber Whole (Err f)) (ReadsPrefix bits Before After (Err g)) (ReadsNumber Whole (Err g)) (f ≡ g) (list_any is_slash block)
+    (prefix_one_fault bits Before After f g (same_decimals (after_first is_slash block)))
+    (number_one_fault Whole f g)
+
+one_one_fault : (family : Family) (block : List ℕ) (f g : BlockFault) → ReadsOne family block (Err f) → ReadsOne family block (Err g) → f ≡ g
+one_one_fault Asn block f g = number_one_fault (Writes Asn block) f g
+one_one_fault V4 block f g = address_one_fault 32 V4 block f g
+one_one_fault V6 block f g = address_one_fault 128 V6 block f g
+
+block_one_fault : (family : Family) (block : List ℕ) (f g : BlockFault) → ReadsBlock family block (Err f) → ReadsBlock family block (Err g) → f ≡ g
+block_one_fault family block f g =
+    let First : ℕ → Type 0 = Writes family (without_trailing (before_first is_hyphen block)) in
+    let Last : ℕ → Type 0 = Writes family (without_leading (after_first is_hyphen block)) in
+    from_either (ReadsEnds First Last (Err f)) (ReadsOne family block (Err f)) (ReadsEnds First Last (Err g)) (ReadsOne family block (Err g)) (f ≡ g) (list_any is_hyphen block)
+    (ends_one_fault First Last f g)
+    (one_one_fault family block f g)
+
+first_fault_once : NumbersOnce → (family : Family) (bs : List (List ℕ)) (at at' : ℕ) (f g : BlockFault) → IsFirstFault family bs at f → IsFirstFault family bs at' g → (at ≡ at') × (f ≡ g)
+first_fault_once once family [] at at' f g a b = absurd a
+first_fault_once once family (block ∷ bs) zero zero f g a b = (refl, block_one_fault family block f g a b)
+first_fault_once once family (block ∷ bs) zero (suc at') f g a b = absurd (block_no_fault once family block b.0.0 f b.0.1 a)
+first_fault_once once family (block ∷ bs) (suc at) zero f g a b = absurd (block_no_fault once family block a.0.0 g a.0.1 b)
+first_fault_once once family (block ∷ bs) (suc at) (suc at') f g a b =
+    let rest = first_fault_once once family bs at at' f g a.1 b.1 in (ap suc rest.0, rest.1)
+
+-- what a fault says of the text's blocks
+fault_says : (family : Family) (text : List ℕ) (e : TextFault) → HasFault family text e → e ≢ text_fault.Memory
+    → (at : ℕ) × ((fault : BlockFault) × ((e ≡ fault_at fault at) × IsFirstFault family (blocks text) at fault))
+fault_says family text (text_fault.BadNumber at) has other = (at, (BadNumber, (refl, has)))
+fault_says family text (text_fault.BadRange at) has other = (at, (BadRange, (refl, has)))
+fault_says family text (text_fault.HostBits at) has other = (at, (HostBits, (refl, has)))
+fault_says family text text_fault.Memory has other = absurd (other refl)
+
+pub one_fault : NumbersOnce → (family : Family) (text : List ℕ) (a b : TextFault) → HasFault family text a → HasFault family text b → a ≢ text_fault.Memory → b ≢ text_fault.Memory → a ≡ b
+one_fault once family text a b has_a has_b other_a other_b =
+    let says_a = fault_says family text a has_a other_a in
+    let says_b = fault_says family text b has_b other_b in
+    let same = first_fault_once once family (blocks text) says_a.0 says_b.0 says_a.1.0 says_b.1.0 says_a.1.1.1 says_b.1.1.1 in
+    says_a.1.1.0 ∙ (ap (λ k. fault_at says_a.1.0 k) same.0 ∙ (ap (λ f. fault_at f says_b.0) same.1 ∙ sym says_b.1.1.0))

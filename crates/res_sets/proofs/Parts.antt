@@ -165,4 +165,4 @@ HasFault-from family text rest block more at read (text_fault.BadRange place) so
 HasFault-from family text rest block more at read (text_fault.HostBits place) some is fault so_far =
     let first = first_faulty family text rest block more at read HostBits is fault.1 so_far in
     subst (λ (x : ℕ). IsFirstFault family (blocks text) x HostBits) (sym fault.0) (subst (λ (x : List (List ℕ)). IsFirstFault family x at HostBits) (sym (blocks_are_left text some)) first)
-HasFault-from family text rest block more at read (text_fault.Memory m) some is fault so_far = tt
+HasFault-from family text rest block more at read text_fault.Memory some is fault so_far = tt

@@ -9,6 +9,7 @@ use Rattle.std.proofs.lemmas.List.{reverse-append, reverse-reverse}
 use Rattle.std.proofs.lemmas.List.Folds.{list_any-append}
 use Rattle.ip_text.specs.Number.{IsDecimalText}
 use Rattle.ip_text.specs.Ipv6.{IsIpv6Text, ipv6_text}
+use Rattle.ip_text.proofs.Decimals.{decimal_text}
 use Rattle.res_sets.specs.declared.numbers.Family.{Family}
 use Rattle.res_sets.specs.declared.numbers.Family.TheVariants.{Asn, V4, V6}
 use Rattle.res_sets.specs.declared.numbers.Range.{Range}
@@ -106,7 +107,7 @@ abbrev Own : Type 0
 Own = (a : ℕ) → a < 2 ^ 128 → IsIpv6Text (ipv6_text a) a
 
 writes_own : Own → (family : Family) (n : ℕ) → n < family_end family → Writes family (number_text family n) n
-writes_own own Asn n fits = inr (codes "AS", decimal n, refl, refl, (fits, refl))
+writes_own own Asn n fits = record { fits = fits; spelled = inr (codes "AS", decimal n, refl, refl, decimal_text n (omega (arith, fits))) }
 writes_own own V4 n fits = (fits, refl)
 writes_own own V6 n fits = own n fits
 
@@ -173,7 +174,7 @@ prefix_back own bits len family range block small fits prefix to_one is =
           (chosen_false (list_any is_hyphen (a ++ 47 ∷ b)) _ _ (Lacks-append is_hyphen a (47 ∷ b) (no_hyphen a first.plain) (no_hyphen b plain))
           (to_one (a ++ 47 ∷ b) (chosen_true (list_any is_slash (a ++ 47 ∷ b)) _ _ split.found (
             subst (λ (t : List ℕ). Writes family t range.first) (sym split.before_is) (writes_own own family range.first (omega (arith, fits))),
-            (len, (subst (λ (t : List ℕ). IsDecimalText t len) (sym split.after_is) (omega (arith, short), refl), prefix)),
+            (len, (subst (λ (t : List ℕ). IsDecimalText t len) (sym split.after_is) (decimal_text len (omega (arith, short))), prefix)),
           ))));
     }
 

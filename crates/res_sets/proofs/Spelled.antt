@@ -1,5 +1,5 @@
 -- What texts spell is of the family.
-use Rattle.std.proofs.Common.{◌≡◌, ℕ, ◌-◌, ◌^◌, ◌<◌, Bool, true, false, List, [], ◌∷◌, inl, inr, Ok, refl, sym, subst, ◌∙◌, arith}
+use Rattle.std.proofs.Common.{◌≡◌, ℕ, ◌-◌, ◌^◌, ◌<◌, Bool, true, false, List, [], ◌∷◌, Ok, refl, sym, subst, ◌∙◌, arith}
 use Rattle.std.specs.Bool.{MatchBool}
 use Rattle.std.specs.List.{list_any, before_first, after_first}
 use Rattle.std.proofs.lemmas.Bool.{false≢true}
@@ -15,8 +15,7 @@ use Rattle.res_sets.specs.Texts.{Writes, ReadsNumber, ReadsEnds, ReadsAddress, R
 use Rattle.res_sets.proofs.Masks.{room_above}
 
 pub Writes-below : (family : Family) (text : List ℕ) (n : ℕ) → Writes family text n → n < family_end family
-Writes-below Asn text n (inl bare) = bare.0
-Writes-below Asn text n (inr (mark, digits, is_mark, spelled, number)) = number.0
+Writes-below Asn text n written = written.fits
 Writes-below V4 text n written = written.0
 Writes-below V6 text n written = written.fits
 

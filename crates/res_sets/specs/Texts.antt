@@ -87,7 +87,7 @@ abbrev pub HasFault : Family → List ℕ → TextFault → Type 0
 HasFault family bytes (text.BadNumber at) = IsFirstFault family (blocks bytes) at BadNumber
 HasFault family bytes (text.BadRange at) = IsFirstFault family (blocks bytes) at BadRange
 HasFault family bytes (text.HostBits at) = IsFirstFault family (blocks bytes) at HostBits
-HasFault family bytes (text.Memory e) = ⊤
+HasFault family bytes text.Memory = ⊤
 
 -- the fault of a block, with the block's place
 abbrev pub fault_at : BlockFault → ℕ → TextFault
@@ -104,4 +104,4 @@ abbrev pub BlockHasFault : Family → List ℕ → ℕ → TextFault → Type 0
 BlockHasFault family block place (text.BadNumber at) = (at ≡ place) × ReadsBlock family block (Err BadNumber)
 BlockHasFault family block place (text.BadRange at) = (at ≡ place) × ReadsBlock family block (Err BadRange)
 BlockHasFault family block place (text.HostBits at) = (at ≡ place) × ReadsBlock family block (Err HostBits)
-BlockHasFault family block place (text.Memory e) = ⊤
+BlockHasFault family block place text.Memory = ⊤

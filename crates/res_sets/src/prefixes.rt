@@ -26,15 +26,15 @@ fn ones(bits: u32) -> u128
 }
 
 // The addresses, of so many bits, that begin as the address does.
-pub fn prefix_range(bits: u32, address: u128, length: u32) -> Result<Range, BlockFault>
+pub fn prefix_range(bits: u32, address: u128, length: u64) -> Result<Range, BlockFault>
     requires short { bits ≤ 128 }
     requires fits { address < 2 ^ bits }
     ensures { ReadsPrefix bits (λ m. m ≡ address) (λ len. len ≡ length) result }
 {
-    if length > bits {
+    if length > u64::from(bits) {
         return Err(BlockFault::BadRange);
     }
-    let host = ones(bits - length);
+    let host = ones(bits - length as u32);
     if address & host != 0 {
         return Err(BlockFault::HostBits);
     }

@@ -1,11 +1,13 @@
 //! Texts of sets: blocks separated by commas.
 
-ghost use Rattle.std.specs.Prelude.{◌≡◌, ℕ, ◌^◌, ◌<◌, ◌≤◌, List, IfOk, OnOk, IfErr};
+ghost use Rattle.std.specs.Prelude.{◌≡◌, ◌≢◌, ℕ, ◌^◌, ◌<◌, ◌≤◌, List, IfOk, OnOk, IfErr};
 ghost use Rattle.ip_text.specs.Reader.{Reads};
 ghost use Rattle.ip_text.specs.Number.{IsDecimalText};
 ghost use Rattle.res_sets.specs.Numbers.{family_end, any_spans};
 ghost use Rattle.res_sets.specs.declared.numbers.Family.{Family};
 ghost use Rattle.res_sets.specs.declared.prefixes.BlockFault.{BlockFault};
+ghost use Rattle.res_sets.specs.declared.texts.TextFault.{TextFault};
+ghost use Rattle.res_sets.specs.declared.texts.TextFault.TheVariants.{Memory};
 ghost use Rattle.res_sets.specs.Sets.{RangeSet};
 ghost use Rattle.res_sets.specs.Blocks.{blocks};
 ghost use Rattle.res_sets.specs.Prefixes.{ReadsPrefix};
@@ -15,14 +17,14 @@ use crate::numbers::{Family, Range};
 use crate::prefixes::{BlockFault, prefix_range};
 use crate::{bytes, merging};
 use ip_text::{
-    read_as_number, read_decimal, read_ipv4, read_ipv6, reads_as_number_once, reads_ipv4_once,
+    read_as_number, read_ipv4, read_ipv6, read_saturating, reads_as_number_once, reads_ipv4_once,
     reads_ipv6_once,
 };
-use std::alloc::{AllocError, Global};
+use std::alloc::{AllocError, AllocFailed, Global};
 use thiserror::Error;
 
 /// Why a text spells no set. The first faulty block is named, counted from 0.
-#[derive(Debug, Drop, Error)]
+#[derive(Clone, Copy, Debug, PartialEq, Eq, Error)]
 pub enum TextFault {
     /// The block is no number, address or prefix, nor two numbers or addresses.
     #[error("block {at} is no number, address, prefix or range")]
@@ -33,8 +35,24 @@ pub enum TextFault {
     /// The address has a bit set behind the prefix's length.
     #[error("block {at} has an address with host bits")]
     HostBits { at: u64 },
-    #[error(transparent)]
-    Memory(#[from(alloc)] AllocError),
+    #[error("out of memory")]
+    Memory,
+}
+
+impl From<AllocError> for TextFault {
+    ghost from_gives = { λ _ fault. fault ≡ Memory };
+
+    fn from(_: AllocError) -> Self {
+        TextFault::Memory
+    }
+}
+
+impl<T: Drop> From<AllocFailed<T>> for TextFault {
+    ghost from_gives = { λ _ fault. fault ≡ Memory };
+
+    fn from(_: AllocFailed<T>) -> Self {
+        TextFault::Memory
+    }
 }
 
 // The fault of the block at that place.
@@ -81,7 +99,7 @@ fn read_prefix(
     ensures { ReadsPrefix bits (Writes family address.now) (IsDecimalText length.now) result }
 {
     let address = read_number(family, address).ok_or(BlockFault::BadNumber)?;
-    let length = read_decimal(length).ok_or(BlockFault::BadNumber)?;
+    let length = read_saturating(length).ok_or(BlockFault::BadNumber)?;
     prefix_range(bits, address, length)
 }
 
@@ -139,9 +157,7 @@ fn push_block(
         Ok(range) => range,
         Err(fault) => return Err(in_block(fault, at)),
     };
-    ranges
-        .push(range)
-        .map_err(|_| TextFault::Memory(AllocError))?;
+    ranges.push(range)?;
     Ok(())
 }
 
@@ -170,17 +186,18 @@ pub fn read_ranges(alloc: Global, family: Family, text: &[u8]) -> Result<Vec<Ran
     ensures fault { IfErr result (HasFault family text.now) }
 {
     let ranges = read_blocks(alloc, family, text)?;
-    let joined = merging::join_all(alloc, ranges).map_err(TextFault::Memory)?;
-    Ok(joined)
+    Ok(merging::join_all(alloc, ranges)?)
 }
 
-/// A law, with nothing to run: no text spells two sets of a family, and one that spells a set has no
-/// faulty block.
+/// A law, with nothing to run: no text spells two sets of a family, one that spells a set has no
+/// faulty block, and none has two faults but for want of memory.
 pub fn reads_texts_once()
     ensures one { (family : Family) (text : List ℕ) (a b : RangeSet) → Spells family text a
         → Spells family text b → a ≡ b }
     ensures no_fault { (family : Family) (text : List ℕ) (set : RangeSet) (at : ℕ) (fault : BlockFault)
         → Spells family text set → ¬ IsFirstFault family (blocks text) at fault }
+    ensures one_fault { (family : Family) (text : List ℕ) (a b : TextFault) → HasFault family text a
+        → HasFault family text b → a ≢ Memory → b ≢ Memory → a ≡ b }
 {
     reads_as_number_once();
     reads_ipv4_once();

@@ -5,7 +5,7 @@ use Rattle.res_sets.proofs.prefixes.prefix_range.Goals as goal
 
 pub returns-then-address-host-ne0 : goal.returns-then-address-host-ne0
 returns-then-address-host-ne0 c =
-    (c.args.address, (c.args.length, (refl, refl, c.if-length-bits.false, λ none. c.if-address-host-ne0.true (masked c.args.address c.ones-host.result (c.args.bits - c.args.length) c.ones-host.ensures ∙ none))))
+    (c.args.address, (c.args.length, (refl, refl, (omega (arith, c.if-length-from.false, c.from.ensures)), λ none. c.if-address-host-ne0.true (masked c.args.address c.ones-host.result (c.args.bits - c.args.length) c.ones-host.ensures ∙ none))))
 
 pub overflow_add-result : goal.overflow_add-result
 overflow_add-result c =
@@ -16,4 +16,4 @@ overflow_add-result c =
 
 pub returns : goal.returns
 returns c =
-    (refl, (c.args.length, (refl, IsPrefixRange-from c.args.bits c.args.length c.args.address c.ones-host.result _ refl refl c.if-length-bits.false c.ones-host.ensures c.if-address-host-ne0.false)))
+    (refl, (c.args.length, (refl, IsPrefixRange-from c.args.bits c.args.length c.args.address c.ones-host.result _ refl refl (omega (arith, c.if-length-from.false, c.from.ensures)) c.ones-host.ensures c.if-address-host-ne0.false)))
