@@ -1,6 +1,6 @@
 //! The configuration of an authority.
 
-ghost use Rattle.std.specs.Prelude.{◌≡◌, ◌≤◌, ◌<◌, ◌^◌, ◌-◌, ◌+◌, ◌++◌, ◌∷◌, [], ℕ, List, length, OnOk, OnErr, IsOk};
+ghost use Rattle.std.specs.Prelude.{◌≡◌, ◌≤◌, ◌<◌, ◌^◌, ◌-◌, ◌+◌, ◌++◌, ◌∷◌, [], ℕ, List, length, IfOk, OnOk, OnErr, IsOk};
 ghost use Rattle.std.specs.Vec.{vec_capacity, vec_len};
 ghost use Rattle.authority_book.specs.Origins.{is_there, IsAscending, IsSortedFrom};
 ghost use Rattle.authority_book.specs.Settings.{ConfigValue};
@@ -36,15 +36,15 @@ impl Config {
     ghost use Rattle.authority_book.specs.Fold.{empty_settings, after, added_by, IsFoldOf, Taken};
 
     /// The configuration of a desk before its first command.
-    pub fn new(alloc: Global, desk: u32) -> Config
-        ensures empty { result ≡ record { settings = empty_settings desk; room = 0 } }
-        ensures fold { IsFoldOf result.settings desk [] }
+    pub fn new(alloc: Global, desk: u32) -> Result<Config, AllocError>
+        ensures empty { IfOk result (λ config. config ≡ record { settings = empty_settings desk; room = 0 }) }
+        ensures fold { IfOk result (λ config. IsFoldOf config.settings desk []) }
     {
-        Config {
+        Ok(Config {
             desk,
             origins: Vec::new(alloc),
             count: 0,
-        }
+        })
     }
 
     /// The authority's desk. The trust anchor has desk 0.
@@ -78,7 +78,7 @@ impl Config {
     }
 
     /// Takes the memory that `apply` needs for the command.
-    pub fn reserve(&mut self, command: &Command) -> Result<(), AllocError>
+    pub fn reserve(&mut self, _alloc: Global, command: &Command) -> Result<(), AllocError>
         ensures settings { self.new.settings ≡ self.old.settings }
         ensures room { OnOk result (added_by command.now ≤ self.new.room) }
         ensures err { OnErr result (self.new.room ≡ self.old.room) }

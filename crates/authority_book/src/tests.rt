@@ -33,10 +33,14 @@ fn update(alloc: Global, added: &[Origin], removed: &[Origin]) -> Result<Command
 }
 
 // Answers the verdict, and applies what it accepts.
-fn take(config: &mut Config, command: Command) -> Result<Result<(), Refusal>, AllocError> {
+fn take(
+    alloc: Global,
+    config: &mut Config,
+    command: Command,
+) -> Result<Result<(), Refusal>, AllocError> {
     let answer = verdict(config, &command, 1);
     if answer.is_ok() {
-        config.reserve(&command)?;
+        config.reserve(alloc, &command)?;
         config.apply(command);
     }
     Ok(answer)
@@ -49,8 +53,11 @@ fn refusals_come_in_their_order(rt: HostRuntime) -> Result<(), Fail> {
     let nine = ipv4(0x0a09_0000, 16, 16, 1);
     let one = ipv4(0x0a01_0000, 16, 16, 5);
     let two = ipv4(0x0a02_0000, 16, 16, 5);
-    let mut config = Config::new(alloc, 0);
-    assert_eq!(rt; take(&mut config, update(alloc, &[held], &[])?)?, Ok(()));
+    let mut config = Config::new(alloc, 0)?;
+    assert_eq!(rt;
+        take(alloc, &mut config, update(alloc, &[held], &[])?)?,
+        Ok(())
+    );
     let there = Refusal::OriginThere { origin: held };
     let cases: [(&[Origin], &[Origin], Refusal); 7] = [
         (&[nine, held], &[], there),
@@ -71,12 +78,16 @@ fn refusals_come_in_their_order(rt: HostRuntime) -> Result<(), Fail> {
     ];
     for (added, removed, refusal) in cases {
         let command = update(alloc, added, removed)?;
-        assert_eq!(rt; take(&mut config, command)?, Err(refusal), "at {refusal:?}");
+        assert_eq!(rt;
+            take(alloc, &mut config, command)?,
+            Err(refusal),
+            "at {refusal:?}"
+        );
     }
     assert_eq!(rt; config.count(), 1);
     assert_eq!(rt; config.origins(), [held].as_slice());
     assert_eq!(rt;
-        take(&mut config, update(alloc, &[held], &[held])?)?,
+        take(alloc, &mut config, update(alloc, &[held], &[held])?)?,
         Ok(())
     );
     assert_eq!(rt; config.count(), 2);
@@ -91,22 +102,22 @@ fn holds_1024_origins_and_no_more(rt: HostRuntime) -> Result<(), Fail> {
     for n in 0..1025 {
         many.push(host(1025 - n))?;
     }
-    let mut config = Config::new(alloc, 7);
+    let mut config = Config::new(alloc, 7)?;
     let all = update(alloc, many.as_slice(), &[])?;
     let refusal = Refusal::TooManyOrigins { after: 1025 };
-    assert_eq!(rt; take(&mut config, all)?, Err(refusal));
+    assert_eq!(rt; take(alloc, &mut config, all)?, Err(refusal));
     let last = many.pop().ok_or("no origin")?;
     assert_eq!(rt;
-        take(&mut config, update(alloc, many.as_slice(), &[])?)?,
+        take(alloc, &mut config, update(alloc, many.as_slice(), &[])?)?,
         Ok(())
     );
     assert_eq!(rt; config.origins().len(), 1024);
     assert_eq!(rt;
-        take(&mut config, update(alloc, &[last], &[])?)?,
+        take(alloc, &mut config, update(alloc, &[last], &[])?)?,
         Err(refusal)
     );
     assert_eq!(rt;
-        take(&mut config, update(alloc, &[last], &[host(2)])?)?,
+        take(alloc, &mut config, update(alloc, &[last], &[host(2)])?)?,
         Ok(())
     );
     assert_eq!(rt; config.origins().len(), 1024);
@@ -187,12 +198,12 @@ fn a_configuration_is_the_plain_fold_in_order(rt: HostRuntime) -> Result<(), Fai
         (&[host(20), host(4)], &[host(4), host(30)]),
         (&[], &[host(1)]),
     ];
-    let mut config = Config::new(alloc, 0);
+    let mut config = Config::new(alloc, 0)?;
     let mut commands = Vec::new(alloc);
     for (added, removed) in steps {
         let command = update(alloc, added, removed)?;
         commands.push(command.copy(alloc)?)?;
-        assert_eq!(rt; take(&mut config, command)?, Ok(()));
+        assert_eq!(rt; take(alloc, &mut config, command)?, Ok(()));
         let mut plain = fold_plainly(alloc, commands.as_slice())?;
         plain.sort_unstable();
         assert_eq!(rt; config.origins(), plain.as_slice());

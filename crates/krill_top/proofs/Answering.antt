@@ -1,6 +1,6 @@
 -- From what a part of an answer says to what the whole answer says.
-use Rattle.std.proofs.Common.{◌≡◌, ℕ, ◌<◌, ◌≤◌, ◌⊎◌, Bool, false, List, [], ◌∷◌, ◌++◌, length, sym, ◌∙◌, subst, refl, inl, inr, arith, lit<, lit≤}
-use Rattle.std.specs.Prelude.{Result, Ok, Err, IfOk, OnOk, string_bytes, codes}
+use Rattle.std.proofs.Common.{◌≡◌, ℕ, ◌<◌, ◌⊎◌, Bool, false, List, [], ◌∷◌, ◌++◌, length, sym, ◌∙◌, subst, refl, inl, inr, arith, lit<, lit≤}
+use Rattle.std.specs.Prelude.{Result, Ok, Err, IfOk, string_bytes, codes}
 use Rattle.authority_book.specs.declared.commands.Command.{Command}
 use Rattle.authority_book.specs.declared.refusals.Refusal.{Refusal}
 use Rattle.authority_book.specs.Settings.{Settings}
@@ -14,8 +14,8 @@ use Rattle.std.proofs.lemmas.List.Sums.{AllPass-from_list_all}
 use Rattle.json_api.specs.Line.{IsLine}
 use Rattle.json_api.specs.Reply.{refused_spelling}
 use Rattle.krill_top.specs.declared.anchor.Anchor.{Anchor}
-use Rattle.krill_top.specs.Replies.{anchor_desk, signers_at_hand, memory_text, bad_line_text, VerdictText, IsRefusedAs, IsText, IsBlank, IsReply}
-use Rattle.krill_top.specs.Stands.{StandsFor, Goes, NamesOne, MayAccept, MayAnswer, MaySay, MayText, MayReply}
+use Rattle.krill_top.specs.Replies.{anchor_desk, signers_at_hand, memory_text, bad_line_text, VerdictText, IsBlank}
+use Rattle.krill_top.specs.Stands.{StandsFor, NamesOne, MayAccept, MayAnswer, MaySay, MayText, MayReply}
 
 -- what holds of the value of an Ok, seen otherwise
 pub if_ok_so : {T E : Type 0} (r : Result T E) (P Q : T → Type 0) → IfOk r P → ((x : T) → P x → Q x) → IfOk r Q

@@ -1,6 +1,5 @@
 -- A session's replies over the anchor's states are its replies over the commands that they stand for.
-use Rattle.std.proofs.Common.{◌≡◌, ℕ, ◌⊎◌, Bool, false, List, [], ◌∷◌, ◌++◌, length, sym, subst, refl, inl, inr}
-use Rattle.std.specs.Prelude.{Option}
+use Rattle.std.proofs.Common.{ℕ, List, [], ◌∷◌, sym, subst, refl, inl, inr, lit≤}
 use Rattle.authority_book.specs.declared.commands.Command.{Command}
 use Rattle.line_loop.specs.Lines.{all_lines, ended_lines}
 use Rattle.line_loop.specs.Replies.{Answers, AnswersAtMostOne, BreaksOff}
@@ -85,3 +84,24 @@ serves_over (Spent bytes) given written at_end old new before s stands =
     record { after = e.after; so = (s.0, s.1, e.so); stands = e.stands }
 serves_over SinkFault given written at_end old new before s stands = broken_over given written at_end old new before s stands
 serves_over Memory given written at_end old new before s stands = broken_over given written at_end old new before s stands
+
+-- where nothing was read, nothing is lost
+pub nothing_broken : (before : List Command) (at_end : Type 0) → Breaks IsReply before [] at_end [] before
+nothing_broken before at_end = (
+  lit≤ tt,
+  inr (record {
+    heard = [];
+    unheard = [];
+    rest = [];
+    replies = [];
+    more = [];
+    part = [];
+    cut_off = [];
+    mid = before;
+    in_order = refl;
+    answered = (refl, refl);
+    last = (refl, refl);
+    taken = refl;
+    lost = refl;
+  }),
+)

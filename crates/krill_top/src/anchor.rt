@@ -38,25 +38,25 @@ impl Anchor {
     ghost use Rattle.krill_top.specs.Stands.{StandsFor, NamesOne, MayText, MaySay, MayAnswer, MayAccept};
 
     /// The anchor before its first command.
-    pub fn new(alloc: Global) -> Anchor
-        ensures { StandsFor result [] }
+    pub fn new(alloc: Global) -> Result<Anchor, AllocError>
+        ensures { IfOk result (λ anchor. StandsFor anchor []) }
     {
-        Anchor {
-            config: Config::new(alloc, ANCHOR_DESK),
+        Ok(Anchor {
+            config: Config::new(alloc, ANCHOR_DESK)?,
             reader: LineReader::new(alloc),
-        }
+        })
     }
 
     // Accepts the command, if there is memory for it, and appends the line that says so. Whether it
     // was accepted.
-    fn accept(&mut self, name: &str, command: Command, out: &mut Vec<u8>) -> bool
+    fn accept(&mut self, alloc: Global, name: &str, command: Command, out: &mut Vec<u8>) -> bool
         requires accepted { IsAccepted self.old.config.settings command }
         requires room { vec_len out.old + REPLY_ROOM ≤ vec_capacity out.old }
         requires name { IsName name.now }
         ensures { (text : List ℕ) × (out.new.items ≡ out.old.items ++ text ++ 10 ∷ [])
             × MayAccept self.old name.now command text result self.new }
     {
-        if self.config.reserve(&command).is_err() {
+        if self.config.reserve(alloc, &command).is_err() {
             append_memory_line(out);
             return false;
         }
@@ -83,7 +83,7 @@ impl Anchor {
         match verdict(&self.config, &command, SIGNERS_AT_HAND) {
             Ok(()) => {
                 out.reserve(REPLY_ROOM)?;
-                Ok(self.accept(name, command, out))
+                Ok(self.accept(alloc, name, command, out))
             }
             Err(refusal) => {
                 append_refusal(alloc, &refusal, out)?;

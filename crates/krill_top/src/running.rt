@@ -16,7 +16,7 @@ use std::alloc::Global;
 
 /// What a run leaves: its status, why it isn't 0, and the sessions' ends as they stand.
 #[derive(Drop)]
-pub struct RunEnd<S: Source, K: Sink, C: Clock + Drop> {
+pub struct RunEnd<S: Source, K: Sink, C: Clock> {
     /// 0, or by its fault: 2 Words, 3 Refused, 4 Device, 5 Spent, 6 Memory.
     pub status: u8,
     /// None exactly where the status is 0.
@@ -59,7 +59,7 @@ fn fault_of(ended: SessionEnd) -> Option<RunFault>
 }
 
 // Serves a session over the anchor's configuration, which begins with no command.
-fn serve_fresh<S: Source, K: Sink, C: Clock + Drop>(
+fn serve_fresh<S: Source, K: Sink, C: Clock>(
     alloc: Global,
     ends: SessionEnds<S, K, C>,
 ) -> (SessionEnds<S, K, C>, SessionEnd)
@@ -69,13 +69,16 @@ fn serve_fresh<S: Source, K: Sink, C: Clock + Drop>(
     ensures sink_fault { result.1 ≡ SessionEnd.SinkFault →
         Rose (K.faults ends.sink) (K.faults result.0.sink) }
 {
+    let Ok(mut anchor) = Anchor::new(alloc) else {
+        return (ends, SessionEnd::Memory);
+    };
     let mut ends = ends;
-    let ended = Session::serve(alloc, &mut Anchor::new(alloc), &mut ends);
+    let ended = Session::serve(alloc, &mut anchor, &mut ends);
     (ends, ended)
 }
 
 // Serves the one session.
-fn serve_one<S: Source, K: Sink, C: Clock + Drop>(
+fn serve_one<S: Source, K: Sink, C: Clock>(
     alloc: Global,
     sessions: Vec<SessionEnds<S, K, C>>,
 ) -> RunEnd<S, K, C>
@@ -100,7 +103,7 @@ fn serve_one<S: Source, K: Sink, C: Clock + Drop>(
 
 /// Does what the words name. `run` serves the one session over the anchor's configuration, which
 /// begins with no command.
-pub fn run_krill<S: Source, K: Sink, C: Clock + Drop>(
+pub fn run_krill<S: Source, K: Sink, C: Clock>(
     alloc: Global,
     words: &[String],
     sessions: Vec<SessionEnds<S, K, C>>,

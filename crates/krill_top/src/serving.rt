@@ -1,6 +1,6 @@
 //! A session: its lines, answered over the anchor's configuration.
 
-ghost use Rattle.std.specs.Prelude.{◌≡◌, List};
+ghost use Rattle.std.specs.Prelude.{◌≡◌, ◌≤◌, List};
 ghost use Rattle.line_loop.specs.Fault.{Rose};
 ghost use Rattle.authority_book.specs.declared.commands.Command.{Command};
 ghost use Rattle.krill_top.specs.Stands.{StandsFor};
@@ -12,7 +12,7 @@ use std::alloc::Global;
 
 /// The ends of a session.
 #[derive(Drop)]
-pub struct SessionEnds<S: Source, K: Sink, C: Clock + Drop> {
+pub struct SessionEnds<S: Source, K: Sink, C: Clock> {
     /// Where its lines come from.
     pub source: S,
     /// Where its replies go.
@@ -28,7 +28,7 @@ impl Session {
     /// Answers the session's lines, each once and in order, until the session ends.
     ///
     /// Before it waits for more input it has given the replies to all lines that have come.
-    pub fn serve<S: Source, K: Sink, C: Clock + Drop>(
+    pub fn serve<S: Source, K: Sink, C: Clock>(
         alloc: Global,
         anchor: &mut Anchor,
         ends: &mut SessionEnds<S, K, C>,
@@ -39,6 +39,8 @@ impl Session {
             Rose (S.faults ends.old.source) (S.faults ends.new.source) }
         ensures sink_fault { result ≡ SessionEnd.SinkFault →
             Rose (K.faults ends.old.sink) (K.faults ends.new.sink) }
+        ensures source_later { S.faults ends.old.source ≤ S.faults ends.new.source }
+        ensures sink_later { K.faults ends.old.sink ≤ K.faults ends.new.sink }
         ensures clock { ends.new.clock ≡ ends.old.clock }
     {
         serve_lines(alloc, anchor, &mut ends.source, &mut ends.sink)

@@ -1,5 +1,5 @@
 // Ends in memory, whose calls fail where they are told to.
-ghost use Rattle.std.specs.Prelude.{◌≡◌, ◌≢◌, ◌↔◌, ℕ, ◌+◌, ◌-◌, ◌^◌, ◌<◌, ◌≤◌, Some, Err, List, [], ◌++◌, length, take, drop, min, slice_index, vec_len, IsTrue, IfOk};
+ghost use Rattle.std.specs.Prelude.{◌≡◌, ◌≢◌, ◌↔◌, ℕ, ◌+◌, ◌-◌, ◌^◌, ◌<◌, ◌≤◌, Some, Err, List, [], ◌++◌, length, take, drop, min, slice_index, vec_len, IsTrue, IfOk, OnOk};
 ghost use Rattle.std.specs.Bool.{OnTrue, OnFalse};
 ghost use Rattle.std.specs.Io.KnownBytes.{ReadConsumes, WriteAppends};
 ghost use Rattle.line_loop.specs.Fault.{Rose};
@@ -101,7 +101,7 @@ impl Source for MemorySource {
 
     ghost faults = { λ source. fault_count (source_schedule source) };
 
-    fn take(&mut self, into: &mut [u8]) -> Result<usize, SourceStop>
+    fn take(&mut self, _alloc: Global, into: &mut [u8]) -> Result<usize, SourceStop>
         ensures room { IfOk result (λ n. n ≤ length into.new) }
         ensures bytes { ReadConsumes (Some (source_left self.old)) (Some (source_left self.new)) result into.new }
         ensures later { fault_count (source_schedule self.old) ≤ fault_count (source_schedule self.new) }
@@ -110,6 +110,7 @@ impl Source for MemorySource {
 
         // It fails where it is told to and nowhere else, and gives what there is room for.
         ensures fails { (result ≡ Err SourceStop.Fault) ↔ IsToFail (source_schedule self.old) }
+        ensures ok { OnOk result (fault_count (source_schedule self.new) ≡ fault_count (source_schedule self.old)) }
         ensures memory { result ≢ Err SourceStop.Memory }
         ensures count { IfOk result (λ n. n ≡
             min (length (source_left self.old)) (min (length into.old) (source_piece self.old))) }
@@ -175,7 +176,7 @@ impl Sink for MemorySink {
 
     ghost faults = { λ sink. fault_count (sink_schedule sink) };
 
-    fn give(&mut self, bytes: &[u8]) -> Result<usize, SinkStop>
+    fn give(&mut self, _alloc: Global, bytes: &[u8]) -> Result<usize, SinkStop>
         ensures piece { IfOk result (λ n. n ≤ length bytes.now) }
         ensures some { IfOk result (λ n. 0 < length bytes.now → 0 < n) }
         ensures bytes { WriteAppends (Some (sink_bytes self.old)) (Some (sink_bytes self.new)) result bytes.now }
@@ -185,6 +186,7 @@ impl Sink for MemorySink {
 
         // It fails where it is told to and nowhere else.
         ensures fails { (result ≡ Err SinkStop.Fault) ↔ IsToFail (sink_schedule self.old) }
+        ensures ok { OnOk result (fault_count (sink_schedule self.new) ≡ fault_count (sink_schedule self.old)) }
         ensures count { IfOk result (λ n. n ≡ min (length bytes.now) (sink_piece self.old)) }
         ensures counts { CountsCall (sink_schedule self.old) (sink_schedule self.new) }
         ensures same_piece { sink_piece self.new ≡ sink_piece self.old }

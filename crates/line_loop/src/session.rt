@@ -35,7 +35,7 @@ pub enum SessionEnd {
 }
 
 // Gives the sink all of the replies, and empties them.
-fn give_all<K: Sink>(sink: &mut K, out: &mut Vec<u8>) -> Result<(), SinkStop>
+fn give_all<K: Sink>(alloc: Global, sink: &mut K, out: &mut Vec<u8>) -> Result<(), SinkStop>
     ensures empty { OnOk result (out.new.items ≡ []) }
     ensures ok { OnOk result (Appends (K.taken sink.old) (K.taken sink.new) out.old.items) }
     ensures err { OnErr result ((written : List ℕ) × (cut_off : List ℕ)
@@ -46,21 +46,21 @@ fn give_all<K: Sink>(sink: &mut K, out: &mut Vec<u8>) -> Result<(), SinkStop>
 {
     let mut at = 0;
     while at < out.len() {
-        at += sink.give(&out[at..])?;
+        at += sink.give(alloc, &out[at..])?;
     }
     out.clear();
     Ok(())
 }
 
 // Gives the sink what is there, and then says that memory ran out.
-fn give_and_stop<K: Sink>(sink: &mut K, out: &mut Vec<u8>) -> SinkStop
+fn give_and_stop<K: Sink>(alloc: Global, sink: &mut K, out: &mut Vec<u8>) -> SinkStop
     ensures written { (written : List ℕ) × (cut_off : List ℕ)
         × Appends (K.taken sink.old) (K.taken sink.new) written
         × (out.old.items ≡ written ++ cut_off) }
     ensures later { K.faults sink.old ≤ K.faults sink.new }
     ensures fault { result ≡ SinkStop.Fault → Rose (K.faults sink.old) (K.faults sink.new) }
 {
-    match give_all(sink, out) {
+    match give_all(alloc, sink, out) {
         Ok(()) => SinkStop::Memory,
         Err(stop) => stop,
     }
@@ -113,9 +113,9 @@ fn answer_pending<H: LineHandler, K: Sink>(
 {
     'batches: loop {
         match answer_batch(alloc, handler, window, out) {
-            Ok(true) => give_all(sink, out)?,
-            Ok(false) => return give_all(sink, out),
-            Err(_) => return Err(give_and_stop(sink, out)),
+            Ok(true) => give_all(alloc, sink, out)?,
+            Ok(false) => return give_all(alloc, sink, out),
+            Err(_) => return Err(give_and_stop(alloc, sink, out)),
         }
     }
 }
@@ -140,8 +140,8 @@ fn finish<H: LineHandler, K: Sink>(
     ensures fault { result ≡ Err SinkStop.Fault → Rose (K.faults sink.old) (K.faults sink.new) }
 {
     match answer_last(alloc, handler, window, out) {
-        Ok(()) => give_all(sink, out),
-        Err(_) => Err(give_and_stop(sink, out)),
+        Ok(()) => give_all(alloc, sink, out),
+        Err(_) => Err(give_and_stop(alloc, sink, out)),
     }
 }
 
@@ -184,7 +184,7 @@ pub fn serve_lines<H: LineHandler, S: Source, K: Sink>(
     let mut out = Vec::new(alloc);
     let mut taken = 0;
     while taken < SESSION_LIMIT {
-        match window.fill(source, SESSION_LIMIT - taken) {
+        match window.fill(alloc, source, SESSION_LIMIT - taken) {
             Ok(0) => {
                 if let Err(stop) = finish(alloc, handler, &window, sink, &mut out) {
                     return end_after(stop);

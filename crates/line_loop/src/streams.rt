@@ -4,6 +4,7 @@ ghost use Rattle.std.specs.Io.KnownBytes.{Consumes, IsAtEnd, Keeps, ReadConsumes
 ghost use Rattle.line_loop.specs.Fault.{Rose};
 
 use crate::{Clock, Sink, SinkStop, Source, SourceStop};
+use std::alloc::Global;
 use std::io::{ErrorKind, Read, Write};
 use std::time::{SystemTime, UNIX_EPOCH};
 use std::{io, rt};
@@ -46,9 +47,16 @@ impl<R: Read + Drop> Source for StreamSource<R> {
 
     ghost left = { λ source. R.remaining (source_reader source) };
 
-    ghost faults = { λ source. source.faults };
+    ghost faults = { source_fault_count };
 
-    fn take(&mut self, into: &mut [u8]) -> Result<usize, SourceStop> {
+    fn take(&mut self, _alloc: Global, into: &mut [u8]) -> Result<usize, SourceStop>
+        ensures room { IfOk result (λ n. n ≤ length into.new) }
+        ensures bytes { ReadConsumes (R.remaining (source_reader self.old)) (R.remaining (source_reader self.new)) result into.new }
+        ensures later { source_fault_count self.old ≤ source_fault_count self.new }
+        ensures fault { result ≡ Err SourceStop.Fault →
+            Rose (source_fault_count self.old) (source_fault_count self.new) }
+        ensures ok { OnOk result (source_fault_count self.new ≡ source_fault_count self.old) }
+    {
         match read_once(&mut self.from, into) {
             Ok(n) => Ok(n),
             Err(_) => {
@@ -108,11 +116,21 @@ fn flush_all<W: Write>(to: &mut W) -> io::Result<()> {
 }
 
 impl<W: Write + Drop> Sink for StreamSink<W> {
+    ghost use Rattle.line_loop.specs.Streams.{sink_fault_count};
+
     ghost taken = { λ _. None };
 
-    ghost faults = { λ sink. sink.faults };
+    ghost faults = { sink_fault_count };
 
-    fn give(&mut self, bytes: &[u8]) -> Result<usize, SinkStop> {
+    fn give(&mut self, _alloc: Global, bytes: &[u8]) -> Result<usize, SinkStop>
+        ensures piece { IfOk result (λ n. n ≤ length bytes.now) }
+        ensures some { IfOk result (λ n. 0 < length bytes.now → 0 < n) }
+        ensures bytes { WriteAppends None None result bytes.now }
+        ensures later { sink_fault_count self.old ≤ sink_fault_count self.new }
+        ensures fault { result ≡ Err SinkStop.Fault →
+            Rose (sink_fault_count self.old) (sink_fault_count self.new) }
+        ensures ok { OnOk result (sink_fault_count self.new ≡ sink_fault_count self.old) }
+    {
         match write_once(&mut self.to, bytes) {
             Ok(n) => Ok(n),
             Err(_) => {
@@ -136,7 +154,7 @@ impl<R: rt::Clock> SystemClock<R> {
     }
 }
 
-impl<R: rt::Clock> Clock for SystemClock<R> {
+impl<R: rt::Clock + Drop> Clock for SystemClock<R> {
     fn now(&mut self) -> u64 {
         let Ok(time) = SystemTime::now(&self.rt) else {
             return 0;

@@ -3,6 +3,7 @@ ghost use Rattle.std.specs.Prelude.{◌≡◌, ℕ, ◌<◌, ◌≤◌, List, Op
 ghost use Rattle.std.specs.Io.KnownBytes.{ReadConsumes, WriteAppends};
 ghost use Rattle.line_loop.specs.Fault.{Rose};
 
+use std::alloc::Global;
 use thiserror::Error;
 
 /// Why a source gave nothing.
@@ -33,7 +34,7 @@ pub trait Source: Drop {
 
     /// Puts the next bytes into the first places, as many as it answers. It answers 0 for room that
     /// isn't empty exactly at the end. An `Err` gives nothing.
-    fn take(&mut self, into: &mut [u8]) -> Result<usize, SourceStop>
+    fn take(&mut self, alloc: Global, into: &mut [u8]) -> Result<usize, SourceStop>
         ensures room { IfOk result (λ n. n ≤ length into.new) }
         ensures bytes { ReadConsumes (left self.old) (left self.new) result into.new }
         ensures later { faults self.old ≤ faults self.new }
@@ -49,7 +50,7 @@ pub trait Sink: Drop {
     ghost faults: { Self → ℕ };
 
     /// Takes the first bytes, as many as it answers. An `Err` takes none.
-    fn give(&mut self, bytes: &[u8]) -> Result<usize, SinkStop>
+    fn give(&mut self, alloc: Global, bytes: &[u8]) -> Result<usize, SinkStop>
         ensures piece { IfOk result (λ n. n ≤ length bytes.now) }
         ensures some { IfOk result (λ n. 0 < length bytes.now → 0 < n) }
         ensures bytes { WriteAppends (taken self.old) (taken self.new) result bytes.now }
@@ -58,7 +59,7 @@ pub trait Sink: Drop {
 }
 
 /// What tells the time.
-pub trait Clock {
+pub trait Clock: Drop {
     /// Seconds since 1970-01-01 UTC.
     fn now(&mut self) -> u64;
 }

@@ -55,6 +55,7 @@ fn find_feed(bytes: &[u8], seen: usize) -> Option<usize>
 
 // Takes from the source into the `room` places from `end` on.
 fn take_at<S: Source>(
+    alloc: Global,
     source: &mut S,
     buffer: &mut [u8],
     end: usize,
@@ -70,7 +71,7 @@ fn take_at<S: Source>(
     ensures later { S.faults source.old ≤ S.faults source.new }
     ensures fault { result ≡ Err SourceStop.Fault → Rose (S.faults source.old) (S.faults source.new) }
 {
-    source.take(&mut buffer[end..end + room])
+    source.take(alloc, &mut buffer[end..end + room])
 }
 
 // Moves the bytes from `start` to `end` to the front.
@@ -170,7 +171,12 @@ impl Window {
 
     /// Takes more from the source, at most so many bytes, and says how many. It takes none only at the
     /// source's end.
-    pub(crate) fn fill<S: Source>(&mut self, source: &mut S, most: u64) -> Result<usize, SourceStop>
+    pub(crate) fn fill<S: Source>(
+        &mut self,
+        alloc: Global,
+        source: &mut S,
+        most: u64,
+    ) -> Result<usize, SourceStop>
         requires some { 0 < most }
         requires short { length self.old.bytes ≤ LINE_LIMIT }
         ensures skips { self.new.skips ≡ self.old.skips }
@@ -191,7 +197,7 @@ impl Window {
         } else {
             most as usize
         };
-        let n = take_at(source, &mut self.buffer, self.end, room)?;
+        let n = take_at(alloc, source, &mut self.buffer, self.end, room)?;
         self.end += n;
         Ok(n)
     }

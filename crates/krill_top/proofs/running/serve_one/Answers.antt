@@ -1,5 +1,5 @@
 -- The session that was handed in is taken out, served, and put back alone.
-use Rattle.std.proofs.Common.{◌≡◌, [], ◌∷◌, ◌++◌, List, ℕ, Bool, true, false, cond, ◌∙◌, ap, sym, subst, refl}
+use Rattle.std.proofs.Common.{◌≡◌, [], ◌∷◌, ◌++◌, List, Bool, true, false, cond, ◌∙◌, ap, sym, subst, refl}
 use Rattle.std.specs.Prelude.{Result, Ok, Err, is_ok, is_err}
 use Rattle.line_loop.specs.Fault.{Rose}
 use Rattle.krill_top.specs.declared.serving.SessionEnds.{SessionEnds}

@@ -1,4 +1,4 @@
-use Rattle.std.proofs.Common.{sym, ◌∙◌}
+use Rattle.std.proofs.Common.{sym}
 use Rattle.krill_top.proofs.Answering.{accepted_answers, refused_answers}
 use Rattle.krill_top.proofs.anchor.Anchor.answer_command.Goals as goal
 
