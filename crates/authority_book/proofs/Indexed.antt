@@ -28,8 +28,8 @@ or_none None = refl
 or_none (Some o) = refl
 
 -- A list grows by an origin that isn't in it yet.
-pub indexed_new : (xs : List Origin) (o : Origin) (s t : BTreeSet Origin) (r : Option Origin) → IsIndexed xs (Some s) r →
-    contains origin_cmp s o ≡ false → Updates origin_cmp s t o true → IsIndexed (xs ++ o ∷ []) (Some t) r
+pub indexed_new : (xs : List Origin) (o : Origin) (s t : BTreeSet Origin) (r : Option Origin) → IsIndexed xs (record { members = s; repeated = r }) →
+    contains origin_cmp s o ≡ false → Updates origin_cmp s t o true → IsIndexed (xs ++ o ∷ []) (record { members = t; repeated = r })
 indexed_new xs o s t r indexed fresh updates = record {
   members = members_more xs o s t indexed.members updates;
   first =
@@ -39,8 +39,8 @@ indexed_new xs o s t r indexed fresh updates = record {
 }
 
 -- A list grows by an origin that is in it.
-pub indexed_again : (xs : List Origin) (o : Origin) (s t : BTreeSet Origin) (r : Option Origin) → IsIndexed xs (Some s) r →
-    contains origin_cmp s o ≡ true → Updates origin_cmp s t o true → IsIndexed (xs ++ o ∷ []) (Some t) (option_or r (Some o))
+pub indexed_again : (xs : List Origin) (o : Origin) (s t : BTreeSet Origin) (r : Option Origin) → IsIndexed xs (record { members = s; repeated = r }) →
+    contains origin_cmp s o ≡ true → Updates origin_cmp s t o true → IsIndexed (xs ++ o ∷ []) (record { members = t; repeated = option_or r (Some o) })
 indexed_again xs o s t r indexed known updates = record {
   members = members_more xs o s t indexed.members updates;
   first =

@@ -1,6 +1,6 @@
 //! Lists of route origins, as a command gives them.
 
-ghost use Rattle.std.specs.Prelude.{◌≡◌, ◌↔◌, ◌<◌, ◌^◌, [], length, IfOk, List, IsTrue, Some};
+ghost use Rattle.std.specs.Prelude.{◌≡◌, ◌↔◌, ◌<◌, ◌^◌, [], length, IfOk, IfSome, List, IsTrue};
 ghost use Rattle.origins.specs.declared.Origin.{Origin};
 ghost use Rattle.authority_book.specs.Origins.{is_there, first_repeated};
 ghost use Rattle.authority_book.specs.Index.{IsIndexed};
@@ -17,7 +17,13 @@ use std::marker::Model;
 #[derive(Drop)]
 pub struct OriginList {
     items: Vec<Origin>,
-    members: Option<BTreeSet<Origin>>,
+    index: Option<Box<Index>>,
+}
+
+// The members of a list as a set, and the first that stands earlier in it.
+#[derive(Drop)]
+struct Index {
+    members: BTreeSet<Origin>,
     repeated: Option<Origin>,
 }
 
@@ -29,7 +35,7 @@ impl Model for OriginList {
 
     ghost view = { λ list. list.items.items };
 
-    ghost invariant = { λ list. IsIndexed list.items.items list.members list.repeated };
+    ghost invariant = { λ list. IfSome list.index (λ index. IsIndexed list.items.items index.value) };
 }
 
 impl OriginList {
@@ -37,11 +43,13 @@ impl OriginList {
     pub fn new(alloc: Global, items: Vec<Origin>) -> Result<OriginList, AllocError>
         ensures { IfOk result (λ list. list ≡ items.items) }
     {
-        let (members, repeated) = index(alloc, items.as_slice())?;
+        if items.len() <= SHORT_LEN {
+            return Ok(OriginList { items, index: None });
+        }
+        let index = Box::new(alloc, index_many(alloc, items.as_slice())?)?;
         Ok(OriginList {
             items,
-            members,
-            repeated,
+            index: Some(index),
         })
     }
 
@@ -85,8 +93,8 @@ impl OriginList {
     pub fn contains(&self, origin: &Origin) -> bool
         ensures { result ≡ is_there self.now origin.now }
     {
-        match &self.members {
-            Some(members) => members.contains(origin),
+        match &self.index {
+            Some(index) => index.members.contains(origin),
             None => is_in(self.items.as_slice(), origin),
         }
     }
@@ -95,22 +103,11 @@ impl OriginList {
     pub fn first_repeated(&self) -> Option<Origin>
         ensures { result ≡ first_repeated self.now }
     {
-        self.repeated
+        match &self.index {
+            Some(index) => index.repeated,
+            None => repeated_of_few(self.items.as_slice()),
+        }
     }
-}
-
-// What stands beside the list of these origins.
-fn index(
-    alloc: Global,
-    items: &[Origin],
-) -> Result<(Option<BTreeSet<Origin>>, Option<Origin>), AllocError>
-    ensures { IfOk result (λ made. IsIndexed items.now made.0 made.1) }
-{
-    if items.len() <= SHORT_LEN {
-        return Ok((None, repeated_of_few(items)));
-    }
-    let (members, repeated) = index_many(alloc, items)?;
-    Ok((Some(members), repeated))
 }
 
 // The first origin that stands earlier in the list, which is short.
@@ -127,12 +124,9 @@ fn repeated_of_few(items: &[Origin]) -> Option<Origin>
     repeated
 }
 
-// The members of the list as a set, and the first that stands earlier in it.
-fn index_many(
-    alloc: Global,
-    items: &[Origin],
-) -> Result<(BTreeSet<Origin>, Option<Origin>), AllocError>
-    ensures { IfOk result (λ made. IsIndexed items.now (Some made.0) made.1) }
+// What stands beside a list that isn't short.
+fn index_many(alloc: Global, items: &[Origin]) -> Result<Index, AllocError>
+    ensures { IfOk result (IsIndexed items.now) }
 {
     let mut members = BTreeSet::new(alloc);
     let mut repeated = None;
@@ -142,7 +136,7 @@ fn index_many(
             repeated = repeated.or(Some(*origin));
         }
     }
-    Ok((members, repeated))
+    Ok(Index { members, repeated })
 }
 
 // Whether the list has the origin, by looking at each.

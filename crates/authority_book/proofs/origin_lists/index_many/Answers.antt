@@ -1,5 +1,5 @@
 use Rattle.std.proofs.Common.{◌≡◌, ◌+◌, ◌++◌, ◌∷◌, [], sym, ◌∙◌, ap, take, List}
-use Rattle.std.specs.Prelude.{Option, Some}
+use Rattle.std.specs.Prelude.{Option}
 use Rattle.origins.specs.declared.Origin.{Origin}
 use Rattle.std.specs.BTreeSet.{contains}
 use Rattle.std.proofs.lemmas.List.{take_more}
@@ -18,7 +18,7 @@ loop-origin-preserved c =
     let put = c.in_ok-is_new.ensures in
     let longer : take (c.loop-origin.origin-index + 1) c.args.items.now ≡ xs ++ o ∷ [] =
     take_more c.args.items.now c.loop-origin.origin-index o c.loop-origin-test.true ∙ ap (λ (x : Origin). xs ++ x ∷ []) (sym c.origin-item.is) in
-    let Made : List Origin → Option Origin → Type 0 = λ l r. IsIndexed l (Some c.insert.new.self) r in
+    let Made : List Origin → Option Origin → Type 0 = λ l r. IsIndexed l (record { members = c.insert.new.self; repeated = r }) in
     elim c.if-not-is_new.branch [
       | then-not-is_new w ↦
           let known = known_from (contains origin_cmp s o) (sym w.if-not-is_new.true ∙ put.added) in

@@ -1,7 +1,6 @@
 use Rattle.std.proofs.Common.{take}
-use Rattle.std.specs.Prelude.{Some}
 use Rattle.authority_book.specs.Index.{IsIndexed}
 use Rattle.authority_book.proofs.origin_lists.index_many.Given as goal
 
 abbrev pub invariant-loop-origin : goal.invariant-loop-origin
-invariant-loop-origin l = IsIndexed (take l.origin-index l.items) (Some l.members) l.repeated
+invariant-loop-origin l = IsIndexed (take l.origin-index l.items) (record { members = l.members; repeated = l.repeated })
