@@ -5,3 +5,4 @@ pub mod OneMeaning
 pub mod Passes
 pub mod FieldsLemmas
 pub mod Turns
+pub mod Joined

@@ -3,3 +3,4 @@ pub mod Reply
 pub mod Tokens
 pub mod Line
 pub mod Plain
+pub mod Compact

@@ -1,6 +1,7 @@
 //! Commands as lines of JSON, and the replies to them.
 #![tactic(auto)]
 
+mod compact;
 mod line;
 mod name;
 mod plain;

@@ -1,4 +1,4 @@
-//! Lines in plain form, read in one pass over their tokens and with no value in between.
+//! Lines in plain form, read in one pass over their bytes or their tokens and with no value in between.
 
 ghost use Rattle.std.specs.Prelude.{◌≡◌, ◌≤◌, ◌∷◌, ℕ, List, length, Some, IfOk, IfSome, IsTrue};
 ghost use Rattle.json.specs.Token.{string as string_token};
@@ -8,6 +8,7 @@ ghost use Rattle.origins.specs.Origin.{SpellsOrigin};
 ghost use Rattle.json_api.specs.Line.{Says, AreOriginTexts};
 ghost use Rattle.json_api.specs.Plain.{ReadsValue, ReadsItems, ReadsMembers, IsListOf, AreFields};
 
+use crate::compact::read_compact;
 use crate::line::{Line, origin_of};
 use authority_book::{Command, OriginList};
 use json::{Reader, Scratch, Token};
@@ -30,6 +31,22 @@ pub(crate) fn read_plain(
     text: &str,
     scratch: &mut Scratch,
 ) -> Result<Option<Line>, AllocError>
+    ensures { IfOk result (λ found. IfSome found
+        (λ line. (d : Data) × (read text.now ≡ Some d) × Says d line)) }
+{
+    if let Some(origins) = read_compact(alloc, text)? {
+        let fields = Fields {
+            is_update: true,
+            is_for_anchor: true,
+            added: Some(origins),
+            removed: None,
+        };
+        return line_of(alloc, fields);
+    }
+    read_tokens(alloc, text, scratch)
+}
+
+fn read_tokens(alloc: Global, text: &str, scratch: &mut Scratch) -> Result<Option<Line>, AllocError>
     ensures { IfOk result (λ found. IfSome found
         (λ line. (d : Data) × (read text.now ≡ Some d) × Says d line)) }
 {
