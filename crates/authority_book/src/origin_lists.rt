@@ -114,14 +114,13 @@ impl OriginList {
 fn repeated_of_few(items: &[Origin]) -> Option<Origin>
     ensures { result ≡ first_repeated items.now }
 {
-    let mut repeated = None;
     for place in 0..items.len() {
-        let origin = items[place];
-        if is_in(&items[..place], &origin) {
-            repeated = repeated.or(Some(origin));
+        let origin = &items[place];
+        if is_in(&items[..place], origin) {
+            return Some(*origin);
         }
     }
-    repeated
+    None
 }
 
 // What stands beside a list that isn't short.

@@ -182,8 +182,7 @@ compact_read text origins c =
     let none : Fields = record { is_update = false; is_for_anchor = false; added = None; removed = None } in
     let start : AreFields no_members none = record { command = refl; authority = refl; added = refl; removed = refl; no_other = refl } in
     let update : Fields = record { is_update = true; is_for_anchor = false; added = None; removed = None } in
-    let anchored : Fields = record { is_update = true; is_for_anchor = true; added = None; removed = None } in
-    (
+    let anchored : Fields = record { is_update = true; is_for_anchor = true; added = None; removed = None } in (
       compact_members all,
       list_read text c.rest l.texts l.last c.front l.spelled l.unescaped,
       AreFields-added front_members anchored origins (array (text_items all)) (text_items all, refl, l.are)

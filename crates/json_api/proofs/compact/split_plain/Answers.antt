@@ -19,7 +19,7 @@ returns c =
     let count : c.count-len.result ≡ prefix_len is_plain_byte text = counted ∙ ap (prefix_len is_plain_byte) c.as_bytes.ensures.value in
     if_some_both c.split_at_checked.result _ _ _ c.split_at_checked.ensures.front c.split_at_checked.ensures.back
     (λ parts front back.
-        let whole : parts.0.now ≡ take (prefix_len is_plain_byte text) text = front ∙ ap (λ n. take n text) count in (
-          ap escape whole ∙ front_unescaped text ∙ sym whole,
-          sym (take-append-drop c.count-len.result text) ∙ ap₂ (λ (a b : List ℕ). a ++ b) (sym front) (sym back),
-        ))
+    let whole : parts.0.now ≡ take (prefix_len is_plain_byte text) text = front ∙ ap (λ n. take n text) count in (
+      ap escape whole ∙ front_unescaped text ∙ sym whole,
+      sym (take-append-drop c.count-len.result text) ∙ ap₂ (λ (a b : List ℕ). a ++ b) (sym front) (sym back),
+    ))
