@@ -30,19 +30,25 @@ struct Index {
 // A list of so many origins at most is looked through as it stands.
 const SHORT_LEN: usize = 8;
 
+// A list has fewer than 2^32 origins, so that a count of 4 bytes holds their number.
+const MOST_LEN: usize = u32::MAX as usize;
+
 impl Model for OriginList {
     ghost Value = { List Origin };
 
     ghost view = { λ list. list.items.items };
 
-    ghost invariant = { λ list. IfSome list.index (λ index. IsIndexed list.items.items index.value) };
+    ghost invariant = { λ list. (length list.items.items < 2 ^ 32) × IfSome list.index (λ index. IsIndexed list.items.items index.value) };
 }
 
 impl OriginList {
-    /// The list of these origins.
+    /// The list of these origins. There is no room for 2^32 or more.
     pub fn new(alloc: Global, items: Vec<Origin>) -> Result<OriginList, AllocError>
         ensures { IfOk result (λ list. list ≡ items.items) }
     {
+        if items.len() > MOST_LEN {
+            return Err(AllocError);
+        }
         if items.len() <= SHORT_LEN {
             return Ok(OriginList { items, index: None });
         }
@@ -63,7 +69,7 @@ impl OriginList {
     /// How many origins the list has, counting each repetition.
     pub fn len(&self) -> usize
         ensures len { result ≡ length self.now }
-        ensures small { result < 2 ^ 63 }
+        ensures small { result < 2 ^ 32 }
     {
         self.items.len()
     }

@@ -1,7 +1,5 @@
 //! Worked records, and where spoilt ones are bad.
 
-ghost use Rattle.std.specs.Prelude.{◌<◌, ◌^◌, length, IfOk};
-ghost use Rattle.cmd_codec.specs.Spelling.{IsShort};
 ghost use Rattle.origins.specs.Prefix.{IsPrefix, IsMaximum};
 
 use super::*;
@@ -49,9 +47,6 @@ fn test_net() -> Origin {
 }
 
 fn update(alloc: Global, added: &[Origin], removed: &[Origin]) -> Result<Command, AllocError>
-    requires added { length added.now < 2 ^ 32 }
-    requires removed { length removed.now < 2 ^ 32 }
-    ensures { IfOk result IsShort }
 {
     let added = OriginList::new(alloc, added.to_vec(alloc)?)?;
     let removed = OriginList::new(alloc, removed.to_vec(alloc)?)?;

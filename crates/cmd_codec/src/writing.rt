@@ -10,9 +10,8 @@ use authority_book::{Command, OriginList};
 use origins::Origin;
 use std::alloc::{AllocError, Global};
 
-/// The record of the command, whose lists have fewer than 2^32 origins each.
+/// The record of the command.
 pub fn write(alloc: Global, command: &Command) -> Result<Vec<u8>, AllocError>
-    requires { IsShort command.now }
     ensures spelled { IfOk result (λ bytes. bytes.items ≡ spelling command.now) }
 
     // So the record is read back.
@@ -30,9 +29,9 @@ pub fn write(alloc: Global, command: &Command) -> Result<Vec<u8>, AllocError>
     }
 }
 
-// How many bytes the list takes.
+// How many bytes the list takes. A list has fewer than 2^32 origins.
 fn list_size(origins: &OriginList) -> usize
-    requires { length origins.now < 2 ^ 32 }
+    ensures short { length origins.now < 2 ^ 32 }
     ensures size { result ≡ length (list_spelling origins.now) }
     ensures small { result < 2 ^ 40 }
 {

@@ -10,5 +10,5 @@ pub returns-in-Some : goal.returns-in-Some
 unfolding origin_cmp
 returns-in-Some c =
     let Kept : Option (Box Index Global) → Type 0 = λ index. IfSome index (λ i. IsIndexed c.self.inside.items.items i.value) in
-    let indexed : IsIndexed c.self.inside.items.items c.in-Some.index.value = subst Kept c.in-Some.is c.self.invariant in
+    let indexed : IsIndexed c.self.inside.items.items c.in-Some.index.value = subst Kept c.in-Some.is c.self.invariant.1 in
     c.contains.ensures ∙ (ap (λ (i : Index). contains origin_cmp i.members c.args.origin.now) c.deref.ensures ∙ indexed.members c.args.origin.now ∙ ap (λ xs. is_there xs c.args.origin.now) c.self.view_is)
