@@ -5,7 +5,7 @@ ghost use Rattle.disk_api.specs.Content.{overwritten, cut_to, Torn, IsCut, BothT
 ghost use Rattle.disk_api.specs.Images.{Stays, Follows, Reaches, Keeps, IsOnly, Elapses};
 ghost use Rattle.disk_api.specs.Faults.{CountsFaults, CountsStops};
 
-use std::alloc::{AllocError, AllocFailed};
+use std::alloc::{AllocError, AllocFailed, Global};
 use thiserror::Error;
 
 /// Why a call of a disk stopped.
@@ -38,6 +38,8 @@ impl<T: Drop> From<AllocFailed<T>> for DiskStop {
 /// Between two syncs each range that was written, and what lies past the old end, may hold any
 /// bytes after a crash; other bytes stay. After a sync that succeeds, a crash leaves what a read
 /// gives. A disk that doesn't tell what it holds promises nothing of bytes.
+///
+/// A call that may want memory is handed an allocator for it.
 pub trait Disk: Drop {
     /// The bytes that a read gives, where the disk tells.
     ghost content: { Self → Option (List ℕ) };
@@ -55,7 +57,7 @@ pub trait Disk: Drop {
     ghost fault_count: { Self → ℕ };
 
     /// How many bytes the file has.
-    fn len(&mut self) -> Result<u64, DiskStop>
+    fn len(&mut self, alloc: Global) -> Result<u64, DiskStop>
         ensures length { IfOk result (λ n. IfSome (content self.old) (λ bytes. n ≡ length bytes)) }
         ensures stays { Stays (content self.old) (content self.new) (may_leave self.old) (may_leave self.new) }
         ensures time { Elapses (moment self.old) (moment self.new) (left_since self.old) (left_since self.new) (may_leave self.new) }
@@ -64,7 +66,7 @@ pub trait Disk: Drop {
     /// Reads the bytes from `at` on into the front of `into`, and says how many. They are at least
     /// one where `at` is below the length and `into` isn't empty, and none at the end or past it.
     /// At an `Err` any bytes may stand in `into`.
-    fn read(&mut self, at: u64, into: &mut [u8]) -> Result<usize, DiskStop>
+    fn read(&mut self, alloc: Global, at: u64, into: &mut [u8]) -> Result<usize, DiskStop>
         ensures within { IfOk result (λ n. n ≤ length into.old) }
         ensures bytes { IfOk result (λ n. IfSome (content self.old) (λ bytes. Gives bytes at n into.old into.new)) }
         ensures stays { Stays (content self.old) (content self.new) (may_leave self.old) (may_leave self.new) }
@@ -72,7 +74,7 @@ pub trait Disk: Drop {
         ensures faults { CountsFaults (fault_count self.old) (fault_count self.new) result };
 
     /// Writes over what is there, and past the end. At an `Err` some of the range may be written.
-    fn write_at(&mut self, at: u64, bytes: &[u8]) -> Result<(), DiskStop>
+    fn write_at(&mut self, alloc: Global, at: u64, bytes: &[u8]) -> Result<(), DiskStop>
         requires { IfSome (content self.old) (λ old. at ≤ length old) }
 
         ensures written { OnOk result (content self.new ≡ option_map (overwritten at bytes.now) (content self.old)) }
@@ -88,7 +90,7 @@ pub trait Disk: Drop {
         ensures faults { CountsStops (fault_count self.old) (fault_count self.new) result };
 
     /// Cuts the file to a length. A shorter file stays as it is.
-    fn cut(&mut self, len: u64) -> Result<(), DiskStop>
+    fn cut(&mut self, alloc: Global, len: u64) -> Result<(), DiskStop>
         ensures cut { OnOk result (content self.new ≡ option_map (cut_to len) (content self.old)) }
         ensures torn { OnErr result (BothTold (IsCut len) (content self.old) (content self.new)) }
 
@@ -100,7 +102,7 @@ pub trait Disk: Drop {
         ensures faults { CountsStops (fault_count self.old) (fault_count self.new) result };
 
     /// After it, a crash leaves what a read gives.
-    fn sync(&mut self) -> Result<(), DiskStop>
+    fn sync(&mut self, alloc: Global) -> Result<(), DiskStop>
         ensures durable { OnOk result (IsOnly (content self.old) (may_leave self.new)) }
         ensures content { content self.new ≡ content self.old }
 

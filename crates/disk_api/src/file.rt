@@ -4,6 +4,7 @@ ghost use Rattle.disk_api.specs.Faults.{HasRisen};
 ghost use Rattle.disk_api.specs.FileLaws.{told_is_left};
 
 use crate::{Disk, DiskStop};
+use std::alloc::Global;
 use std::os::unix::fs::FileExt;
 use std::path::Path;
 use std::{fs, io};
@@ -17,7 +18,7 @@ pub struct FileDisk {
 
 impl FileDisk {
     /// Opens the file at `path`, or makes an empty one, and syncs it and its folder's entry.
-    pub fn open(rt: &HostRuntime, path: &str) -> Result<FileDisk, DiskStop>
+    pub fn open(rt: &HostRuntime, _alloc: Global, path: &str) -> Result<FileDisk, DiskStop>
         ensures { IfOk result (λ disk. disk.faults ≡ 0) }
     {
         match open_synced(rt, path) {
@@ -87,35 +88,35 @@ impl Disk for FileDisk {
 
     ghost only_now = { λ _ _ left. left };
 
-    fn len(&mut self) -> Result<u64, DiskStop> {
+    fn len(&mut self, _alloc: Global) -> Result<u64, DiskStop> {
         match self.file.metadata() {
             Ok(metadata) => Ok(metadata.len()),
             Err(error) => Err(self.stopped(error)),
         }
     }
 
-    fn read(&mut self, at: u64, into: &mut [u8]) -> Result<usize, DiskStop> {
+    fn read(&mut self, _alloc: Global, at: u64, into: &mut [u8]) -> Result<usize, DiskStop> {
         match self.file.read_at(into, at) {
             Ok(n) => Ok(n),
             Err(error) => Err(self.stopped(error)),
         }
     }
 
-    fn write_at(&mut self, at: u64, bytes: &[u8]) -> Result<(), DiskStop> {
+    fn write_at(&mut self, _alloc: Global, at: u64, bytes: &[u8]) -> Result<(), DiskStop> {
         match self.file.write_all_at(bytes, at) {
             Ok(()) => Ok(()),
             Err(error) => Err(self.stopped(error)),
         }
     }
 
-    fn cut(&mut self, len: u64) -> Result<(), DiskStop> {
+    fn cut(&mut self, _alloc: Global, len: u64) -> Result<(), DiskStop> {
         match cut_to(&self.file, len) {
             Ok(()) => Ok(()),
             Err(error) => Err(self.stopped(error)),
         }
     }
 
-    fn sync(&mut self) -> Result<(), DiskStop> {
+    fn sync(&mut self, _alloc: Global) -> Result<(), DiskStop> {
         match self.file.sync_all() {
             Ok(()) => Ok(()),
             Err(error) => Err(self.stopped(error)),

@@ -15,7 +15,6 @@ use std::alloc::{AllocError, Global};
 /// A call that fails changes nothing.
 #[derive(Drop)]
 pub struct MemoryDisk {
-    alloc: Global,
     first: Vec<u8>,
     steps: Vec<Step>,
     // What a read gives, from the first change on.
@@ -34,7 +33,7 @@ impl MemoryDisk {
 
     /// A file with these bytes, all of them on the disk. `fails` has the numbers, from 1, of the
     /// calls that are to fail: each call but `faults` counts.
-    pub fn new(bytes: Vec<u8>, fails: Vec<u64>) -> Self
+    pub fn new(alloc: Global, bytes: Vec<u8>, fails: Vec<u64>) -> Self
         ensures content { memory_bytes result ≡ bytes.items }
         ensures images { (c : _) → IsImage result c ↔ (c ≡ bytes.items) }
         ensures fails { memory_fails result ≡ fails.items }
@@ -42,9 +41,7 @@ impl MemoryDisk {
         ensures unstopped { memory_left result ≡ None }
         ensures no_fault { memory_faults result ≡ 0 }
     {
-        let alloc = *bytes.allocator();
         MemoryDisk {
-            alloc,
             first: bytes,
             steps: Vec::new(alloc),
             bytes: Vec::new(alloc),
@@ -116,20 +113,20 @@ impl MemoryDisk {
     }
 
     /// Makes the bytes that are to be changed, where there was no change yet.
-    fn copy_first(&mut self) -> Result<(), AllocError>
+    fn copy_first(&mut self, alloc: Global) -> Result<(), AllocError>
         ensures copied { OnOk result (self.new.is_copied ≡ true) }
         ensures file { IsSameFile self.old self.new }
         ensures calls { IsSameScript self.old self.new }
         ensures faults { self.new.faults ≡ self.old.faults }
     {
         if !self.is_copied {
-            self.bytes = self.first.to_vec(self.alloc)?;
+            self.bytes = self.first.to_vec(alloc)?;
             self.is_copied = true;
         }
         Ok(())
     }
 
-    fn put(&mut self, at: usize, bytes: &[u8]) -> Result<(), AllocError>
+    fn put(&mut self, alloc: Global, at: usize, bytes: &[u8]) -> Result<(), AllocError>
         requires { at ≤ length (memory_bytes self.old) }
         ensures done { OnOk result ((kept : _) × (kept.items ≡ bytes.now) × TakesStep self.old self.new (Step.Write at kept)) }
         ensures bytes { OnOk result (memory_bytes self.new ≡ overwritten at bytes.now (memory_bytes self.old)) }
@@ -137,22 +134,22 @@ impl MemoryDisk {
         ensures calls { IsSameScript self.old self.new }
         ensures faults { self.new.faults ≡ self.old.faults }
     {
-        let kept = bytes.to_vec(self.alloc)?;
-        self.copy_first()?;
+        let kept = bytes.to_vec(alloc)?;
+        self.copy_first(alloc)?;
         self.steps.reserve(1)?;
         overwrite(&mut self.bytes, at, bytes)?;
         self.steps.push(Step::Write { at, bytes: kept }).unwrap();
         Ok(())
     }
 
-    fn shorten(&mut self, len: usize) -> Result<(), AllocError>
+    fn shorten(&mut self, alloc: Global, len: usize) -> Result<(), AllocError>
         ensures done { OnOk result (TakesStep self.old self.new (Step.Cut len)) }
         ensures bytes { OnOk result (memory_bytes self.new ≡ cut_to len (memory_bytes self.old)) }
         ensures err { OnErr result (IsSameFile self.old self.new) }
         ensures calls { IsSameScript self.old self.new }
         ensures faults { self.new.faults ≡ self.old.faults }
     {
-        self.copy_first()?;
+        self.copy_first(alloc)?;
         self.steps.push(Step::Cut(len))?;
         self.bytes.truncate(len);
         Ok(())
@@ -194,7 +191,7 @@ impl Disk for MemoryDisk {
 
     ghost only_now = { only_now_in_memory };
 
-    fn len(&mut self) -> Result<u64, DiskStop>
+    fn len(&mut self, _alloc: Global) -> Result<u64, DiskStop>
         ensures length { IfOk result (λ n. IfSome (Some (memory_bytes self.old)) (λ bytes. n ≡ length bytes)) }
         ensures stays { Stays (Some (memory_bytes self.old)) (Some (memory_bytes self.new)) (IsImage self.old) (IsImage self.new) }
         ensures time { Elapses (memory_moment self.old) (memory_moment self.new) (IsImageSince self.old) (IsImageSince self.new) (IsImage self.new) }
@@ -213,7 +210,7 @@ impl Disk for MemoryDisk {
         Ok(self.bytes().len() as u64)
     }
 
-    fn read(&mut self, at: u64, into: &mut [u8]) -> Result<usize, DiskStop>
+    fn read(&mut self, _alloc: Global, at: u64, into: &mut [u8]) -> Result<usize, DiskStop>
         ensures within { IfOk result (λ n. n ≤ length into.old) }
         ensures bytes { IfOk result (λ n. IfSome (Some (memory_bytes self.old)) (λ bytes. Gives bytes at n into.old into.new)) }
         ensures stays { Stays (Some (memory_bytes self.old)) (Some (memory_bytes self.new)) (IsImage self.old) (IsImage self.new) }
@@ -234,7 +231,7 @@ impl Disk for MemoryDisk {
         Ok(read_from(self.bytes(), at, into))
     }
 
-    fn write_at(&mut self, at: u64, bytes: &[u8]) -> Result<(), DiskStop>
+    fn write_at(&mut self, alloc: Global, at: u64, bytes: &[u8]) -> Result<(), DiskStop>
         requires { IfSome (Some (memory_bytes self.old)) (λ old. at ≤ length old) }
 
         ensures written { OnOk result (Some (memory_bytes self.new) ≡ option_map (overwritten at bytes.now) (Some (memory_bytes self.old))) }
@@ -258,13 +255,13 @@ impl Disk for MemoryDisk {
         if self.is_failing() {
             return Err(self.stopped(DiskStop::Fault));
         }
-        match self.put(at as usize, bytes) {
+        match self.put(alloc, at as usize, bytes) {
             Ok(()) => Ok(()),
             Err(AllocError) => Err(self.stopped(DiskStop::Memory)),
         }
     }
 
-    fn cut(&mut self, len: u64) -> Result<(), DiskStop>
+    fn cut(&mut self, alloc: Global, len: u64) -> Result<(), DiskStop>
         ensures cut { OnOk result (Some (memory_bytes self.new) ≡ option_map (cut_to len) (Some (memory_bytes self.old))) }
         ensures torn { OnErr result (BothTold (IsCut len) (Some (memory_bytes self.old)) (Some (memory_bytes self.new))) }
 
@@ -284,13 +281,13 @@ impl Disk for MemoryDisk {
         if self.is_failing() {
             return Err(self.stopped(DiskStop::Fault));
         }
-        match self.shorten(len as usize) {
+        match self.shorten(alloc, len as usize) {
             Ok(()) => Ok(()),
             Err(AllocError) => Err(self.stopped(DiskStop::Memory)),
         }
     }
 
-    fn sync(&mut self) -> Result<(), DiskStop>
+    fn sync(&mut self, _alloc: Global) -> Result<(), DiskStop>
         ensures durable { OnOk result (IsOnly (Some (memory_bytes self.old)) (IsImage self.new)) }
         ensures content { Some (memory_bytes self.new) ≡ Some (memory_bytes self.old) }
 

@@ -5,10 +5,10 @@ use std::test::Fail;
 
 /// A disk with the bytes 1 to 4 and 7 on it, then 5 and 9 written at 3 and not synced.
 fn unsynced(alloc: Global) -> Result<MemoryDisk, Fail> {
-    let mut disk = MemoryDisk::new([1, 2, 3, 4].to_vec(alloc)?, Vec::new(alloc));
-    disk.write_at(4, &[7])?;
-    disk.sync()?;
-    disk.write_at(3, &[5, 9])?;
+    let mut disk = MemoryDisk::new(alloc, [1, 2, 3, 4].to_vec(alloc)?, Vec::new(alloc));
+    disk.write_at(alloc, 4, &[7])?;
+    disk.sync(alloc)?;
+    disk.write_at(alloc, 3, &[5, 9])?;
     Ok(disk)
 }
 
@@ -39,8 +39,8 @@ fn an_image_holds_some_of_an_unsynced_write(rt: HostRuntime) -> Result<(), Fail>
 fn a_sync_leaves_what_is_read(rt: HostRuntime) -> Result<(), Fail> {
     let alloc = rt.alloc();
     let mut disk = unsynced(alloc)?;
-    disk.cut(4)?;
-    disk.sync()?;
+    disk.cut(alloc, 4)?;
+    disk.sync(alloc)?;
     for pick in 0..10 {
         assert_eq!(rt;
             disk.image(alloc, pick)?.as_slice(),
@@ -48,26 +48,26 @@ fn a_sync_leaves_what_is_read(rt: HostRuntime) -> Result<(), Fail> {
         );
     }
     let mut into = [0; 3];
-    assert_eq!(rt; disk.len()?, 4);
-    assert_eq!(rt; disk.read(2, &mut into)?, 2);
+    assert_eq!(rt; disk.len(alloc)?, 4);
+    assert_eq!(rt; disk.read(alloc, 2, &mut into)?, 2);
     assert_eq!(rt; into, [3, 5, 0]);
-    assert_eq!(rt; disk.read(4, &mut into)?, 0);
+    assert_eq!(rt; disk.read(alloc, 4, &mut into)?, 0);
     Ok(())
 }
 
 #[test]
 fn listed_calls_fail(rt: HostRuntime) -> Result<(), Fail> {
     let alloc = rt.alloc();
-    let mut disk = MemoryDisk::new(Vec::new(alloc), [2, 4].to_vec(alloc)?);
-    assert_eq!(rt; disk.write_at(0, &[1]), Ok(()));
-    assert_eq!(rt; disk.sync(), Err(DiskStop::Fault));
-    assert_eq!(rt; disk.sync(), Ok(()));
-    assert_eq!(rt; disk.len(), Err(DiskStop::Fault));
+    let mut disk = MemoryDisk::new(alloc, Vec::new(alloc), [2, 4].to_vec(alloc)?);
+    assert_eq!(rt; disk.write_at(alloc, 0, &[1]), Ok(()));
+    assert_eq!(rt; disk.sync(alloc), Err(DiskStop::Fault));
+    assert_eq!(rt; disk.sync(alloc), Ok(()));
+    assert_eq!(rt; disk.len(alloc), Err(DiskStop::Fault));
     assert_eq!(rt; disk.faults(), 2);
     disk.stop_after(1);
-    assert_eq!(rt; disk.cut(0), Ok(()));
-    assert_eq!(rt; disk.len(), Err(DiskStop::Fault));
-    assert_eq!(rt; disk.sync(), Err(DiskStop::Fault));
+    assert_eq!(rt; disk.cut(alloc, 0), Ok(()));
+    assert_eq!(rt; disk.len(alloc), Err(DiskStop::Fault));
+    assert_eq!(rt; disk.sync(alloc), Err(DiskStop::Fault));
     assert_eq!(rt; disk.image(alloc, 0)?.as_slice(), [1].as_slice());
     assert_eq!(rt; disk.faults(), 4);
     Ok(())
@@ -76,17 +76,18 @@ fn listed_calls_fail(rt: HostRuntime) -> Result<(), Fail> {
 #[test]
 fn a_file_keeps_its_bytes(rt: HostRuntime) -> Result<(), Fail> {
     const PATH: &str = "file_disk_keeps_its_bytes";
+    let alloc = rt.alloc();
     let _ = fs::remove_file(&rt, PATH);
-    let mut disk = FileDisk::open(&rt, PATH)?;
-    assert_eq!(rt; disk.len()?, 0);
-    disk.write_at(0, b"journal")?;
-    disk.cut(9)?;
-    disk.cut(5)?;
-    disk.sync()?;
-    let mut again = FileDisk::open(&rt, PATH)?;
+    let mut disk = FileDisk::open(&rt, alloc, PATH)?;
+    assert_eq!(rt; disk.len(alloc)?, 0);
+    disk.write_at(alloc, 0, b"journal")?;
+    disk.cut(alloc, 9)?;
+    disk.cut(alloc, 5)?;
+    disk.sync(alloc)?;
+    let mut again = FileDisk::open(&rt, alloc, PATH)?;
     let mut into = [0; 8];
-    assert_eq!(rt; again.len()?, 5);
-    assert_eq!(rt; again.read(1, &mut into)?, 4);
+    assert_eq!(rt; again.len(alloc)?, 5);
+    assert_eq!(rt; again.read(alloc, 1, &mut into)?, 4);
     assert_eq!(rt; into, *b"ourn\0\0\0\0");
     assert_eq!(rt; again.faults(), 0);
     fs::remove_file(&rt, PATH)?;
