@@ -1,0 +1,176 @@
+-- What a journal keeps true over the storing of a record, and what it shows then.
+use Rattle.std.proofs.Common.{◌≡◌, ℕ, ◌+◌, ◌≤◌, ◌<◌, ◌^◌, Option, Some, None, List, [], ◌∷◌, ◌++◌, map, length, take, set, IfSome, refl, sym, ◌∙◌, ap, subst, cond, arith}
+use Rattle.std.proofs.lemmas.Bool.Decides.{nat_tests}
+use Rattle.std.specs.Prelude.{nat_lt}
+use Rattle.std.proofs.lemmas.List.{length-set}
+use Rattle.std.proofs.lemmas.Option.{none-some}
+use Rattle.std.specs.Option.{option_map, option_or, unwrap_or}
+use Rattle.disk_api.specs.Content.{BothTold}
+use Rattle.disk_api.specs.Images.{IsOnly}
+use Rattle.disk_api.specs.Faults.{HasRisen}
+use Rattle.gate_journal.specs.Storing.{stored, entry_bytes, IsStoring}
+use Rattle.gate_journal.specs.Kept.{IsLaidOut, IsKept, pair_of, shows}
+use Rattle.gate_journal.specs.declared.place.Place.{Place}
+use Rattle.gate_journal.proofs.Laid.{shown}
+use Rattle.gate_journal.proofs.Appended.{laid_storing, laid_stored, laid_long}
+use Rattle.gate_journal.proofs.Stored.{IsLong}
+
+pub kept_long : (content : Option (List ℕ)) (may_leave : List ℕ → Type 0) (count held : ℕ) (places : List Place) (shut : Option (ℕ × ℕ)) → IsKept content may_leave count held places shut → IsLong held content
+kept_long None may_leave count held places shut kept = tt
+kept_long (Some bytes) may_leave count held places shut kept = laid_long kept.told.1
+
+module _ (payload : List ℕ) (few : length payload < 2 ^ 64) where
+  pub kept_failed : (content now : Option (List ℕ)) (may_leave after : List ℕ → Type 0) (count held : ℕ) (places : List Place) (rose : ℕ × ℕ) → IsKept content may_leave count held places None
+      → BothTold (IsStoring held (entry_bytes payload)) content now → HasRisen rose.0 rose.1 → IsKept now after count held places (Some rose)
+  kept_failed None now may_leave after count held places rose kept both risen = record {
+    gate = kept.gate;
+    counted = kept.counted;
+    told = subst (λ (o : Option (List ℕ)). IfSome o (λ bytes. (records : List (List ℕ)) × IsLaidOut records count held places (Some rose) bytes)) (sym both) tt;
+    durable = λ is. absurd (none-some rose (sym is));
+    risen = risen;
+  }
+  kept_failed (Some bytes) now may_leave after count held places rose kept both risen = record {
+    gate = kept.gate;
+    counted = kept.counted;
+    told = subst (λ (o : Option (List ℕ)). IfSome o (λ b. (records : List (List ℕ)) × IsLaidOut records count held places (Some rose) b)) (sym both.1)
+        (kept.told.0, laid_storing kept.told.1 (entry_bytes payload) both.0 rose both.2);
+    durable = λ is. absurd (none-some rose (sym is));
+    risen = risen;
+  }
+
+  pub shows_failed : (content now : Option (List ℕ)) (may_leave : List ℕ → Type 0) (count held : ℕ) (places : List Place) → IsKept content may_leave count held places None
+      → BothTold (IsStoring held (entry_bytes payload)) content now → shows count now ≡ shows count content
+  shows_failed None now may_leave count held places kept both = ap (λ (o : Option (List ℕ)). shows count o) both
+  shows_failed (Some bytes) now may_leave count held places kept both =
+      ap (λ (o : Option (List ℕ)). shows count o) both.1
+      ∙ ap (λ (l : List (List ℕ)). Some l) (shown (laid_storing kept.told.1 (entry_bytes payload) both.0 (0, 0) both.2) ∙ sym (shown kept.told.1))
+
+  pub kept_stored : (content now : Option (List ℕ)) (may_leave after : List ℕ → Type 0) (count held : ℕ) (places : List Place) (place : Place) → IsKept content may_leave count held places None
+      → now ≡ option_map (stored held (entry_bytes payload)) content → IsOnly now after → count < length places → pair_of place ≡ (held + 8, length payload)
+      → IsKept now after (count + 1) (held + (length payload + 9)) (set places count place) None
+  kept_stored None now may_leave after count held places place kept is only room at = record {
+    gate = omega (arith, kept.gate);
+    counted = omega (arith, room, length-set places count place);
+    told = subst (λ (o : Option (List ℕ)). IfSome o (λ b. (records : List (List ℕ)) × IsLaidOut records (count + 1) (held + (length payload + 9)) (set places count place) None b)) (sym is) tt;
+    durable = λ _. only;
+    risen = tt;
+  }
+  kept_stored (Some bytes) now may_leave after count held places place kept is only room at = record {
+    gate = omega (arith, kept.gate);
+    counted = omega (arith, room, length-set places count place);
+    told = subst (λ (o : Option (List ℕ)). IfSome o (λ b. (records : List (List ℕ)) × IsLaidOut records (count + 1) (held + (length payload + 9)) (set places count place) None b)) (sym is)
+        (kept.told.0 ++ payload ∷ [], laid_stored kept.told.1 payload place few room at);
+    durable = λ _. only;
+    risen = tt;
+  }
+
+  pub shows_stored : (content now : Option (List ℕ)) (may_leave after : List ℕ → Type 0) (count held : ℕ) (places : List Place) (place : Place) → IsKept content may_leave count held places None
+      → now ≡ option_map (stored held (entry_bytes payload)) content → count < length places → pair_of place ≡ (held + 8, length payload)
+      → shows (count + 1) now ≡ option_map (λ all. all ++ payload ∷ []) (shows count content)
+  shows_stored None now may_leave after count held places place kept is room at = ap (λ (o : Option (List ℕ)). shows (count + 1) o) is
+  shows_stored (Some bytes) now may_leave after count held places place kept is room at =
+      ap (λ (o : Option (List ℕ)). shows (count + 1) o) is
+      ∙ ap (λ (l : List (List ℕ)). Some l) (shown (laid_stored kept.told.1 payload place few room at) ∙ ap (λ (l : List (List ℕ)). l ++ payload ∷ []) (sym (shown kept.told.1)))
+
+-- the same of an open journal, where what was stored is called new
+module _ (payload : List ℕ) (few : length payload < 2 ^ 64) (new : List ℕ) (spelled_out : new ≡ entry_bytes payload) (content : Option (List ℕ)) (may_leave : List ℕ → Type 0) (count held : ℕ) (places : List Place) (shut : Option (ℕ × ℕ))
+    (opened : shut ≡ None) (kept : IsKept content may_leave count held places shut) where
+  at_open : IsKept content may_leave count held places None
+  at_open = subst (λ (s : Option (ℕ × ℕ)). IsKept content may_leave count held places s) opened kept
+
+  pub open_failed : (now : Option (List ℕ)) (after : List ℕ → Type 0) (rose : ℕ × ℕ) → BothTold (IsStoring held new) content now → HasRisen rose.0 rose.1 → IsKept now after count held places (Some rose)
+  open_failed now after rose both risen = kept_failed payload few content now may_leave after count held places rose at_open (subst (λ (l : List ℕ). BothTold (IsStoring held l) content now) spelled_out both) risen
+
+  pub open_failed_shows : (now : Option (List ℕ)) → BothTold (IsStoring held new) content now → shows count now ≡ shows count content
+  open_failed_shows now both = shows_failed payload few content now may_leave count held places at_open (subst (λ (l : List ℕ). BothTold (IsStoring held l) content now) spelled_out both)
+
+  pub open_stored : (now : Option (List ℕ)) (after : List ℕ → Type 0) (place : Place) → now ≡ option_map (stored held new) content → IsOnly now after → count < length places → pair_of place ≡ (held + 8, length payload)
+      → IsKept now after (count + 1) (held + (length payload + 9)) (set places count place) shut
+  open_stored now after place is only room at =
+      subst (λ (s : Option (ℕ × ℕ)). IsKept now after (count + 1) (held + (length payload + 9)) (set places count place) s) (sym opened)
+      (kept_stored payload few content now may_leave after count held places place at_open (subst (λ (l : List ℕ). now ≡ option_map (stored held l) content) spelled_out is) only room at)
+
+  pub open_stored_shows : (now : Option (List ℕ)) (place : Place) → now ≡ option_map (stored held new) content → count < length places → pair_of place ≡ (held + 8, length payload)
+      → shows (count + 1) now ≡ option_map (λ all. all ++ payload ∷ []) (shows count content)
+  open_stored_shows now place is room at =
+      shows_stored payload few content now may_leave may_leave count held places place at_open (subst (λ (l : List ℕ). now ≡ option_map (stored held l) content) spelled_out is) room at
+
+-- room for a record is a place that is free
+pub place_free : (count size room n : ℕ) → n < cond (nat_lt count size) room 0 → count < size
+place_free count size room n lt = grind (arith, nat_tests)
+
+-- other places behind those of the records
+pub kept_places : (content : Option (List ℕ)) (may_leave : List ℕ → Type 0) (count held : ℕ) (places more : List Place) (shut : Option (ℕ × ℕ)) → IsKept content may_leave count held places shut → count ≤ length more → take count more ≡ take count places
+    → IsKept content may_leave count held more shut
+kept_places None may_leave count held places more shut kept counted same = record { gate = kept.gate; counted = counted; told = tt; durable = kept.durable; risen = kept.risen }
+kept_places (Some bytes) may_leave count held places more shut kept counted same =
+    let laid = kept.told.1 in
+    record {
+      gate = kept.gate;
+      counted = counted;
+      told = (
+        kept.told.0,
+        record {
+          gate = laid.gate;
+          tail = laid.tail;
+          split = laid.split;
+          closed = laid.closed;
+          held_is = laid.held_is;
+          count_is = laid.count_is;
+          places_are = ap (λ (l : List Place). map pair_of l) same ∙ laid.places_are;
+          small = laid.small;
+        },
+      );
+      durable = kept.durable;
+      risen = kept.risen;
+    }
+
+pub more_room : (count few many room : ℕ) → few ≤ many → cond (nat_lt count few) room 0 ≤ cond (nat_lt count many) room 0
+more_room count few many room le = grind (arith, nat_tests)
+
+-- reads change nothing of it, and a fault shuts it
+pub kept_read : (content now : Option (List ℕ)) (may_leave after : List ℕ → Type 0) (count held : ℕ) (places : List Place) (shut : Option (ℕ × ℕ)) → IsKept content may_leave count held places shut → now ≡ content → ((c : List ℕ) → after c → may_leave c)
+    → IsKept now after count held places shut
+kept_read content now may_leave after count held places shut kept same fewer = record {
+  gate = kept.gate;
+  counted = kept.counted;
+  told = subst (λ (o : Option (List ℕ)). IfSome o (λ bytes. (records : List (List ℕ)) × IsLaidOut records count held places shut bytes)) (sym same) kept.told;
+  durable = λ opened c left. same ∙ kept.durable opened c (fewer c left);
+  risen = kept.risen;
+}
+
+pub kept_shut : (content : Option (List ℕ)) (may_leave : List ℕ → Type 0) (count held : ℕ) (places : List Place) (shut : Option (ℕ × ℕ)) (rose : ℕ × ℕ) → IsKept content may_leave count held places shut → HasRisen rose.0 rose.1
+    → IsKept content may_leave count held places (Some (unwrap_or shut rose))
+kept_shut None may_leave count held places None rose kept risen = record { gate = kept.gate; counted = kept.counted; told = tt; durable = λ is. absurd (none-some rose (sym is)); risen = risen }
+kept_shut (Some bytes) may_leave count held places None rose kept risen =
+    let laid = kept.told.1 in
+    record {
+      gate = kept.gate;
+      counted = kept.counted;
+      told = (
+        kept.told.0,
+        record {
+          gate = laid.gate;
+          tail = laid.tail;
+          split = laid.split;
+          closed = λ is. absurd (none-some rose (sym is));
+          held_is = laid.held_is;
+          count_is = laid.count_is;
+          places_are = laid.places_are;
+          small = laid.small;
+        },
+      );
+      durable = λ is. absurd (none-some rose (sym is));
+      risen = risen;
+    }
+kept_shut content may_leave count held places (Some first) rose kept risen = kept
+
+-- an opened file
+pub kept_found : (content : Option (List ℕ)) (may_leave : List ℕ → Type 0) (count held : ℕ) (places : List Place) → 17 ≤ held → count ≡ length places → IfSome content (λ bytes. (records : List (List ℕ)) × IsLaidOut records (length places) held places None bytes) → IsOnly content may_leave
+    → IsKept content may_leave count held places None
+kept_found content may_leave count held places gate all told only =
+    subst (λ (n : ℕ). IsKept content may_leave n held places None) (sym all) (record { gate = gate; counted = omega arith; told = told; durable = λ _. only; risen = tt })
+
+pub or_is : (shut : Option (ℕ × ℕ)) (rose : ℕ × ℕ) → option_or shut (Some rose) ≡ Some (unwrap_or shut rose)
+or_is None rose = refl
+or_is (Some first) rose = refl

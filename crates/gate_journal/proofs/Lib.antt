@@ -1,0 +1,16 @@
+mod Appended
+mod Begun
+mod Damage
+mod Filled
+mod Found
+mod Guarding
+mod Heads
+mod Keeping
+mod Laid
+mod Moments
+mod Opened
+mod Placed
+mod Records
+mod Stored
+mod Torn
+mod Whole

@@ -1,0 +1,53 @@
+-- Where a journal's records lie.
+use Rattle.std.proofs.Common.{◌≡◌, ℕ, zero, suc, ◌+◌, ◌≤◌, ◌<◌, Option, Some, None, List, [], ◌∷◌, ◌++◌, map, length, get_or, take, drop, IfSome, refl, sym, ◌∙◌, ap, subst, arith, length-append, length-drop}
+use Rattle.std.proofs.lemmas.List.{take_at, drop_at, drop-drop, get_or-take}
+use Rattle.std.specs.Prelude.{slice_get}
+use Rattle.std.specs.Int.{w64, to_be_bytes}
+use Rattle.gate_journal.specs.Format.{spelled}
+use Rattle.gate_journal.specs.Kept.{IsLaidOut, IsKept, places_of, pair_of, shows}
+use Rattle.gate_journal.specs.declared.place.Place.{Place}
+use Rattle.gate_journal.proofs.Records.{length-to_be_bytes, spelled-more}
+use Rattle.gate_journal.proofs.Laid.{shown}
+
+-- a record is there
+pub record IsPlaced (records : List (List ℕ)) (index at size : ℕ) (bytes : List ℕ) : Type 0 where
+  pub payload : slice_get records index ≡ Some (take size (drop at bytes))
+  pub within : at + size ≤ length bytes
+
+pub placed : (records : List (List ℕ)) (rest bytes : List ℕ) (at index : ℕ) (d : ℕ × ℕ) → drop at bytes ≡ spelled records ++ rest → index < length records
+    → IsPlaced records index (get_or (places_of at records) index d).0 (get_or (places_of at records) index d).1 bytes
+placed [] rest bytes at index d is lt = absurd (omega (arith, lt))
+placed (payload ∷ records) rest bytes at zero d is lt =
+    let there : drop (at + 9) bytes ≡ payload ++ (spelled records ++ rest) =
+    sym (drop-drop 9 at bytes) ∙ ap (λ (l : List ℕ). drop 9 l) (is ∙ spelled-more payload records rest) ∙ drop_at (1 ∷ to_be_bytes w64 (length payload)) (payload ++ (spelled records ++ rest)) 9 refl in
+    record {
+      payload = ap (λ (l : List ℕ). Some l) (sym (ap (λ (l : List ℕ). take (length payload) l) there ∙ take_at payload (spelled records ++ rest) (length payload) refl));
+      within = omega (arith, ap (λ (l : List ℕ). length l) (is ∙ spelled-more payload records rest), length-drop at bytes, length-append (to_be_bytes w64 (length payload)) (payload ++ (spelled records ++ rest)), length-append payload (spelled records ++ rest), length-to_be_bytes (length payload));
+    }
+placed (payload ∷ records) rest bytes at (suc index) d is lt =
+    let there : drop (at + 9 + length payload) bytes ≡ spelled records ++ rest =
+    sym (drop-drop (length payload) (at + 9) bytes)
+    ∙ ap (λ (l : List ℕ). drop (length payload) l) (sym (drop-drop 9 at bytes) ∙ ap (λ (l : List ℕ). drop 9 l) (is ∙ spelled-more payload records rest) ∙ drop_at (1 ∷ to_be_bytes w64 (length payload)) (payload ++ (spelled records ++ rest)) 9 refl)
+    ∙ drop_at payload (spelled records ++ rest) (length payload) refl in
+    let more = placed records rest bytes (at + 9 + length payload) index d there (omega (arith, lt)) in
+    record { payload = more.payload; within = more.within }
+
+get_or-map : (places : List Place) (index : ℕ) (d : Place) → get_or (map pair_of places) index (pair_of d) ≡ pair_of (get_or places index d)
+get_or-map [] index d = refl
+get_or-map (place ∷ places) zero d = refl
+get_or-map (place ∷ places) (suc index) d = get_or-map places index d
+
+-- the record of a journal at a place that was kept for it
+pub laid_place : {records : List (List ℕ)} {count held : ℕ} {places : List Place} {shut : Option (ℕ × ℕ)} {bytes : List ℕ} (laid : IsLaidOut records count held places shut bytes) (index : ℕ) (place : Place) → index < count → place ≡ get_or places index place
+    → IsPlaced records index place.at place.size bytes
+laid_place {records} {count} {held} {places} {shut} {bytes} laid index place lt is =
+    let there : drop 16 bytes ≡ spelled records ++ laid.gate ∷ laid.tail = ap (λ (l : List ℕ). drop 16 l) laid.split in
+    let pair : get_or (places_of 16 records) index (pair_of place) ≡ pair_of place =
+    ap (λ (l : List (ℕ × ℕ)). get_or l index (pair_of place)) (sym laid.places_are) ∙ get_or-map (take count places) index place ∙ ap (λ (p : Place). pair_of p) (get_or-take count places index place lt ∙ sym is) in
+    subst (λ (p : ℕ × ℕ). IsPlaced records index p.0 p.1 bytes) pair (placed records (laid.gate ∷ laid.tail) bytes 16 index (pair_of place) there (omega (arith, lt, laid.count_is)))
+
+pub read_place : (content : Option (List ℕ)) (may_leave : List ℕ → Type 0) (count held : ℕ) (places : List Place) (shut : Option (ℕ × ℕ)) (index : ℕ) (place : Place) (payload : List ℕ) → IsKept content may_leave count held places shut → index < count → place ≡ get_or places index place
+    → IfSome content (λ bytes. payload ≡ take place.size (drop place.at bytes)) → IfSome (shows count content) (λ all. slice_get all index ≡ Some payload)
+read_place None may_leave count held places shut index place payload kept lt is read = tt
+read_place (Some bytes) may_leave count held places shut index place payload kept lt is read =
+    ap (λ (l : List (List ℕ)). slice_get l index) (shown kept.told.1) ∙ (laid_place kept.told.1 index place lt is).payload ∙ ap (λ (l : List ℕ). Some l) (sym read)

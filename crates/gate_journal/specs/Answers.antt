@@ -1,0 +1,55 @@
+-- When a call of a journal is refused, and what each refusal leaves.
+use Rattle.std.specs.Prelude.{◌≡◌, ◌<◌, ◌≤◌, ℕ, ◌+◌, Some, None, Result, Ok, Err, List, length}
+use Rattle.std.specs.Option.{unwrap_or}
+use Rattle.disk_api.specs.Faults.{HasRisen}
+use Rattle.gate_journal.specs.View.{View}
+use Rattle.gate_journal.specs.declared.fault.OpenRefused.{OpenRefused}
+use Rattle.gate_journal.specs.declared.fault.JournalFault.{JournalFault}
+use Rattle.gate_journal.specs.declared.fault.JournalFault.TheVariants.{DiskFault as ReadFault, Damaged, Memory}
+use Rattle.gate_journal.specs.declared.fault.AppendFault.{AppendFault}
+use Rattle.gate_journal.specs.declared.fault.AppendFault.TheVariants.{Shut, JournalFull, DiskFault}
+
+-- the journal is open, and a record of the needed bytes fits
+pub record HasPlace {D : Type 0} (journal : View D) (needed : ℕ) : Type 0 where
+  pub is_open : journal.shut ≡ None
+  pub fits : journal.held + needed ≤ journal.limit
+
+pub record IsShutAnswer {D : Type 0} (rose : ℕ × ℕ) (old new : View D) : Type 0 where
+  pub shut : old.shut ≡ Some rose
+  pub same : new ≡ old
+
+pub record IsFullAnswer {D : Type 0} (held needed : ℕ) (payload : List ℕ) (old new : View D) : Type 0 where
+  pub is_open : old.shut ≡ None
+  pub held_is : held ≡ old.held
+  pub needed_is : needed ≡ length payload + 9
+  pub past : old.limit < held + needed
+  pub same : new ≡ old
+
+pub record IsFaultAnswer {D : Type 0} (fault_count : D → ℕ) (rose : ℕ × ℕ) (payload : List ℕ) (old new : View D) : Type 0 where
+  pub place : HasPlace old (length payload + 9)
+  pub before : rose.0 ≡ fault_count old.disk
+  pub after : rose.1 ≡ fault_count new.disk
+  pub risen : HasRisen rose.0 rose.1
+  pub shut : new.shut ≡ Some rose
+  pub doubt : new.doubt ≡ Some payload
+  pub room : old.room ≤ new.room
+
+abbrev pub IsAppendFault : {D : Type 0} → (D → ℕ) → AppendFault D → List ℕ → View D → View D → Type 0
+IsAppendFault fault_count (Shut rose) payload old new = IsShutAnswer rose old new
+IsAppendFault fault_count (JournalFull held needed) payload old new = IsFullAnswer held needed payload old new
+IsAppendFault fault_count (DiskFault rose) payload old new = IsFaultAnswer fault_count rose payload old new
+
+-- a fault of the disk shuts the journal, if it wasn't; a record that was found is never answered as damaged
+abbrev pub IsReadFault : {D : Type 0} → (D → ℕ) → JournalFault → View D → View D → Type 0
+IsReadFault fault_count ReadFault old new = HasRisen (fault_count old.disk) (fault_count new.disk) × (new.shut ≡ Some (unwrap_or old.shut (fault_count old.disk, fault_count new.disk)))
+IsReadFault fault_count (Damaged at) old new = ⊥
+IsReadFault fault_count Memory old new = new.shut ≡ old.shut
+
+-- the same but for the disk and whether it is shut
+abbrev pub IsSameButDisk : {D : Type 0} → View D → View D → Type 0
+IsSameButDisk old new = new ≡ record old { disk = new.disk; shut = new.shut }
+
+-- the disk, whatever opening answered
+abbrev pub disk_after : {D : Type 0} → Result (View D) (OpenRefused D) → D
+disk_after (Ok journal) = journal.disk
+disk_after (Err refused) = refused.disk

@@ -1,0 +1,6 @@
+pub mod Answers
+pub mod Format
+pub mod Kept
+pub mod Reading
+pub mod Storing
+pub mod View
