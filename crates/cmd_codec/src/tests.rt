@@ -46,8 +46,7 @@ fn test_net() -> Origin {
     origin(false, 0xc000_0200, 24, 24, 4_200_000_000)
 }
 
-fn update(alloc: Global, added: &[Origin], removed: &[Origin]) -> Result<Command, AllocError>
-{
+fn update(alloc: Global, added: &[Origin], removed: &[Origin]) -> Result<Command, AllocError> {
     let added = OriginList::new(alloc, added.to_vec(alloc)?)?;
     let removed = OriginList::new(alloc, removed.to_vec(alloc)?)?;
     Ok(Command::UpdateRoas { added, removed })

@@ -1,0 +1,119 @@
+-- What a commit does to a desk, by what its parts do.
+use Rattle.std.proofs.Common.{◌≡◌, ◌⊎◌, ◌≤◌, ◌<◌, ◌+◌, ◌-◌, ◌^◌, ℕ, Option, Some, None, List, [], ◌∷◌, ◌++◌, length, refl, sym, ◌∙◌, ap, subst, arith}
+use Rattle.std.specs.Prelude.{IfSome, IsSome, min}
+use Rattle.std.specs.Option.{option_map}
+use Rattle.std.proofs.lemmas.List.{length-map}
+use Rattle.disk_api.specs.Images.{LeavesOnly}
+use Rattle.authority_book.specs.declared.commands.Command.{Command}
+use Rattle.authority_book.specs.Settings.{Settings}
+use Rattle.authority_book.specs.Fold.{after, after_all, fold_of, empty_settings, IsFoldOf, Taken}
+use Rattle.cmd_codec.specs.Spelling.{spelling, IsRecordable}
+use Rattle.gate_journal.specs.View.{View, Holds, StandsForOrWith, IsSafe, IsSameButRoom}
+use Rattle.gate_journal.specs.Answers.{IsAppendFault}
+use Rattle.gate_journal.specs.declared.fault.AppendFault.{AppendFault}
+use Rattle.gate_journal.specs.declared.fault.AppendFault.TheVariants.{Shut, JournalFull, DiskFault}
+use Rattle.desk_core.specs.View.{journal_limit}
+use Rattle.desk_core.specs.View as desk
+use Rattle.desk_core.specs.Answers.{HasPlace, IsDeskFault, fault_of}
+use Rattle.desk_core.specs.Commands.{Records, HasCommands}
+use Rattle.desk_core.specs.Images.{HoldsTold}
+use Rattle.desk_core.specs.Kept.{IsKept, IsLoaded}
+use Rattle.desk_core.proofs.Moments.{weaker}
+use Rattle.desk_core.proofs.Recorded.{records_push}
+
+-- a desk with these parts
+abbrev pub desk_of : {D : Type 0} → ℕ → Settings → List (List ℕ) → View D → desk.View D
+desk_of number settings records j = record { disk = j.disk; number = number; settings = settings; records = records; held = j.held; shut = j.shut; doubt = j.doubt }
+
+-- an image of the journal's is one of the desk's
+told_with : (content : Option (List ℕ)) (limit : ℕ) (shown : Option (List (List ℕ))) (records : List (List ℕ)) (payload file : List ℕ) → limit ≡ journal_limit →
+    IfSome content (λ _. IsSome shown) → IfSome shown (λ all. all ≡ records) → StandsForOrWith limit shown payload file → HoldsTold content records (Some payload) file
+told_with None limit shown records payload file is known same stands = tt
+told_with (Some bytes) limit None records payload file is known same stands = cc
+told_with (Some bytes) limit (Some all) records payload file is known same stands =
+    let here = subst (λ (r : List (List ℕ)). Holds limit r file ⊎ Holds limit (r ++ payload ∷ []) file) same stands in
+    subst (λ (n : ℕ). Holds n records file ⊎ Holds n (records ++ payload ∷ []) file) is here
+
+-- each moment of an append is one of the desk's
+pub moments : {D : Type 0} (content : D → Option (List ℕ)) (may_leave : D → List ℕ → Type 0) (moment : D → ℕ) (left_since : D → ℕ → List ℕ → Type 0)
+    (number : ℕ) (settings : Settings) (records : List (List ℕ)) (command : Command) (payload : List ℕ) (old mid new : View D) → IsKept content may_leave number settings records old →
+    IsSameButRoom old mid → payload ≡ spelling command →
+    (mid.shut ≡ None → LeavesOnly moment left_since mid.disk new.disk (StandsForOrWith mid.limit mid.records payload)) →
+    old.shut ≡ None → LeavesOnly moment left_since old.disk new.disk (HoldsTold (content old.disk) records (Some (spelling command)))
+moments content may_leave moment left_since number settings records command payload old mid new kept same spelled any is_open =
+    let mine = subst (λ (j : View _). j.shut ≡ None → LeavesOnly moment left_since j.disk new.disk (StandsForOrWith j.limit j.records payload)) same any is_open in
+    weaker content may_leave moment left_since old.disk new.disk (StandsForOrWith old.limit old.records payload) (HoldsTold (content old.disk) records (Some (spelling command))) mine
+    (λ c stands. told_with (content old.disk) old.limit old.records records (spelling command) c kept.limit kept.safe.told kept.told (subst (λ (p : List ℕ). StandsForOrWith old.limit old.records p c) spelled stands))
+
+told_push : (old new : Option (List (List ℕ))) (records : List (List ℕ)) (payload : List ℕ) → IfSome old (λ all. all ≡ records) →
+    new ≡ option_map (λ all. all ++ payload ∷ []) old → IfSome new (λ all. all ≡ records ++ payload ∷ [])
+told_push None new records payload same is = subst (λ (o : Option (List (List ℕ))). IfSome o (λ all. all ≡ records ++ payload ∷ [])) (sym is) tt
+told_push (Some all) new records payload same is = subst (λ (o : Option (List (List ℕ))). IfSome o (λ all. all ≡ records ++ payload ∷ [])) (sym is) (ap (λ (r : List (List ℕ)). r ++ payload ∷ []) same)
+
+-- a desk with one record more
+pub kept_push : {D : Type 0} (content : D → Option (List ℕ)) (may_leave : D → List ℕ → Type 0) (number : ℕ) (settings next : Settings) (records more : List (List ℕ)) (payload : List ℕ) (old mid new : View D) →
+    IsKept content may_leave number settings records old → IsSameButRoom old mid → new.records ≡ option_map (λ all. all ++ payload ∷ []) mid.records → new.limit ≡ mid.limit →
+    IsSafe content may_leave new → more ≡ records ++ payload ∷ [] → IsLoaded number next (records ++ payload ∷ []) → IsKept content may_leave number next more new
+kept_push content may_leave number settings next records more payload old mid new kept same appended limit safe pushed loaded = record {
+  loaded = subst (λ (r : List (List ℕ)). IsLoaded number next r) (sym pushed) loaded;
+  told = subst (λ (r : List (List ℕ)). IfSome new.records (λ all. all ≡ r)) (sym pushed)
+      (told_push old.records new.records records payload kept.told (appended ∙ ap (λ (j : View _). option_map (λ (all : List (List ℕ)). all ++ payload ∷ []) j.records) same));
+  limit = limit ∙ (ap (λ (j : View _). j.limit) same ∙ kept.limit);
+  safe = safe;
+}
+
+-- and its commands
+pub has_push : {D : Type 0} (number : ℕ) (settings next : Settings) (records more : List (List ℕ)) (payload : List ℕ) (command : Command) (old new : View D) → IsRecordable command → payload ≡ spelling command →
+    more ≡ records ++ payload ∷ [] → ((desk : ℕ) (commands : List Command) → IsFoldOf settings desk commands → IsFoldOf next desk (commands ++ command ∷ [])) →
+    ((desk : ℕ) (commands : List Command) → IsFoldOf settings desk commands → Taken desk commands → Taken desk (commands ++ command ∷ [])) →
+    (commands : List Command) → HasCommands (desk_of number settings records old) commands → HasCommands (desk_of number next more new) (commands ++ command ∷ [])
+has_push number settings next records more payload command old new recordable spelled pushed folds takes commands has = record {
+  recorded = subst (λ (r : List (List ℕ)). Records number r (commands ++ command ∷ [])) (sym pushed) (records_push number settings records payload commands command recordable spelled (takes number) has.recorded has.fold);
+  fold = folds number commands has.fold;
+}
+
+-- a journal's refusal is the desk's
+pub refused_of : {D : Type 0} (fault_count : D → ℕ) (fault : AppendFault D) (payload : List ℕ) (command : Command) (signers number : ℕ) (settings next : Settings) (records more : List (List ℕ)) (old mid new : View D) →
+    old.limit ≡ journal_limit → IsSameButRoom old mid → next ≡ settings → more ≡ records → payload ≡ spelling command → HasPlace (desk_of number settings records old) command signers →
+    IsAppendFault fault_count fault payload mid new → new.held ≡ mid.held → IsRecordable command → IsDeskFault fault_count (fault_of number fault) command signers (desk_of number settings records old) (desk_of number next more new)
+refused_of fault_count (Shut rose) payload command signers number settings next records more old mid new limit same now_settings now_records spelled place answer held recordable =
+    let shut : mid.shut ≡ Some rose = answer.shut in
+    let was : mid.shut ≡ old.shut = ap (λ (j : View _). j.shut) same in
+    let is_open : old.shut ≡ None = place.may_come.is_open in
+    let no : Some rose ≡ None = sym shut ∙ (was ∙ is_open) in cc
+refused_of fault_count (JournalFull h n) payload command signers number settings next records more old mid new limit same now_settings now_records spelled place answer held recordable =
+    let was_limit : mid.limit ≡ old.limit = ap (λ (j : View _). j.limit) same in
+    let was_held : mid.held ≡ old.held = ap (λ (j : View _). j.held) same in
+    let long : length payload ≡ length (spelling command) = ap length spelled in
+    let past : mid.limit < h + n = answer.past in
+    let h_is : h ≡ mid.held = answer.held_is in
+    let n_is : n ≡ length payload + 9 = answer.needed_is in
+    let fits : old.held + (length (spelling command) + 9) ≤ journal_limit = place.fits in
+    absurd (omega arith)
+refused_of fault_count (DiskFault rose) payload command signers number settings next records more old mid new limit same now_settings now_records spelled place answer held recordable = record {
+  place = place;
+  desk = refl;
+  before = answer.before ∙ ap (λ (j : View _). fault_count j.disk) same;
+  after = answer.after;
+  risen = answer.risen;
+  recordable = recordable;
+  same =
+      let was_held : new.held ≡ old.held = held ∙ ap (λ (j : View _). j.held) same in
+      let doubt : new.doubt ≡ Some (spelling command) = answer.doubt ∙ ap Some spelled in
+      let shut : new.shut ≡ Some rose = answer.shut in
+      λ i. record { disk = new.disk; number = number; settings = now_settings i; records = now_records i; held = was_held i; shut = shut i; doubt = doubt i };
+}
+
+-- how many commands were accepted, as far as a count goes
+count_of : (settings : Settings) (commands : List Command) → settings.count ≤ 2 ^ 64 - 1 → (after_all settings commands).count ≡ min (settings.count + length commands) (2 ^ 64 - 1)
+count_of settings [] small = omega arith
+count_of settings (command ∷ commands) small =
+    let rest = count_of (after settings command) commands (omega arith) in
+    omega (arith, rest)
+
+pub counts_records : (number : ℕ) (settings : Settings) (records : List (List ℕ)) → IsLoaded number settings records → length records < 2 ^ 64 - 1 → settings.count ≡ length records
+counts_records number settings records loaded small =
+    let spelled : length records ≡ length loaded.commands = ap length loaded.recorded.spelled ∙ length-map loaded.commands spelling in
+    let all = count_of (empty_settings number) loaded.commands (omega arith) in
+    let same : settings.count ≡ (fold_of number loaded.commands).count = loaded.fold.same_count in
+    omega (arith, all, same, spelled)

@@ -1,0 +1,6 @@
+pub mod Recorded
+pub mod Moments
+pub mod Loading
+pub mod Listed
+pub mod Committed
+pub mod Opened

@@ -1,0 +1,92 @@
+use Rattle.std.proofs.Common.{◌≡◌, ◌++◌, ◌∙◌, ◌^◌, ◌-◌, ◌<◌, [], ◌∷◌, ℕ, List, Vec, Global, Some, map, length, sym, ap, subst, arith, rules}
+use Rattle.std.proofs.lemmas.List.{map-append, length-map}
+use Rattle.disk_api.specs.Images.{LeavesOnly}
+use Rattle.authority_book.specs.declared.commands.Command.{Command}
+use Rattle.authority_book.specs.Settings.{Settings}
+use Rattle.authority_book.specs.Fold.{IsFoldOf}
+use Rattle.cmd_codec.specs.Spelling.{spelling}
+use Rattle.desk_core.specs.View.{View}
+use Rattle.desk_core.specs.Answers.{HasPlace, IsDeskFault, fault_of}
+use Rattle.desk_core.specs.declared.faults.DeskFault.{DeskFault}
+use Rattle.desk_core.specs.Images.{HoldsTold}
+use Rattle.desk_core.specs.Commands.{HasCommands}
+use Rattle.desk_core.proofs.Recorded.{loaded_push}
+use Rattle.desk_core.proofs.Committed.{desk_of, has_push, kept_push, moments, refused_of, counts_records}
+use Rattle.desk_core.proofs.desk.Desk.commit.Goals.{in-Some-6, in-None-6}
+use Rattle.desk_core.proofs.desk.Desk.commit.Goals as goal
+
+pub invariant_of-self-in-Ok-append : goal.invariant_of-self-in-Ok-append
+invariant_of-self-in-Ok-append g c =
+    let inside = c.self.inside in
+    let payload = c.as_slice.result.now in
+    let spelled : payload ≡ spelling c.args.command = c.as_slice.ensures.value ∙ c.in-Ok.ensures.payload.0 in
+    let items : c.push_reserved.new.self.items ≡ inside.records.items ++ c.in-Ok.payload ∷ [] = search rules in
+    let was : c.prepare.new.config.settings ≡ inside.config.settings = c.prepare.ensures.config in
+    let records = map (λ (p : Vec ℕ Global). p.items) inside.records.items in
+    let pushed : map (λ (p : Vec ℕ Global). p.items) c.push_reserved.new.self.items ≡ records ++ payload ∷ [] =
+    ap (λ (l : List (Vec ℕ Global)). map (λ (p : Vec ℕ Global). p.items) l) items ∙ (map-append (λ (p : Vec ℕ Global). p.items) inside.records.items (c.in-Ok.payload ∷ []) ∙ ap (λ (p : List ℕ). records ++ p ∷ []) (sym c.as_slice.ensures.value)) in
+    let loaded = loaded_push inside.number inside.config.settings c.apply.new.self.settings records payload c.args.command c.in-Ok.ensures.recordable spelled
+    (λ desk commands is. c.apply.ensures.fold desk commands (subst (λ (s : Settings). IsFoldOf s desk commands) (sym was) is))
+    (λ desk commands is taken. c.apply.ensures.taken desk commands (subst (λ (s : Settings). IsFoldOf s desk commands) (sym was) is) taken) c.self.invariant.loaded in
+    kept_push g.D.Disk.content g.D.Disk.may_leave inside.number inside.config.settings c.apply.new.self.settings records (map (λ (p : Vec ℕ Global). p.items) c.push_reserved.new.self.items) payload
+    inside.journal c.prepare.new.journal c.append.new.self c.self.invariant c.prepare.ensures.journal c.in-Ok-append.ensures.appended c.append.ensures.limit c.append.ensures.safe pushed loaded
+
+pub returns-in-Ok-append-clause-commands : goal.returns-in-Ok-append-clause-commands
+returns-in-Ok-append-clause-commands g c =
+    let inside = c.self.inside in
+    let payload = c.as_slice.result.now in
+    let spelled : payload ≡ spelling c.args.command = c.as_slice.ensures.value ∙ c.in-Ok.ensures.payload.0 in
+    let items : c.push_reserved.new.self.items ≡ inside.records.items ++ c.in-Ok.payload ∷ [] = search rules in
+    let was : c.prepare.new.config.settings ≡ inside.config.settings = c.prepare.ensures.config in
+    let records = map (λ (p : Vec ℕ Global). p.items) inside.records.items in
+    let pushed : map (λ (p : Vec ℕ Global). p.items) c.push_reserved.new.self.items ≡ records ++ payload ∷ [] =
+    ap (λ (l : List (Vec ℕ Global)). map (λ (p : Vec ℕ Global). p.items) l) items ∙ (map-append (λ (p : Vec ℕ Global). p.items) inside.records.items (c.in-Ok.payload ∷ []) ∙ ap (λ (p : List ℕ). records ++ p ∷ []) (sym c.as_slice.ensures.value)) in
+    subst (λ (old : View _). (commands : List Command) → HasCommands old commands → HasCommands (desk_of inside.number c.apply.new.self.settings (map (λ (p : Vec ℕ Global). p.items) c.push_reserved.new.self.items) c.append.new.self) (commands ++ c.args.command ∷ []))
+    c.self.view_is
+    (has_push inside.number inside.config.settings c.apply.new.self.settings records (map (λ (p : Vec ℕ Global). p.items) c.push_reserved.new.self.items) payload c.args.command inside.journal c.append.new.self c.in-Ok.ensures.recordable spelled pushed
+    (λ desk commands is. c.apply.ensures.fold desk commands (subst (λ (s : Settings). IsFoldOf s desk commands) (sym was) is))
+    (λ desk commands is taken. c.apply.ensures.taken desk commands (subst (λ (s : Settings). IsFoldOf s desk commands) (sym was) is) taken))
+
+pub returns-in-Ok-append-clause-counted : goal.returns-in-Ok-append-clause-counted
+returns-in-Ok-append-clause-counted g c =
+    let kept = invariant_of-self-in-Ok-append g c in
+    let all = c.push_reserved.new.self in
+    let records = map (λ (p : Vec ℕ Global). p.items) all.items in
+    let small : length records < 2 ^ 64 - 1 = omega (arith, all.small, all.ok, length-map all.items (λ (p : Vec ℕ Global). p.items)) in
+    let count : c.apply.new.self.settings.count ≡ length records = counts_records c.self.inside.number c.apply.new.self.settings records kept.loaded small in
+    (c.count.ensures ∙ count, c.count.ensures)
+
+pub returns-in-Ok-append-clause-any_moment : goal.returns-in-Ok-append-clause-any_moment
+returns-in-Ok-append-clause-any_moment g c is_open =
+    let inside = c.self.inside in
+    subst (λ (old : View _). LeavesOnly g.D.Disk.moment g.D.Disk.left_since old.disk c.append.new.self.disk (HoldsTold (g.D.Disk.content old.disk) old.records (Some (spelling c.args.command))))
+    c.self.view_is
+    (moments g.D.Disk.content g.D.Disk.may_leave g.D.Disk.moment g.D.Disk.left_since inside.number inside.config.settings (map (λ (p : Vec ℕ Global). p.items) inside.records.items) c.args.command c.as_slice.result.now
+    inside.journal c.prepare.new.journal c.append.new.self c.self.invariant c.prepare.ensures.journal (c.as_slice.ensures.value ∙ c.in-Ok.ensures.payload.0) c.append.ensures.any_moment (ap (λ (v : View _). v.shut) c.self.view_is ∙ is_open))
+
+pub returns-in-Err-clause-refused : goal.returns-in-Err-clause-refused
+returns-in-Err-clause-refused g c =
+    let inside = c.self.inside in
+    let records = map (λ (p : Vec ℕ Global). p.items) inside.records.items in
+    let more = map (λ (p : Vec ℕ Global). p.items) c.prepare.new.records.items in
+    let old = desk_of inside.number inside.config.settings records inside.journal in
+    let new = desk_of inside.number c.prepare.new.config.settings more c.append.new.self in
+    let same : c.match-command-6.self ≡ new = elim c.match-command-6.branch [ in-Some-6 w ↦ w.self-is | in-None-6 w ↦ w.self-is ] in
+    let place : HasPlace old c.args.command c.args.signers = subst (λ (v : View _). HasPlace v c.args.command c.args.signers) (sym c.self.view_is) c.in_default.ensures.answer in
+    let refused = refused_of g.D.Disk.fault_count c.in-Err.fault c.as_slice.result.now c.args.command c.args.signers inside.number inside.config.settings c.prepare.new.config.settings records more
+    inside.journal c.prepare.new.journal c.append.new.self c.self.invariant.limit c.prepare.ensures.journal c.prepare.ensures.config (ap (λ (l : List (Vec ℕ Global)). map (λ (p : Vec ℕ Global). p.items) l) c.prepare.ensures.records)
+    (c.as_slice.ensures.value ∙ c.in-Ok.ensures.payload.0) place c.in-Err.ensures.refused c.in-Err.ensures.kept.2 c.in-Ok.ensures.recordable in
+    let mine = subst (λ (v : View _). IsDeskFault g.D.Disk.fault_count (fault_of inside.number c.in-Err.fault) c.args.command c.args.signers v new) c.self.view_is refused in
+    let there = subst (λ (v : View _). IsDeskFault g.D.Disk.fault_count (fault_of inside.number c.in-Err.fault) c.args.command c.args.signers c.args.self.now v) (sym same) mine in
+    subst (λ (f : DeskFault _). IsDeskFault g.D.Disk.fault_count f c.args.command c.args.signers c.args.self.now c.match-command-6.self) (sym c.fault_of.ensures) there
+
+pub returns-in-Err-clause-any_moment : goal.returns-in-Err-clause-any_moment
+returns-in-Err-clause-any_moment g c is_open =
+    let inside = c.self.inside in
+    let records = map (λ (p : Vec ℕ Global). p.items) inside.records.items in
+    let new = desk_of inside.number c.prepare.new.config.settings (map (λ (p : Vec ℕ Global). p.items) c.prepare.new.records.items) c.append.new.self in
+    let same : c.match-command-6.self ≡ new = elim c.match-command-6.branch [ in-Some-6 w ↦ w.self-is | in-None-6 w ↦ w.self-is ] in
+    let any = moments g.D.Disk.content g.D.Disk.may_leave g.D.Disk.moment g.D.Disk.left_since inside.number inside.config.settings records c.args.command c.as_slice.result.now
+    inside.journal c.prepare.new.journal c.append.new.self c.self.invariant c.prepare.ensures.journal (c.as_slice.ensures.value ∙ c.in-Ok.ensures.payload.0) c.append.ensures.any_moment (ap (λ (v : View _). v.shut) c.self.view_is ∙ is_open) in
+    let mine = subst (λ (old : View _). LeavesOnly g.D.Disk.moment g.D.Disk.left_since old.disk c.append.new.self.disk (HoldsTold (g.D.Disk.content old.disk) old.records (Some (spelling c.args.command)))) c.self.view_is any in
+    subst (λ (v : View _). LeavesOnly g.D.Disk.moment g.D.Disk.left_since c.args.self.now.disk v.disk (HoldsTold (g.D.Disk.content c.args.self.now.disk) c.args.self.now.records (Some (spelling c.args.command)))) (sym same) mine

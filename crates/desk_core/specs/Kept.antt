@@ -1,0 +1,21 @@
+-- What a desk keeps true of its parts.
+use Rattle.std.specs.Prelude.{◌≡◌, ℕ, Option, List, IfSome}
+use Rattle.authority_book.specs.declared.commands.Command.{Command}
+use Rattle.authority_book.specs.Settings.{Settings}
+use Rattle.authority_book.specs.Fold.{IsFoldOf}
+use Rattle.gate_journal.specs.View.{View, IsSafe}
+use Rattle.desk_core.specs.View.{journal_limit}
+use Rattle.desk_core.specs.Commands.{Records}
+
+-- The payloads record commands of a desk, and the settings are what these come to.
+pub record IsLoaded (number : ℕ) (settings : Settings) (records : List (List ℕ)) : Type 0 where
+  pub commands : List Command
+  pub recorded : Records number records commands
+  pub fold : IsFoldOf settings number commands
+
+-- The payloads are the journal's, where its disk tells, and record the commands of the configuration.
+pub record IsKept {D : Type 0} (content : D → Option (List ℕ)) (may_leave : D → List ℕ → Type 0) (number : ℕ) (settings : Settings) (records : List (List ℕ)) (journal : View D) : Type 0 where
+  pub loaded : IsLoaded number settings records
+  pub told : IfSome journal.records (λ all. all ≡ records)
+  pub limit : journal.limit ≡ journal_limit
+  pub safe : IsSafe content may_leave journal

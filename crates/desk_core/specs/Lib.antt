@@ -1,0 +1,5 @@
+pub mod View
+pub mod Commands
+pub mod Answers
+pub mod Images
+pub mod Kept
