@@ -44,14 +44,14 @@ pub accepted_spelling-name : (old name : List ℕ) (count : ℕ) → AllPass is_
 accepted_spelling-name old name count plain = rw (escape-name name plain) (pieces-accepted old name (decimal count))
 
 -- digits need no escape
-escape-digits : (ds : List ℕ) → AllDigits 10 ds → escape ds ≡ ds
+pub escape-digits : (ds : List ℕ) → AllDigits 10 ds → escape ds ≡ ds
 escape-digits [] h = refl
 escape-digits (d ∷ ds) h =
     let first = digit_at (d ∷ ds) 0 h (omega arith) in
     let plain : escape_byte d ≡ d ∷ [] = escape_byte_plain d (λ e. omega (arith, first)) (λ e. omega (arith, first)) (omega (arith, first)) in
     rw plain (ap (λ t. d ∷ t) (escape-digits ds h.1))
 
-escape-decimal : (n : ℕ) → n < 2 ^ 64 → escape (decimal n) ≡ decimal n
+pub escape-decimal : (n : ℕ) → n < 2 ^ 64 → escape (decimal n) ≡ decimal n
 escape-decimal n fits = escape-digits (decimal n) (decimal_is_IsNumeral n fits).0.1
 
 escape-too_many : escape (codes "TooManyOrigins") ≡ codes "TooManyOrigins"
@@ -63,7 +63,7 @@ unfolding digits
 decimal-15 = refl
 
 -- a refusal of the number's digits, the detail and the name, none of which needs an escape
-abbrev refusal_of : List ℕ → List ℕ → List ℕ → List ℕ
+abbrev pub refusal_of : List ℕ → List ℕ → List ℕ → List ℕ
 refusal_of code detail refused =
     codes "{\"code\":" ++ code ++ codes ",\"detail\":" ++ 34 ∷ (detail ++ 34 ∷ []) ++ codes ",\"refused\":" ++ 34 ∷ (refused ++ 34 ∷ []) ++ codes "}"
 

@@ -1,4 +1,5 @@
 pub mod Escapes
+pub mod JournalReplies
 pub mod Written
 pub mod Texts
 pub mod OneMeaning

@@ -4,3 +4,4 @@ pub mod Tokens
 pub mod Line
 pub mod Plain
 pub mod Compact
+pub mod JournalReply

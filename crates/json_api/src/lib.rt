@@ -2,6 +2,7 @@
 #![tactic(auto)]
 
 mod compact;
+mod journal_reply;
 mod line;
 mod name;
 mod plain;
@@ -9,6 +10,7 @@ mod reply;
 #[cfg(test)]
 mod tests;
 
+pub use journal_reply::{JournalRefusal, journal_refusal_into};
 pub use line::{Line, LineFault, LineReader, MAX_LINE_LEN, means_one_thing, read_line};
 pub use name::is_name;
 pub use reply::{

@@ -70,6 +70,7 @@ fn refusal_text(alloc: Global, code: u32, detail: &str, refused: &str) -> Result
 pub fn refusal_into(alloc: Global, refusal: &Refusal, out: &mut Vec<u8>) -> Result<(), AllocError>
     ensures ok { OnOk result (out.new.items ≡ out.old.items ++ refused_spelling refusal.now) }
     ensures err { OnErr result (out.new.items ≡ out.old.items) }
+    ensures capacity { vec_capacity out.old ≤ vec_capacity out.new }
 {
     let (code, name) = (refusal.code(), refusal.name());
     match refusal {
@@ -88,6 +89,7 @@ fn append_too_many(out: &mut Vec<u8>, after: u64) -> Result<(), AllocError>
     ensures ok { OnOk result (out.new.items
         ≡ out.old.items ++ refusal_spelling 15 (decimal after) (codes "TooManyOrigins")) }
     ensures err { OnErr result (out.new.items ≡ out.old.items) }
+    ensures capacity { vec_capacity out.old ≤ vec_capacity out.new }
 {
     let mut digits = itoa::Buffer::new();
     out.reserve(REPLY_ROOM)?;
@@ -108,6 +110,7 @@ fn append_refusal(
     ensures ok { OnOk result (out.new.items
         ≡ out.old.items ++ refusal_spelling code detail.now refused.now) }
     ensures err { OnErr result (out.new.items ≡ out.old.items) }
+    ensures capacity { vec_capacity out.old ≤ vec_capacity out.new }
 {
     let text = refusal_bytes(alloc, code, detail, refused)?;
     out.extend_from_slice(&text)
@@ -195,7 +198,7 @@ pub fn accepted_into(out: &mut Vec<u8>, name: &str, count: u64)
 }
 
 // Appends within the room that is there.
-fn append(out: &mut Vec<u8>, bytes: &[u8])
+pub(crate) fn append(out: &mut Vec<u8>, bytes: &[u8])
     requires { vec_len out.old + length bytes.now ≤ vec_capacity out.old }
     ensures items { out.new.items ≡ out.old.items ++ bytes.now }
     ensures len { vec_len out.new ≡ vec_len out.old + length bytes.now }

@@ -1,6 +1,6 @@
 use crate::{
-    BAD_LINE_REPLY, Line, LineFault, LineReply, MAX_LINE_LEN, MEMORY_REPLY, accepted_into, is_name,
-    read_line, refusal_into, reply_text,
+    BAD_LINE_REPLY, JournalRefusal, Line, LineFault, LineReply, MAX_LINE_LEN, MEMORY_REPLY,
+    accepted_into, is_name, journal_refusal_into, read_line, refusal_into, reply_text,
 };
 use authority_book::{Command, OriginList, Refusal};
 use origins::read_origin;
@@ -178,5 +178,32 @@ fn knows_names(rt: HostRuntime) -> Result<(), Fail> {
             && !is_name("é")
             && !is_name("0123456789012345678901234567890123456789012345678901234567890123456")
     );
+    Ok(())
+}
+
+#[test]
+fn replies_tell_of_the_journal(rt: HostRuntime) -> Result<(), Fail> {
+    let rows = [
+        (
+            JournalRefusal::Shut,
+            "{\"code\":21,\"detail\":\"\",\"refused\":\"Shut\"}",
+        ),
+        (
+            JournalRefusal::JournalFull {
+                held: 17,
+                needed: 41,
+            },
+            "{\"code\":22,\"detail\":\"17 41\",\"refused\":\"JournalFull\"}",
+        ),
+        (
+            JournalRefusal::DiskFault { device: 0 },
+            "{\"code\":23,\"detail\":\"0\",\"refused\":\"DiskFault\"}",
+        ),
+    ];
+    for (refusal, text) in rows {
+        let mut out = Vec::with_capacity(rt.alloc(), 200)?;
+        journal_refusal_into(&mut out, &refusal);
+        assert_eq!(rt; out.as_slice(), text.as_bytes());
+    }
     Ok(())
 }
