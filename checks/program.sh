@@ -34,6 +34,14 @@ expect 2 '' "$usage" run --
 printf '{"command":"roas update","ca":"ta","add":["10.0.0.0/16-24 => 64496"]}' >input
 expect 0 '{"authority":"ta","count":1,"reply":"accepted"}
 ' '' run
+: >input
+head -c 57 krill-data/desk-00 >cut
+cp cut krill-data/desk-00
+expect 3 '' 'krillc: opening refused: Damaged device 0 at 57
+' run
+cmp -s cut krill-data/desk-00 || { echo "checks/program: a damaged desk was changed"; failed=1; }
+rm -r krill-data
+printf '{"command":"roas update","ca":"ta"}' >input
 if [ -w /dev/full ]; then
     got=0
     "$krillc" run <input >/dev/full 2>error || got=$?

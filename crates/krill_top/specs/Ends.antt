@@ -23,9 +23,28 @@ fault_of SinkFault = Some faults.Device
 fault_of (Spent bytes) = Some (faults.Spent bytes)
 fault_of Memory = Some faults.Memory
 
+-- Where opening was refused: 4 where a disk failed, 6 where memory was wanting, else 3.
+abbrev pub opening_status : OpenFault → ℕ
+opening_status (opening.WrongCount what needed found) = 3
+opening_status (opening.Damaged device at) = 3
+opening_status (opening.BadRecord device at) = 3
+opening_status (opening.DiskFault device) = 4
+opening_status opening.Memory = 6
+
+abbrev pub opening_fault : OpenFault → RunFault
+opening_fault (opening.WrongCount what needed found) = faults.Refused (opening.WrongCount what needed found)
+opening_fault (opening.Damaged device at) = faults.Refused (opening.Damaged device at)
+opening_fault (opening.BadRecord device at) = faults.Refused (opening.BadRecord device at)
+opening_fault (opening.DiskFault device) = faults.Device
+opening_fault opening.Memory = faults.Memory
+
 abbrev pub opening_spelling : OpenFault → List ℕ
 opening_spelling (opening.WrongCount what needed found) =
     codes "WrongCount what " ++ decimal what ++ codes " needed " ++ decimal needed ++ codes " found " ++ decimal found
+opening_spelling (opening.Damaged device at) = codes "Damaged device " ++ decimal device ++ codes " at " ++ decimal at
+opening_spelling (opening.BadRecord device at) = codes "BadRecord device " ++ decimal device ++ codes " at " ++ decimal at
+opening_spelling (opening.DiskFault device) = codes "DiskFault device " ++ decimal device
+opening_spelling opening.Memory = codes "Memory"
 
 abbrev pub fault_spelling : RunFault → List ℕ
 fault_spelling faults.Words = codes "usage: krillc run"

@@ -1,6 +1,9 @@
 pub mod Replies
+pub mod Faults
 pub mod Stands
 pub mod Ended
 pub mod Words
 pub mod Ends
+pub mod Desks
+pub mod Opened
 pub mod Run

@@ -1,44 +1,87 @@
 -- What a whole run leaves.
-use Rattle.std.specs.Prelude.{◌≡◌, ℕ, List, [], ◌∷◌, Option, Some}
+use Rattle.std.specs.Prelude.{◌≡◌, ℕ, ◌≤◌, List, [], ◌∷◌, ◌++◌, Option, None, Some, IfSome, map}
+use Rattle.std.specs.Option.{option_map}
 use Rattle.std.specs.Io.KnownBytes.{Consumes, Appends, IsAtEnd}
+use Rattle.gate_journal.specs.Format.{stands_for, held_by, opened}
 use Rattle.line_loop.specs.Fault.{Rose}
 use Rattle.line_loop.specs.Session.{Serves}
 use Rattle.line_loop.specs.declared.session.SessionEnd.{SessionEnd}
 use Rattle.line_loop.specs.declared.session.SessionEnd.TheVariants.{SourceFault, SinkFault}
 use Rattle.authority_book.specs.declared.commands.Command.{Command}
-use Rattle.authority_book.specs.Fold.{Taken}
+use Rattle.cmd_codec.specs.Spelling.{spelling}
+use Rattle.desk_core.specs.Commands.{Records}
+use Rattle.krill_top.specs.declared.faults.OpenFault.{OpenFault}
 use Rattle.krill_top.specs.declared.faults.RunFault.{RunFault}
 use Rattle.krill_top.specs.declared.serving.SessionEnds.{SessionEnds}
 use Rattle.krill_top.specs.declared.running.RunEnd.{RunEnd}
-use Rattle.krill_top.specs.Replies.{anchor_desk, IsReply}
-use Rattle.krill_top.specs.Ends.{status_of, fault_of}
+use Rattle.krill_top.specs.Replies.{State, anchor_desk, IsReply}
+use Rattle.krill_top.specs.Desks.{StoodFor, IsLeft, AreKept, IsOpeningRefused}
+use Rattle.krill_top.specs.Ends.{status_of, fault_of, opening_status, opening_fault}
 
--- A run that was refused at once: nothing was read, written or changed.
-pub record IsRefused {S K C : Type 0} (sessions : List (SessionEnds S K C)) (status : ℕ) (fault : RunFault) (run : RunEnd S K C) : Type 0 where
+-- A run that was refused at once: nothing was read or written, and no device was called.
+pub record IsRefused {D S K C : Type 0} (desks : List D) (sessions : List (SessionEnds S K C)) (status : ℕ) (fault : RunFault) (run : RunEnd D S K C) : Type 0 where
   pub status_is : run.status ≡ status
   pub fault_is : run.fault ≡ Some fault
+  pub desks_untouched : run.desks.items ≡ desks
   pub untouched : run.sessions.items ≡ sessions
 
--- A session served from no command at all: the sink took the replies to the lines of the bytes that
--- the source gave, as far as the session's end says, and these commands were accepted.
-pub record ServesFresh {S K C : Type 0} (left : S → Option (List ℕ)) (taken : K → Option (List ℕ)) (before after : SessionEnds S K C) (ended : SessionEnd) : Type 0 where
-  pub accepted : List Command
+-- A run whose desks weren't all opened: no source was read, and no sink was given anything.
+pub record IsRefusedAtOpening {D S K C : Type 0} (content : D → Option (List ℕ)) (may_leave : D → List ℕ → Type 0) (fault_count : D → ℕ) (desks : List D) (sessions : List (SessionEnds S K C)) (run : RunEnd D S K C) : Type 0 where
+  pub fault : OpenFault
+  pub status_is : run.status ≡ opening_status fault
+  pub fault_is : run.fault ≡ Some (opening_fault fault)
+  pub refused : IsOpeningRefused content may_leave fault_count fault desks run.desks.items
+  pub untouched : run.sessions.items ≡ sessions
+
+-- A session served from a state of the anchor's desk on: the sink took the replies to the lines of the
+-- bytes that the source gave, as far as the session's end says.
+pub record ServesFrom {S K C : Type 0} (left : S → Option (List ℕ)) (taken : K → Option (List ℕ)) (before after : SessionEnds S K C) (begun ended : State) (end : SessionEnd) : Type 0 where
   pub given : List ℕ
   pub written : List ℕ
   pub source : Consumes (left before.source) (left after.source) given
   pub sink : Appends (taken before.sink) (taken after.sink) written
-  pub replies : Serves IsReply [] given (IsAtEnd (left after.source)) written accepted ended
-  pub in_turn : Taken anchor_desk accepted
+  pub replies : Serves IsReply begun given (IsAtEnd (left after.source)) written ended end
   pub clock : after.clock ≡ before.clock
 
--- A run that served its session and hands its ends back. A fault of the source or the sink comes only
--- where it failed in this run.
-pub record ServesOne {S K C : Type 0} (left : S → Option (List ℕ)) (taken : K → Option (List ℕ)) (source_faults : S → ℕ) (sink_faults : K → ℕ) (before : SessionEnds S K C) (run : RunEnd S K C) : Type 0 where
+-- The state of the anchor's desk once it was opened over a disk.
+pub record IsOpenedOn {D : Type 0} (content : D → Option (List ℕ)) (fault_count : D → ℕ) (disk : D) (begun : State) : Type 0 where
+  pub found : StoodFor (content disk) anchor_desk begun.commands
+  pub recorded : Records anchor_desk (map spelling begun.commands) begun.commands
+  pub held : IfSome (content disk) (λ bytes. begun.held ≡ held_by (stands_for bytes))
+  pub bytes : begun.content ≡ option_map opened (content disk)
+  pub is_open : begun.doubt ≡ None
+  pub later : fault_count disk ≤ begun.faults
+
+-- The state of the anchor's desk when it was closed, and its disk: the disk holds the commands, and perhaps
+-- the one in doubt, and so does each image; all can be opened again.
+pub record IsClosedOn {D : Type 0} (content : D → Option (List ℕ)) (may_leave : D → List ℕ → Type 0) (fault_count : D → ℕ) (disk : D) (ended : State) : Type 0 where
+  pub recorded : Records anchor_desk (map spelling ended.commands) ended.commands
+  pub next : IfSome ended.doubt (λ command. Records anchor_desk (map spelling (ended.commands ++ command ∷ [])) (ended.commands ++ command ∷ []))
+  pub left : IsLeft content may_leave ended.commands ended.doubt disk
+  pub bytes : content disk ≡ ended.content
+  pub counted : fault_count disk ≡ ended.faults
+
+-- A run that opened its desks, served its session over the first, and hands all back. The first disk holds
+-- the commands that it held and those that were accepted; the others hold what they held. A fault of the
+-- source or the sink comes only where it failed in this run.
+pub record ServesOne {D S K C : Type 0} (content : D → Option (List ℕ)) (may_leave : D → List ℕ → Type 0) (fault_count : D → ℕ) (left : S → Option (List ℕ)) (taken : K → Option (List ℕ)) (source_faults : S → ℕ) (sink_faults : K → ℕ) (first : D) (others : List D) (before : SessionEnds S K C) (run : RunEnd D S K C) : Type 0 where
+  pub first' : D
+  pub others' : List D
   pub after : SessionEnds S K C
-  pub ended : SessionEnd
+  pub end : SessionEnd
+  pub begun : State
+  pub ended : State
+  pub accepted : List Command
+  pub desks_back : run.desks.items ≡ first' ∷ others'
   pub handed_back : run.sessions.items ≡ after ∷ []
-  pub status : run.status ≡ status_of ended
-  pub fault : run.fault ≡ fault_of ended
-  pub served : ServesFresh left taken before after ended
-  pub source_fault : ended ≡ SourceFault → Rose (source_faults before.source) (source_faults after.source)
-  pub sink_fault : ended ≡ SinkFault → Rose (sink_faults before.sink) (sink_faults after.sink)
+  pub status : run.status ≡ status_of end
+  pub fault : run.fault ≡ fault_of end
+  pub opening : IsOpenedOn content fault_count first begun
+  pub served : ServesFrom left taken before after begun ended end
+  pub grows : ended.commands ≡ begun.commands ++ accepted
+  pub closing : IsClosedOn content may_leave fault_count first' ended
+  pub others_kept : AreKept content may_leave fault_count 1 others others'
+  pub source_fault : end ≡ SourceFault → Rose (source_faults before.source) (source_faults after.source)
+  pub sink_fault : end ≡ SinkFault → Rose (sink_faults before.sink) (sink_faults after.sink)
+  pub source_later : source_faults before.source ≤ source_faults after.source
+  pub sink_later : sink_faults before.sink ≤ sink_faults after.sink

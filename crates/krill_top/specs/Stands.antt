@@ -1,53 +1,62 @@
--- The anchor's state, and the commands that it stands for.
-use Rattle.std.specs.Prelude.{ℕ, Bool, List, ◌⊎◌, Ok, string_bytes}
+-- The anchor's state, and what of it replies rest on.
+use Rattle.std.specs.Prelude.{◌≡◌, ◌⊎◌, ◌↔◌, ℕ, Bool, List, [], ◌∷◌, ◌++◌, Option, None, Ok, IfSome, map, string_bytes}
+use Rattle.std.specs.Option.{option_map}
 use Rattle.authority_book.specs.declared.commands.Command.{Command}
 use Rattle.authority_book.specs.Verdict.{verdict_of}
-use Rattle.authority_book.specs.Fold.{fold_of, IsFoldOf, Taken}
+use Rattle.authority_book.specs.Fold.{fold_of}
+use Rattle.cmd_codec.specs.Spelling.{spelling}
+use Rattle.desk_core.specs.View.{View}
+use Rattle.desk_core.specs.Commands.{Records, HasCommands}
 use Rattle.json_api.specs.declared.line.Line.{Line}
 use Rattle.json_api.specs.declared.line.Line.TheVariants.{Command as CommandLine}
 use Rattle.json_api.specs.Name.{IsName}
 use Rattle.krill_top.specs.declared.anchor.Anchor.{Anchor}
-use Rattle.krill_top.specs.Replies.{anchor_desk, signers_at_hand, memory_text, VerdictText, IsRefusedAs, IsText, IsReply}
+use Rattle.krill_top.specs.Replies.{State, anchor_desk, signers_at_hand, memory_text, DeskText, IsRefusedAs, IsText, IsReply}
 
--- The anchor's configuration is the fold of these commands, each accepted after those before it.
-pub record StandsFor (anchor : Anchor) (commands : List Command) : Type 0 where
-  pub fold : IsFoldOf anchor.config.settings anchor_desk commands
-  pub in_turn : Taken anchor_desk commands
+-- The desk is the anchor's, and is in this state.
+pub record IsIn {D : Type 0} (content : D → Option (List ℕ)) (fault_count : D → ℕ) (desk : View D) (state : State) : Type 0 where
+  pub number : desk.number ≡ anchor_desk
+  pub commands : HasCommands desk state.commands
+  pub held : desk.held ≡ state.held
+  pub doubt : desk.doubt ≡ option_map spelling state.doubt
+  pub shut : (desk.shut ≡ None) ↔ (state.doubt ≡ None)
+  pub faults : fault_count desk.disk ≡ state.faults
+  pub bytes : content desk.disk ≡ state.content
+  -- the command in doubt would be the next of the desk's
+  pub next : IfSome state.doubt (λ command. Records anchor_desk (map spelling (state.commands ++ command ∷ [])) (state.commands ++ command ∷ []))
 
--- From an anchor that stands for some commands, the line gets this reply, and the anchor stands for
--- the commands accepted then.
-pub record Goes (P : List Command → List Command → Type 0) (old new : Anchor) (before : List Command) : Type 0 where
-  pub after : List Command
+-- A desk that a session may be served over: the anchor's, whose journal no fault has shut.
+pub record MayServe {D : Type 0} (desk : View D) : Type 0 where
+  pub number : desk.number ≡ anchor_desk
+  pub is_open : desk.shut ≡ None
+  pub settled : desk.doubt ≡ None
+
+-- From a desk in one state, P leads to a state in which the other desk is.
+pub record Goes {D : Type 0} (content : D → Option (List ℕ)) (fault_count : D → ℕ) (P : State → State → Type 0) (new : View D) (before : State) : Type 0 where
+  pub after : State
   pub step : P before after
-  pub stands : StandsFor new after
+  pub stands : IsIn content fault_count new after
 
 -- A line may get this reply.
-abbrev pub MayReply : Anchor → List ℕ → List ℕ → Bool → Anchor → Type 0
-MayReply old line reply accepted new =
-    (before : List Command) → StandsFor old before → Goes (λ b a. IsReply b line reply accepted a) old new before
+abbrev pub MayReply : {D : Type 0} → (D → Option (List ℕ)) → (D → ℕ) → Anchor D → List ℕ → List ℕ → Bool → Anchor D → Type 0
+MayReply content fault_count old line reply accepted new =
+    (before : State) → IsIn content fault_count old.desk before → Goes content fault_count (λ b a. IsReply b line reply accepted a) new.desk before
 
 -- A line that isn't blank may get this text.
-abbrev pub MayText : Anchor → List ℕ → List ℕ → Bool → Anchor → Type 0
-MayText old line text accepted new =
-    (before : List Command) → StandsFor old before → Goes (λ b a. IsText b line text accepted a) old new before
+abbrev pub MayText : {D : Type 0} → (D → Option (List ℕ)) → (D → ℕ) → Anchor D → List ℕ → List ℕ → Bool → Anchor D → Type 0
+MayText content fault_count old line text accepted new =
+    (before : State) → IsIn content fault_count old.desk before → Goes content fault_count (λ b a. IsText b line text accepted a) new.desk before
 
--- A command may get this text: by its verdict, or because memory was wanting.
-abbrev pub MayAnswer : Anchor → List ℕ → Command → List ℕ → Bool → Anchor → Type 0
-MayAnswer old name command text accepted new =
-    (before : List Command) → StandsFor old before → Goes
-    (λ b a. VerdictText b name command (verdict_of (fold_of anchor_desk b) command signers_at_hand) text accepted a ⊎ IsRefusedAs memory_text b text accepted a)
-    old new before
-
--- A command that the verdict lets through may get this text.
-abbrev pub MayAccept : Anchor → List ℕ → Command → List ℕ → Bool → Anchor → Type 0
-MayAccept old name command text accepted new =
-    (before : List Command) → StandsFor old before → Goes
-    (λ b a. VerdictText b name command (Ok tt) text accepted a ⊎ IsRefusedAs memory_text b text accepted a)
-    old new before
+-- A command may get this text: from the desk, or because memory was wanting.
+abbrev pub MayAnswer : {D : Type 0} → (D → Option (List ℕ)) → (D → ℕ) → Anchor D → List ℕ → Command → List ℕ → Bool → Anchor D → Type 0
+MayAnswer content fault_count old name command text accepted new =
+    (before : State) → IsIn content fault_count old.desk before → Goes content fault_count
+    (λ b a. DeskText b.doubt b name command text accepted a ⊎ IsRefusedAs memory_text b text accepted a)
+    new.desk before
 
 -- What a line says may get this text.
-abbrev pub MaySay : Anchor → Line → List ℕ → Bool → Anchor → Type 0
-MaySay old (CommandLine name command) text accepted new = MayAnswer old (string_bytes name) command text accepted new
+abbrev pub MaySay : {D : Type 0} → (D → Option (List ℕ)) → (D → ℕ) → Anchor D → Line → List ℕ → Bool → Anchor D → Type 0
+MaySay content fault_count old (CommandLine name command) text accepted new = MayAnswer content fault_count old (string_bytes name) command text accepted new
 
 -- The authority that a line names has a name.
 abbrev pub NamesOne : Line → Type 0

@@ -3,18 +3,19 @@
 ghost use Rattle.std.specs.Prelude.{◌≡◌, ◌⊎◌, ℕ, ◌+◌, ◌≤◌, ◌↔◌, List, [], ◌∷◌, ◌++◌, length, IsTrue, IfOk, OnOk, OnErr, vec_len, vec_capacity};
 ghost use Rattle.std.specs.List.{list_all};
 ghost use Rattle.json_api.specs.Reply.{refused_spelling};
+ghost use Rattle.json_api.specs.JournalReply.{journal_refusal_spelling};
 ghost use Rattle.krill_top.specs.Replies.{is_blank_byte, IsBlank, memory_text, bad_line_text};
+ghost use Rattle.krill_top.specs.Faults.{FaultText};
 
-use authority_book::{Command, Config, Refusal, verdict, verdict_on_the_fold};
+use authority_book::{Command, Refusal, verdict_on_the_fold};
+use desk_core::{Desk, DeskFault};
+use disk_api::Disk;
 use json_api::{
-    BAD_LINE_REPLY, Line, LineFault, LineReader, MEMORY_REPLY, accepted_into, constant_replies,
-    refusal_into,
+    BAD_LINE_REPLY, JournalRefusal, Line, LineFault, LineReader, MEMORY_REPLY, accepted_into,
+    constant_replies, journal_refusal_into, refusal_into,
 };
 use line_loop::LineHandler;
 use std::alloc::{AllocError, Global};
-
-/// The anchor's desk.
-const ANCHOR_DESK: u32 = 0;
 
 /// How many signers a verdict is told of, while no command needs one.
 const SIGNERS_AT_HAND: u32 = 1;
@@ -22,51 +23,41 @@ const SIGNERS_AT_HAND: u32 = 1;
 /// The greatest length of a line that may be blank.
 const BLANK_LIMIT: usize = 1_048_576;
 
-/// Room for an accepted command's reply or a constant one, and its line feed.
+/// Room for an accepted command's reply, or one that tells of the journal, or a constant one, and its
+/// line feed.
 const REPLY_ROOM: usize = 256;
 
-/// The anchor's configuration, in memory, and what reads its lines.
+/// The anchor's desk, and what reads its lines.
 #[derive(Drop)]
-pub struct Anchor {
-    config: Config,
+pub struct Anchor<D: Disk> {
+    desk: Desk<D>,
     reader: LineReader,
 }
 
-impl Anchor {
-    ghost use Rattle.authority_book.specs.Verdict.{IsAccepted};
+impl<D: Disk> Anchor<D> {
     ghost use Rattle.json_api.specs.Name.{IsName};
-    ghost use Rattle.krill_top.specs.Stands.{StandsFor, NamesOne, MayText, MaySay, MayAnswer, MayAccept};
+    ghost use Rattle.krill_top.specs.Stands.{NamesOne, MayServe, MayText, MaySay, MayAnswer};
 
-    /// The anchor before its first command.
-    pub fn new(alloc: Global) -> Result<Anchor, AllocError>
-        ensures { IfOk result (λ anchor. StandsFor anchor []) }
+    /// The anchor over its desk.
+    pub fn new(alloc: Global, desk: Desk<D>) -> Anchor<D>
+        requires { MayServe desk }
+        ensures { result.desk ≡ desk }
     {
-        Ok(Anchor {
-            config: Config::new(alloc, ANCHOR_DESK)?,
+        Anchor {
+            desk,
             reader: LineReader::new(alloc),
-        })
-    }
-
-    // Accepts the command, if there is memory for it, and appends the line that says so. Whether it
-    // was accepted.
-    fn accept(&mut self, alloc: Global, name: &str, command: Command, out: &mut Vec<u8>) -> bool
-        requires accepted { IsAccepted self.old.config.settings command }
-        requires room { vec_len out.old + REPLY_ROOM ≤ vec_capacity out.old }
-        requires name { IsName name.now }
-        ensures { (text : List ℕ) × (out.new.items ≡ out.old.items ++ text ++ 10 ∷ [])
-            × MayAccept self.old name.now command text result self.new }
-    {
-        if self.config.reserve(alloc, &command).is_err() {
-            append_memory_line(out);
-            return false;
         }
-        self.config.apply(command);
-        accepted_into(out, name, self.config.count());
-        append(out, "\n");
-        true
     }
 
-    // Answers a command, and says whether it was accepted.
+    /// The desk, with the commands that were accepted.
+    pub fn into_desk(self) -> Desk<D>
+        ensures { result ≡ self.desk }
+    {
+        self.desk
+    }
+
+    // Answers a command, and says whether it was accepted. The room for the reply is taken before
+    // the desk writes anything.
     fn answer_command(
         &mut self,
         alloc: Global,
@@ -76,17 +67,19 @@ impl Anchor {
     ) -> Result<bool, AllocError>
         requires { IsName name.now }
         ensures ok { IfOk result (λ accepted. (text : List ℕ) × (out.new.items ≡ out.old.items ++ text ++ 10 ∷ [])
-            × MayAnswer self.old name.now command text accepted self.new) }
+            × MayAnswer D.content D.fault_count self.old name.now command text accepted self.new) }
         ensures err { OnErr result ((self.new ≡ self.old) × (out.new.items ≡ out.old.items)) }
     {
         verdict_on_the_fold();
-        match verdict(&self.config, &command, SIGNERS_AT_HAND) {
-            Ok(()) => {
-                out.reserve(REPLY_ROOM)?;
-                Ok(self.accept(alloc, name, command, out))
+        out.reserve(REPLY_ROOM)?;
+        match self.desk.commit(alloc, command, SIGNERS_AT_HAND) {
+            Ok(count) => {
+                accepted_into(out, name, count);
+                append(out, "\n");
+                Ok(true)
             }
-            Err(refusal) => {
-                append_refusal(alloc, &refusal, out)?;
+            Err(fault) => {
+                append_fault(alloc, fault, out);
                 Ok(false)
             }
         }
@@ -101,7 +94,7 @@ impl Anchor {
     ) -> Result<bool, AllocError>
         requires { NamesOne said }
         ensures ok { IfOk result (λ accepted. (text : List ℕ) × (out.new.items ≡ out.old.items ++ text ++ 10 ∷ [])
-            × MaySay self.old said text accepted self.new) }
+            × MaySay D.content D.fault_count self.old said text accepted self.new) }
         ensures err { OnErr result ((self.new ≡ self.old) × (out.new.items ≡ out.old.items)) }
     {
         match said {
@@ -117,7 +110,7 @@ impl Anchor {
         out: &mut Vec<u8>,
     ) -> Result<bool, AllocError>
         ensures ok { IfOk result (λ accepted. (text : List ℕ) × (out.new.items ≡ out.old.items ++ text ++ 10 ∷ [])
-            × MayText self.old line.now text accepted self.new) }
+            × MayText D.content D.fault_count self.old line.now text accepted self.new) }
         ensures err { OnErr result ((self.new ≡ self.old) × (out.new.items ≡ out.old.items)) }
     {
         match self.reader.read(alloc, line) {
@@ -135,17 +128,43 @@ impl Anchor {
     }
 }
 
+// Appends the line that says why the desk didn't take a command, in the room that is there. Only the
+// verdict's refusal may find no memory, and then the line says that.
+fn append_fault<D: Disk>(alloc: Global, fault: DeskFault<D>, out: &mut Vec<u8>)
+    requires { vec_len out.old + REPLY_ROOM ≤ vec_capacity out.old }
+    ensures { (text : List ℕ) × (out.new.items ≡ out.old.items ++ text ++ 10 ∷ []) × FaultText fault text }
+{
+    match fault {
+        DeskFault::Shut { .. } => append_journal_line(out, JournalRefusal::Shut),
+        DeskFault::Verdict { refusal } => append_refusal(alloc, &refusal, out),
+        DeskFault::JournalFull { held, needed } => {
+            append_journal_line(out, JournalRefusal::JournalFull { held, needed });
+        }
+        DeskFault::DiskFault { rose } => {
+            let device = rose.desk();
+            append_journal_line(out, JournalRefusal::DiskFault { device });
+        }
+        DeskFault::Memory => append_memory_line(out),
+    }
+}
+
+fn append_journal_line(out: &mut Vec<u8>, refusal: JournalRefusal)
+    requires { vec_len out.old + REPLY_ROOM ≤ vec_capacity out.old }
+    ensures { out.new.items ≡ out.old.items ++ journal_refusal_spelling refusal ++ 10 ∷ [] }
+{
+    journal_refusal_into(out, &refusal);
+    append(out, "\n");
+}
+
 // Appends the line of a refusal, or of want of memory where that finds none.
-fn append_refusal(alloc: Global, refusal: &Refusal, out: &mut Vec<u8>) -> Result<(), AllocError>
-    ensures ok { OnOk result ((text : List ℕ) × (out.new.items ≡ out.old.items ++ text ++ 10 ∷ [])
-        × ((text ≡ refused_spelling refusal.now) ⊎ (text ≡ memory_text))) }
-    ensures err { OnErr result (out.new.items ≡ out.old.items) }
+fn append_refusal(alloc: Global, refusal: &Refusal, out: &mut Vec<u8>)
+    requires { vec_len out.old + REPLY_ROOM ≤ vec_capacity out.old }
+    ensures { (text : List ℕ) × (out.new.items ≡ out.old.items ++ text ++ 10 ∷ [])
+        × ((text ≡ refused_spelling refusal.now) ⊎ (text ≡ memory_text)) }
 {
     if append_refusal_line(alloc, refusal, out).is_err() {
-        out.reserve(REPLY_ROOM)?;
         append_memory_line(out);
     }
-    Ok(())
 }
 
 fn append_refusal_line(
@@ -155,6 +174,7 @@ fn append_refusal_line(
 ) -> Result<(), AllocError>
     ensures ok { OnOk result (out.new.items ≡ out.old.items ++ refused_spelling refusal.now ++ 10 ∷ []) }
     ensures err { OnErr result (out.new.items ≡ out.old.items) }
+    ensures capacity { vec_capacity out.old ≤ vec_capacity out.new }
 {
     let start = out.len();
     refusal_into(alloc, refusal, out)?;
@@ -214,10 +234,10 @@ fn is_blank_byte(byte: u8) -> bool
     byte == b' ' || byte == b'\t' || byte == b'\r'
 }
 
-impl LineHandler for Anchor {
+impl<D: Disk> LineHandler for Anchor<D> {
     ghost use Rattle.krill_top.specs.Stands.{MayReply};
 
-    ghost answers = { MayReply };
+    ghost answers = { MayReply D.content D.fault_count };
 
     fn answer(
         &mut self,

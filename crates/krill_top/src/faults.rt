@@ -9,8 +9,17 @@ use std::fmt;
 /// Why opening was refused, before anything was read.
 #[derive(Clone, Copy, Debug, PartialEq, Eq)]
 pub enum OpenFault {
-    /// Another number of things was handed in than is needed. `what` is 2 for sessions.
+    /// Another number of things was handed in than is needed. `what` is 0 for the desks' disks and
+    /// 2 for sessions.
     WrongCount { what: u32, needed: u64, found: u64 },
+    /// The journal on the disk of that number is damaged, at an offset in bytes.
+    Damaged { device: u32, at: u64 },
+    /// A record on the disk of that number, counted from 0, is no command that was accepted.
+    BadRecord { device: u32, at: u64 },
+    /// The disk of that number failed.
+    DiskFault { device: u32 },
+    /// Memory was wanting.
+    Memory,
 }
 
 impl fmt::Display for OpenFault {
@@ -26,6 +35,10 @@ impl fmt::Display for OpenFault {
                 needed,
                 found,
             } => write!(f, "WrongCount what {what} needed {needed} found {found}"),
+            OpenFault::Damaged { device, at } => write!(f, "Damaged device {device} at {at}"),
+            OpenFault::BadRecord { device, at } => write!(f, "BadRecord device {device} at {at}"),
+            OpenFault::DiskFault { device } => write!(f, "DiskFault device {device}"),
+            OpenFault::Memory => f.write_str("Memory"),
         }
     }
 }
@@ -35,9 +48,9 @@ impl fmt::Display for OpenFault {
 pub enum RunFault {
     /// The words name no command: status 2.
     Words,
-    /// Opening was refused: status 3.
+    /// Opening was refused for another cause than a disk or memory: status 3.
     Refused { fault: OpenFault },
-    /// A source or a sink failed: status 4.
+    /// A disk failed at opening, or a source or a sink: status 4.
     Device,
     /// A session took as many bytes as it may: status 5.
     Spent { bytes: u64 },

@@ -1,8 +1,10 @@
-//! Sessions of commands, and the one call that does all that the program does.
+//! Sessions of commands over desks, and the one call that does all that the program does.
 #![tactic(auto)]
 
 mod anchor;
 mod faults;
+mod fronts;
+mod opening;
 mod running;
 mod serving;
 #[cfg(test)]

@@ -1,26 +1,46 @@
 //! The top call.
 
-ghost use Rattle.std.specs.Prelude.{◌≡◌, ◌≢◌, ◌↔◌, [], ◌∷◌, length, IsTrue};
+ghost use Rattle.std.specs.Prelude.{◌≡◌, ◌≢◌, ◌↔◌, ◌⊎◌, ◌<◌, ◌≤◌, [], ◌∷◌, List, length, IsTrue, vec_len, vec_capacity};
+ghost use Rattle.desk_core.specs.View.{View};
 ghost use Rattle.krill_top.specs.Words.{AreRunWords};
-ghost use Rattle.krill_top.specs.Ends.{status_of, fault_of};
-ghost use Rattle.krill_top.specs.Run.{IsRefused, ServesFresh, ServesOne};
+ghost use Rattle.krill_top.specs.Ends.{status_of, fault_of, opening_status, opening_fault};
+ghost use Rattle.krill_top.specs.Desks.{most_desks};
+ghost use Rattle.krill_top.specs.Opened.{AreOpened, AreClosed};
+ghost use Rattle.krill_top.specs.Replies.{State};
+ghost use Rattle.krill_top.specs.Stands.{IsIn, MayServe};
+ghost use Rattle.krill_top.specs.Ended.{Served};
+ghost use Rattle.krill_top.specs.Run.{IsRefused, IsRefusedAtOpening, ServesOne};
 ghost use Rattle.line_loop.specs.Fault.{Rose};
 ghost use Rattle.krill_top.specs.declared.faults.RunFault.TheVariants as faults;
 ghost use Rattle.krill_top.specs.declared.faults.OpenFault.TheVariants as opening;
 
 use crate::anchor::Anchor;
 use crate::faults::{OpenFault, RunFault};
+use crate::fronts::{put_in_front, take_first};
+use crate::opening::{Desks, OpeningRefused, close_desks, open_desks};
 use crate::serving::{Session, SessionEnds};
+use desk_core::Desk;
+use disk_api::Disk;
 use line_loop::{Clock, SessionEnd, Sink, Source};
 use std::alloc::Global;
 
-/// What a run leaves: its status, why it isn't 0, and the sessions' ends as they stand.
+/// How many desks there are, each over a disk of its own.
+const DESKS: usize = 64;
+
+/// What `WrongCount` says is wrong in number.
+const DISKS_WRONG: u32 = 0;
+
+const SESSIONS_WRONG: u32 = 2;
+
+/// What a run leaves: its status, why it isn't 0, and the desks' disks and the sessions' ends as they
+/// stand.
 #[derive(Drop)]
-pub struct RunEnd<S: Source, K: Sink, C: Clock> {
+pub struct RunEnd<D: Disk, S: Source, K: Sink, C: Clock> {
     /// 0, or by its fault: 2 Words, 3 Refused, 4 Device, 5 Spent, 6 Memory.
     pub status: u8,
     /// None exactly where the status is 0.
     pub fault: Option<RunFault>,
+    pub desks: Vec<D>,
     pub sessions: Vec<SessionEnds<S, K, C>>,
 }
 
@@ -58,83 +78,183 @@ fn fault_of(ended: SessionEnd) -> Option<RunFault>
     }
 }
 
-// Serves a session over the anchor's configuration, which begins with no command.
-fn serve_fresh<S: Source, K: Sink, C: Clock>(
-    alloc: Global,
-    ends: SessionEnds<S, K, C>,
-) -> (SessionEnds<S, K, C>, SessionEnd)
-    ensures session { ServesFresh S.left K.taken ends result.0 result.1 }
-    ensures source_fault { result.1 ≡ SessionEnd.SourceFault →
-        Rose (S.faults ends.source) (S.faults result.0.source) }
-    ensures sink_fault { result.1 ≡ SessionEnd.SinkFault →
-        Rose (K.faults ends.sink) (K.faults result.0.sink) }
+/// The status of a run whose opening was refused.
+fn opening_status(fault: OpenFault) -> u8
+    ensures { result ≡ opening_status fault }
 {
-    let Ok(mut anchor) = Anchor::new(alloc) else {
-        return (ends, SessionEnd::Memory);
-    };
-    let mut ends = ends;
-    let ended = Session::serve(alloc, &mut anchor, &mut ends);
-    (ends, ended)
+    match fault {
+        OpenFault::WrongCount { .. } | OpenFault::Damaged { .. } | OpenFault::BadRecord { .. } => 3,
+        OpenFault::DiskFault { .. } => 4,
+        OpenFault::Memory => 6,
+    }
 }
 
-// Serves the one session.
-fn serve_one<S: Source, K: Sink, C: Clock>(
-    alloc: Global,
-    sessions: Vec<SessionEnds<S, K, C>>,
-) -> RunEnd<S, K, C>
-    requires { length sessions.items ≡ 1 }
-    ensures { (before : SessionEnds S K C) → sessions.items ≡ before ∷ []
-        → ServesOne S.left K.taken S.faults K.faults before result }
+/// Why that run ended so.
+fn opening_fault(fault: OpenFault) -> RunFault
+    ensures { result ≡ opening_fault fault }
 {
-    let mut sessions = sessions;
-    let Some(ends) = sessions.pop() else {
-        unreachable!()
-    };
-    let (ends, ended) = serve_fresh(alloc, ends);
-    if sessions.push(ends).is_err() {
-        unreachable!()
+    match fault {
+        OpenFault::WrongCount { .. } | OpenFault::Damaged { .. } | OpenFault::BadRecord { .. } => {
+            RunFault::Refused { fault }
+        }
+        OpenFault::DiskFault { .. } => RunFault::Device,
+        OpenFault::Memory => RunFault::Memory,
     }
+}
+
+// Serves a session over the first desk.
+fn serve_first<D: Disk, S: Source, K: Sink, C: Clock>(
+    alloc: Global,
+    desks: &mut Vec<Desk<D>>,
+    ends: &mut SessionEnds<S, K, C>,
+) -> SessionEnd
+    requires some { 0 < vec_len desks.old }
+    requires fresh { (first : View D) (others : List (View D)) → desks.old.items ≡ first ∷ others → MayServe first }
+    ensures desks { (first : View D) × (served : View D) × (others : List (View D))
+        × (desks.old.items ≡ first ∷ others) × (desks.new.items ≡ served ∷ others)
+        × ((before : State) → IsIn D.content D.fault_count first before
+        → Served D.content D.fault_count (S.left ends.old.source) (S.left ends.new.source) (K.taken ends.old.sink) (K.taken ends.new.sink) before served result) }
+    ensures len { vec_len desks.new ≡ vec_len desks.old }
+    ensures source_fault { result ≡ SessionEnd.SourceFault →
+        Rose (S.faults ends.old.source) (S.faults ends.new.source) }
+    ensures sink_fault { result ≡ SessionEnd.SinkFault →
+        Rose (K.faults ends.old.sink) (K.faults ends.new.sink) }
+    ensures source_later { S.faults ends.old.source ≤ S.faults ends.new.source }
+    ensures sink_later { K.faults ends.old.sink ≤ K.faults ends.new.sink }
+    ensures clock { ends.new.clock ≡ ends.old.clock }
+{
+    let mut anchor = Anchor::new(alloc, take_first(desks));
+    let ended = Session::serve(alloc, &mut anchor, ends);
+    put_in_front(desks, anchor.into_desk());
+    ended
+}
+
+// Serves the one session over the first of the opened desks, and closes them.
+fn serve_one<D: Disk, S: Source, K: Sink, C: Clock>(
+    alloc: Global,
+    opened: Desks<D>,
+    sessions: Vec<SessionEnds<S, K, C>>,
+) -> RunEnd<D, S, K, C>
+    requires some { 0 < vec_len opened.desks }
+    requires fresh { (first : View D) (others : List (View D)) → opened.desks.items ≡ first ∷ others → MayServe first }
+    requires empty { opened.disks.items ≡ [] }
+    requires room { vec_len opened.desks ≤ vec_capacity opened.disks }
+    requires session { length sessions.items ≡ 1 }
+    ensures { (first : D) (others : List D) (before : SessionEnds S K C)
+        → AreOpened D.content D.fault_count 0 (first ∷ others) opened.desks.items → sessions.items ≡ before ∷ []
+        → ServesOne D.content D.may_leave D.fault_count S.left K.taken S.faults K.faults first others before result }
+{
+    let mut opened = opened;
+    let mut sessions = sessions;
+    let mut ends = take_first(&mut sessions);
+    let ended = serve_first(alloc, &mut opened.desks, &mut ends);
+    put_in_front(&mut sessions, ends);
+    run_end(ended, close_desks(opened), sessions)
+}
+
+// What a run leaves whose session ended so.
+fn run_end<D: Disk, S: Source, K: Sink, C: Clock>(
+    ended: SessionEnd,
+    desks: Vec<D>,
+    sessions: Vec<SessionEnds<S, K, C>>,
+) -> RunEnd<D, S, K, C>
+    ensures status { result.status ≡ status_of ended }
+    ensures fault { result.fault ≡ fault_of ended }
+    ensures desks { result.desks.items ≡ desks.items }
+    ensures sessions { result.sessions.items ≡ sessions.items }
+{
     RunEnd {
         status: status_of(ended),
         fault: fault_of(ended),
+        desks,
         sessions,
     }
 }
 
-/// Does what the words name. `run` serves the one session over the anchor's configuration, which
-/// begins with no command.
-pub fn run_krill<S: Source, K: Sink, C: Clock>(
+// Opens the desks, and serves the one session.
+fn run_one<D: Disk, S: Source, K: Sink, C: Clock>(
+    alloc: Global,
+    desks: Vec<D>,
+    sessions: Vec<SessionEnds<S, K, C>>,
+) -> RunEnd<D, S, K, C>
+    requires desks { length desks.items ≡ most_desks }
+    requires session { length sessions.items ≡ 1 }
+    ensures { (first : D) (others : List D) (before : SessionEnds S K C)
+        → desks.items ≡ first ∷ others → sessions.items ≡ before ∷ []
+        → IsRefusedAtOpening D.content D.may_leave D.fault_count desks.items sessions.items result
+        ⊎ ServesOne D.content D.may_leave D.fault_count S.left K.taken S.faults K.faults first others before result }
+{
+    match open_desks(alloc, desks) {
+        Ok(opened) => serve_one(alloc, opened, sessions),
+        Err(OpeningRefused { disks, fault }) => RunEnd {
+            status: opening_status(fault),
+            fault: Some(opening_fault(fault)),
+            desks: disks,
+            sessions,
+        },
+    }
+}
+
+// A run that is refused before any device is called.
+fn refused<D: Disk, S: Source, K: Sink, C: Clock>(
+    status: u8,
+    fault: RunFault,
+    desks: Vec<D>,
+    sessions: Vec<SessionEnds<S, K, C>>,
+) -> RunEnd<D, S, K, C>
+    ensures { IsRefused desks.items sessions.items status fault result }
+{
+    RunEnd {
+        status,
+        fault: Some(fault),
+        desks,
+        sessions,
+    }
+}
+
+fn wrong_count(what: u32, needed: usize, found: usize) -> RunFault
+    ensures { result ≡ faults.Refused (opening.WrongCount what needed found) }
+{
+    let fault = OpenFault::WrongCount {
+        what,
+        needed: needed as u64,
+        found: found as u64,
+    };
+    RunFault::Refused { fault }
+}
+
+/// Does what the words name. `run` opens the 64 desks over their disks, in order, and serves the one
+/// session over the first of them, which is the anchor's.
+///
+/// Where opening is refused no source is read and no sink is given anything. All devices come back as
+/// they stand.
+pub fn run_krill<D: Disk, S: Source, K: Sink, C: Clock>(
     alloc: Global,
     words: &[String],
+    desks: Vec<D>,
     sessions: Vec<SessionEnds<S, K, C>>,
-) -> RunEnd<S, K, C>
-    ensures words { ¬ AreRunWords words.now → IsRefused sessions.items 2 faults.Words result }
+) -> RunEnd<D, S, K, C>
+    ensures words { ¬ AreRunWords words.now → IsRefused desks.items sessions.items 2 faults.Words result }
     ensures sessions { AreRunWords words.now → length sessions.items ≢ 1
-        → IsRefused sessions.items 3 (faults.Refused (opening.WrongCount 2 1 (length sessions.items))) result }
-    ensures served { AreRunWords words.now → (before : SessionEnds S K C) → sessions.items ≡ before ∷ []
-        → ServesOne S.left K.taken S.faults K.faults before result }
+        → IsRefused desks.items sessions.items 3 (faults.Refused (opening.WrongCount 2 1 (length sessions.items))) result }
+    ensures desks { AreRunWords words.now → length sessions.items ≡ 1 → length desks.items ≢ most_desks
+        → IsRefused desks.items sessions.items 3 (faults.Refused (opening.WrongCount 0 most_desks (length desks.items))) result }
+    ensures served { AreRunWords words.now → length desks.items ≡ most_desks
+        → (first : D) (others : List D) (before : SessionEnds S K C)
+        → desks.items ≡ first ∷ others → sessions.items ≡ before ∷ []
+        → IsRefusedAtOpening D.content D.may_leave D.fault_count desks.items sessions.items result
+        ⊎ ServesOne D.content D.may_leave D.fault_count S.left K.taken S.faults K.faults first others before result }
 {
     if !are_run_words(words) {
-        let fault = Some(RunFault::Words);
-        return RunEnd {
-            status: 2,
-            fault,
-            sessions,
-        };
+        return refused(2, RunFault::Words, desks, sessions);
     }
-    let found = sessions.len() as u64;
-    if found != 1 {
-        let fault = OpenFault::WrongCount {
-            what: 2,
-            needed: 1,
-            found,
-        };
-        let fault = Some(RunFault::Refused { fault });
-        return RunEnd {
-            status: 3,
-            fault,
-            sessions,
-        };
+    if sessions.len() != 1 {
+        let fault = wrong_count(SESSIONS_WRONG, 1, sessions.len());
+        return refused(3, fault, desks, sessions);
     }
-    serve_one(alloc, sessions)
+    if desks.len() != DESKS {
+        let fault = wrong_count(DISKS_WRONG, DESKS, desks.len());
+        return refused(3, fault, desks, sessions);
+    }
+    run_one(alloc, desks, sessions)
 }

@@ -1,12 +1,13 @@
-//! A session: its lines, answered over the anchor's configuration.
+//! A session: its lines, answered over the anchor's desk.
 
-ghost use Rattle.std.specs.Prelude.{◌≡◌, ◌≤◌, List};
+ghost use Rattle.std.specs.Prelude.{◌≡◌, ◌≤◌};
 ghost use Rattle.line_loop.specs.Fault.{Rose};
-ghost use Rattle.authority_book.specs.declared.commands.Command.{Command};
-ghost use Rattle.krill_top.specs.Stands.{StandsFor};
+ghost use Rattle.krill_top.specs.Replies.{State};
+ghost use Rattle.krill_top.specs.Stands.{IsIn};
 ghost use Rattle.krill_top.specs.Ended.{Served};
 
 use crate::anchor::Anchor;
+use disk_api::Disk;
 use line_loop::{Clock, SessionEnd, Sink, Source, serve_lines};
 use std::alloc::Global;
 
@@ -28,13 +29,13 @@ impl Session {
     /// Answers the session's lines, each once and in order, until the session ends.
     ///
     /// Before it waits for more input it has given the replies to all lines that have come.
-    pub fn serve<S: Source, K: Sink, C: Clock>(
+    pub fn serve<D: Disk, S: Source, K: Sink, C: Clock>(
         alloc: Global,
-        anchor: &mut Anchor,
+        anchor: &mut Anchor<D>,
         ends: &mut SessionEnds<S, K, C>,
     ) -> SessionEnd
-        ensures session { (before : List Command) → StandsFor anchor.old before
-            → Served (S.left ends.old.source) (S.left ends.new.source) (K.taken ends.old.sink) (K.taken ends.new.sink) before anchor.new result }
+        ensures session { (before : State) → IsIn D.content D.fault_count anchor.old.desk before
+            → Served D.content D.fault_count (S.left ends.old.source) (S.left ends.new.source) (K.taken ends.old.sink) (K.taken ends.new.sink) before anchor.new.desk result }
         ensures source_fault { result ≡ SessionEnd.SourceFault →
             Rose (S.faults ends.old.source) (S.faults ends.new.source) }
         ensures sink_fault { result ≡ SessionEnd.SinkFault →

@@ -1,4 +1,5 @@
 use super::*;
+use disk_api::{Disk, MemoryDisk};
 use std::alloc::{AllocError, Global};
 use std::test::Fail;
 
@@ -18,14 +19,31 @@ fn session(
     })
 }
 
-// Runs these words over the sessions.
-fn run(
+// Empty disks for so many desks.
+fn empty_disks(alloc: Global, count: usize) -> Result<Vec<MemoryDisk>, AllocError> {
+    let mut disks = Vec::with_capacity(alloc, count)?;
+    for _ in 0..count {
+        disks.push(MemoryDisk::new(alloc, Vec::new(alloc), Vec::new(alloc)))?;
+    }
+    Ok(disks)
+}
+
+type End = RunEnd<MemoryDisk, MemorySource, MemorySink, ListClock>;
+
+// Runs this word over the sessions and the disks.
+fn run_over(
     alloc: Global,
     word: &str,
+    disks: Vec<MemoryDisk>,
     sessions: Vec<Ends>,
-) -> Result<RunEnd<MemorySource, MemorySink, ListClock>, AllocError> {
+) -> Result<End, AllocError> {
     let words = vec![in alloc; String::from_str(alloc, word)?]?;
-    Ok(run_krill(alloc, &words, sessions))
+    Ok(run_krill(alloc, &words, disks, sessions))
+}
+
+// Runs this word over the sessions and empty disks.
+fn run(alloc: Global, word: &str, sessions: Vec<Ends>) -> Result<End, AllocError> {
+    run_over(alloc, word, empty_disks(alloc, 64)?, sessions)
 }
 
 #[test]
@@ -95,6 +113,10 @@ fn no_input_gets_no_reply(rt: HostRuntime) -> Result<(), Fail> {
     assert!(rt; end.fault.is_none());
     assert_eq!(rt; end.sessions.len(), 1);
     assert!(rt; end.sessions[0].sink.bytes().is_empty());
+    assert_eq!(rt; end.desks.len(), 64);
+    for disk in end.desks.iter() {
+        assert_eq!(rt; disk.bytes(), b"KRILLJOURNAL0001\0".as_slice());
+    }
     Ok(())
 }
 
@@ -194,6 +216,7 @@ fn another_number_of_sessions_is_refused(rt: HostRuntime) -> Result<(), Fail> {
         };
         let want = format!(in alloc; "opening refused: WrongCount what 2 needed 1 found {found}")?;
         assert_eq!(rt; fault_text(alloc, &fault)?.as_str(), want.as_str());
+        assert!(rt; end.desks.iter().all(|disk| disk.bytes().is_empty()));
     }
     Ok(())
 }
@@ -209,6 +232,179 @@ fn faults_have_their_texts(rt: HostRuntime) -> Result<(), Fail> {
     ];
     for (fault, want) in rows {
         assert_eq!(rt; fault_text(alloc, &fault)?.as_str(), want);
+    }
+    Ok(())
+}
+
+const FIRST: &str =
+    "{\"command\":\"roas update\",\"ca\":\"ta\",\"add\":[\"10.0.0.0/16-24 => 64496\"]}\n";
+
+const ACCEPTED: &str = "{\"authority\":\"ta\",\"count\":1,\"reply\":\"accepted\"}\n";
+
+// The file of a desk whose one command is the first line's.
+const ONE_COMMAND: &[u8; 58] =
+    b"KRILLJOURNAL0001\x01\0\0\0\0\0\0\0\x20\x07\0\0\0\x01\0\0\0\0\0\0\0\0\0\0\0\0\0\x0a\0\0\0\x10\x18\0\0\xfb\xf0\0\0\0\0\0";
+
+// Disks of which the first has these bytes and fails at these of its calls; the others are empty.
+fn disks_with(alloc: Global, bytes: &[u8], fails: &[u64]) -> Result<Vec<MemoryDisk>, AllocError> {
+    let mut disks = Vec::with_capacity(alloc, 64)?;
+    disks.push(MemoryDisk::new(alloc, bytes.to_vec(alloc)?, fails.to_vec(alloc)?))?;
+    for _ in 1..64 {
+        disks.push(MemoryDisk::new(alloc, Vec::new(alloc), Vec::new(alloc)))?;
+    }
+    Ok(disks)
+}
+
+// Runs this input over the disks.
+fn run_input(alloc: Global, input: &str, disks: Vec<MemoryDisk>) -> Result<End, AllocError> {
+    run_over(
+        alloc,
+        "run",
+        disks,
+        vec![in alloc; session(alloc, input, &[], &[])?]?,
+    )
+}
+
+#[test]
+fn an_accepted_command_stands_on_the_first_disk(rt: HostRuntime) -> Result<(), Fail> {
+    let alloc = rt.alloc();
+    let end = run_input(alloc, FIRST, empty_disks(alloc, 64)?)?;
+    assert_eq!(rt; end.status, 0);
+    assert_eq!(rt; end.sessions.len(), 1);
+    assert_eq!(rt; end.sessions[0].sink.bytes(), ACCEPTED.as_bytes());
+    assert_eq!(rt; end.desks.len(), 64);
+    assert_eq!(rt; end.desks[0].bytes(), ONE_COMMAND.as_slice());
+    assert_eq!(rt; end.desks[1].bytes(), b"KRILLJOURNAL0001\0".as_slice());
+    Ok(())
+}
+
+#[test]
+fn a_second_run_goes_on_from_the_first(rt: HostRuntime) -> Result<(), Fail> {
+    let alloc = rt.alloc();
+    let end = run_input(alloc, FIRST, empty_disks(alloc, 64)?)?;
+    let line =
+        "{\"command\":\"roas update\",\"ca\":\"ta\",\"remove\":[\"10.0.0.0/16-24 => 64496\"]}";
+    let input = format!(in alloc; "{FIRST}{line}")?;
+    let end = run_input(alloc, &input, end.desks)?;
+    assert_eq!(rt; end.status, 0);
+    assert_eq!(rt; end.sessions.len(), 1);
+    let want =
+        "{\"code\":12,\"detail\":\"10.0.0.0/16-24 => 64496\",\"refused\":\"OriginThere\"}\n{\"authority\":\"ta\",\"count\":2,\"reply\":\"accepted\"}\n";
+    assert_eq!(rt; end.sessions[0].sink.bytes(), want.as_bytes());
+    Ok(())
+}
+
+#[test]
+fn another_number_of_disks_is_refused(rt: HostRuntime) -> Result<(), Fail> {
+    let alloc = rt.alloc();
+    let end = run_input(alloc, FIRST, empty_disks(alloc, 63)?)?;
+    assert_eq!(rt; end.status, 3);
+    let Some(fault) = end.fault else {
+        return Err(Fail::from(AllocError));
+    };
+    assert_eq!(rt;
+        fault_text(alloc, &fault)?.as_str(),
+        "opening refused: WrongCount what 0 needed 64 found 63"
+    );
+    assert_eq!(rt; end.desks.len(), 63);
+    assert!(rt; end.desks.iter().all(|disk| disk.bytes().is_empty()));
+    Ok(())
+}
+
+#[test]
+fn a_failing_disk_shuts_the_journal(rt: HostRuntime) -> Result<(), Fail> {
+    let alloc = rt.alloc();
+    // Opening an empty disk makes four calls, so the fifth is the first of the commit.
+    let input = format!(in alloc; "{FIRST}{FIRST}")?;
+    let end = run_input(alloc, &input, disks_with(alloc, &[], &[5])?)?;
+    assert_eq!(rt; end.status, 0);
+    assert_eq!(rt; end.sessions.len(), 1);
+    let want =
+        "{\"code\":23,\"detail\":\"0\",\"refused\":\"DiskFault\"}\n{\"code\":21,\"detail\":\"\",\"refused\":\"Shut\"}\n";
+    assert_eq!(rt; end.sessions[0].sink.bytes(), want.as_bytes());
+    assert_eq!(rt; end.desks.len(), 64);
+    assert_eq!(rt; end.desks[0].faults(), 1);
+    Ok(())
+}
+
+#[test]
+fn opening_says_why_it_was_refused(rt: HostRuntime) -> Result<(), Fail> {
+    let alloc = rt.alloc();
+    let mut bad_record = ONE_COMMAND.to_vec(alloc)?;
+    bad_record[25] = 12;
+    let rows = [
+        (
+            &ONE_COMMAND[..57],
+            3,
+            "opening refused: Damaged device 0 at 57",
+        ),
+        (
+            &ONE_COMMAND[..56],
+            3,
+            "opening refused: Damaged device 0 at 16",
+        ),
+        (
+            bad_record.as_slice(),
+            3,
+            "opening refused: BadRecord device 0 at 0",
+        ),
+        (
+            b"KRILLJOURNAL0002\0\0".as_slice(),
+            3,
+            "opening refused: Damaged device 0 at 0",
+        ),
+    ];
+    for (bytes, status, text) in rows {
+        let end = run_input(alloc, FIRST, disks_with(alloc, bytes, &[])?)?;
+        assert_eq!(rt; end.status, status);
+        let Some(fault) = end.fault else {
+            return Err(Fail::from(AllocError));
+        };
+        assert_eq!(rt; fault_text(alloc, &fault)?.as_str(), text);
+        assert_eq!(rt; end.desks.len(), 64);
+        assert_eq!(rt; end.sessions.len(), 1);
+        assert_eq!(rt; end.desks[0].bytes(), bytes);
+        assert!(rt; end.sessions[0].sink.bytes().is_empty());
+    }
+    Ok(())
+}
+
+#[test]
+fn a_disk_that_fails_at_opening_ends_the_run(rt: HostRuntime) -> Result<(), Fail> {
+    let alloc = rt.alloc();
+    for call in 1..=4 {
+        let end = run_input(alloc, FIRST, disks_with(alloc, &[], &[call])?)?;
+        assert_eq!(rt; end.status, 4);
+        assert_eq!(rt; end.fault, Some(RunFault::Device));
+        assert_eq!(rt; end.desks.len(), 64);
+        assert_eq!(rt; end.sessions.len(), 1);
+        assert!(rt; end.sessions[0].sink.bytes().is_empty());
+    }
+    Ok(())
+}
+
+#[test]
+fn a_stop_within_a_commit_leaves_the_command_or_not(rt: HostRuntime) -> Result<(), Fail> {
+    let alloc = rt.alloc();
+    // How many commands may be found after so many of the commit's four device calls.
+    let rows = [(0, 0, 0), (1, 0, 0), (2, 0, 0), (3, 0, 1), (4, 1, 1)];
+    for (calls, least, most) in rows {
+        for pick in 0..8 {
+            let mut disks = empty_disks(alloc, 64)?;
+            assert_eq!(rt; disks.len(), 64);
+            disks[0].stop_after(4 + calls);
+            let end = run_input(alloc, FIRST, disks)?;
+            assert_eq!(rt; end.desks.len(), 64);
+            let image = end.desks[0].image(alloc, pick)?;
+            let again = run_input(alloc, "", disks_with(alloc, image.as_slice(), &[])?)?;
+            assert_eq!(rt; again.status, 0);
+            assert_eq!(rt; again.desks.len(), 64);
+            let found = u32::from(again.desks[0].bytes().starts_with(&ONE_COMMAND[..57]));
+            assert!(rt;
+                least <= found && found <= most,
+                "{calls} calls, pick {pick}"
+            );
+        }
     }
     Ok(())
 }

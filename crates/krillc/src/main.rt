@@ -1,12 +1,20 @@
-//! `krillc`: the daemon over standard input and output.
+//! `krillc`: the daemon over standard input and output, and the files of a folder.
+//!
+//! The folder `krill-data` of the working directory has a file for each desk, `desk-00` to `desk-63`.
 #![tactic(auto)]
 
+use disk_api::{DiskStop, FileDisk};
 use krill_top::{
     RunFault, SessionEnds, StreamSink, StreamSource, SystemClock, fault_text, run_krill,
 };
-use std::env;
 use std::io::ErrorKind;
 use std::process::ExitCode;
+use std::{env, fs};
+
+/// The folder of the desks' files, in the working directory.
+const FOLDER: &str = "krill-data";
+
+const DESKS: u32 = 64;
 
 /// The statuses of what `main` itself refuses, which are those of the top call.
 const WORDS_STATUS: u8 = 2;
@@ -17,7 +25,7 @@ const MEMORY_STATUS: u8 = 6;
 
 fn main(rt: HostRuntime) -> ExitCode {
     match words_of(&rt) {
-        Ok(words) => run(&rt, &words),
+        Ok(words) => open_and_run(&rt, &words),
         Err(ErrorKind::InvalidData) => refused(&rt, WORDS_STATUS, RunFault::Words),
         Err(ErrorKind::OutOfMemory) => refused(&rt, MEMORY_STATUS, RunFault::Memory),
         Err(_) => refused(&rt, DEVICE_STATUS, RunFault::Device),
@@ -33,8 +41,43 @@ fn words_of(rt: &HostRuntime) -> Result<Vec<String>, ErrorKind> {
         .map_err(|_| ErrorKind::OutOfMemory)
 }
 
+/// Opens the files, whatever the words are, and runs over them.
+fn open_and_run(rt: &HostRuntime, words: &[String]) -> ExitCode {
+    match open_disks(rt) {
+        Ok(desks) => run(rt, words, desks),
+        Err(DiskStop::Fault) => refused(rt, DEVICE_STATUS, RunFault::Device),
+        Err(DiskStop::Memory) => refused(rt, MEMORY_STATUS, RunFault::Memory),
+    }
+}
+
+/// Makes the folder, and opens the desks' files in it.
+fn open_disks(rt: &HostRuntime) -> Result<Vec<FileDisk>, DiskStop> {
+    make_folder(rt)?;
+    let mut desks = Vec::with_capacity(rt.alloc(), DESKS as usize)?;
+    for number in 0..DESKS {
+        let path = format!(in rt.alloc(); "{FOLDER}/desk-{number:02}")?;
+        desks.push(FileDisk::open(rt, rt.alloc(), &path)?)?;
+    }
+    Ok(desks)
+}
+
+/// Makes the folder where it is missing, and syncs its own name: without it, a crash could leave the
+/// working directory without the folder.
+fn make_folder(rt: &HostRuntime) -> Result<(), DiskStop> {
+    match make_folder_synced(rt) {
+        Ok(()) => Ok(()),
+        Err(error) if error.kind() == ErrorKind::OutOfMemory => Err(DiskStop::Memory),
+        Err(_) => Err(DiskStop::Fault),
+    }
+}
+
+fn make_folder_synced(rt: &HostRuntime) -> Result<(), std::io::Error> {
+    fs::create_dir_all(rt, FOLDER)?;
+    fs::File::open(rt, ".")?.sync_all()
+}
+
 /// Runs over standard input and output, and tells why it ended otherwise than well.
-fn run(rt: &HostRuntime, words: &[String]) -> ExitCode {
+fn run(rt: &HostRuntime, words: &[String], desks: Vec<FileDisk>) -> ExitCode {
     let session = SessionEnds {
         source: StreamSource::new(rt.stdin()),
         sink: StreamSink::new(rt.stdout()),
@@ -43,7 +86,7 @@ fn run(rt: &HostRuntime, words: &[String]) -> ExitCode {
     let Ok(sessions) = vec![in rt.alloc(); session] else {
         return refused(rt, MEMORY_STATUS, RunFault::Memory);
     };
-    let end = run_krill(rt.alloc(), words, sessions);
+    let end = run_krill(rt.alloc(), words, desks, sessions);
     match end.fault {
         None => ExitCode::from(end.status),
         Some(fault) => refused(rt, end.status, fault),

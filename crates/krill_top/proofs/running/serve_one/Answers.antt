@@ -1,37 +1,27 @@
--- The session that was handed in is taken out, served, and put back alone.
-use Rattle.std.proofs.Common.{◌≡◌, [], ◌∷◌, ◌++◌, List, Bool, true, false, cond, ◌∙◌, ap, sym, subst, refl}
-use Rattle.std.specs.Prelude.{Result, Ok, Err, is_ok, is_err}
-use Rattle.line_loop.specs.Fault.{Rose}
+use Rattle.std.proofs.Common.{◌≡◌, ◌<◌, ◌≤◌, [], ◌∷◌, List, refl, sym, ◌∙◌, ap, subst, arith, vec_len, vec_capacity, rules}
 use Rattle.krill_top.specs.declared.serving.SessionEnds.{SessionEnds}
-use Rattle.krill_top.specs.Run.{ServesFresh}
+use Rattle.krill_top.specs.Opened.{AreClosed}
+use Rattle.krill_top.specs.Run.{ServesOne}
+use Rattle.krill_top.proofs.ServedOver.{serves}
 use Rattle.krill_top.proofs.running.serve_one.Goals as goal
 
--- the last of one element is that element, and nothing is before it
-nothing_before : {A : Type 0} (front : List A) (x y : A) → y ∷ [] ≡ front ++ x ∷ [] → (front ≡ []) × (x ≡ y)
-nothing_before [] x y e = (refl, cc)
-nothing_before (z ∷ []) x y e = (cc, cc)
-nothing_before (z ∷ w ∷ front) x y e = (cc, cc)
-
-ok_where_not_err : {T E : Type 0} (r : Result T E) → is_err r ≡ false → is_ok r ≡ true
-ok_where_not_err (Ok x) e = refl
-ok_where_not_err (Err x) e = cc
+-- the first of one element, and nothing behind it
+only_one : {A : Type 0} (x y : A) (rest : List A) → y ∷ [] ≡ x ∷ rest → (x ≡ y) × (rest ≡ [])
+only_one x y rest e = (cc, cc)
 
 pub returns : goal.returns
-returns g c before one =
+returns g c first others before opened one =
     let Ends : Type 0 = SessionEnds g.row.S.Denot g.row.K.Denot g.row.C.Denot in
-    let popped = nothing_before c.pop.new.self.items c.in-Some.ends before (sym one ∙ c.in-Some.ensures.items) in
-    let after = c.serve_fresh-ends.result.0 in
-    let ended = c.serve_fresh-ends.result.1 in
-    let pushed : is_ok c.push.result ≡ true = ok_where_not_err c.push.result (sym c.is_err.ensures.value ∙ c.if-is_err.false) in
-    record {
-      after = after;
-      ended = ended;
-      handed_back = c.push.ensures.items
-          ∙ ap (λ (b : Bool). cond b (c.pop.new.self.items ++ after ∷ []) c.pop.new.self.items) pushed
-          ∙ ap (λ (l : List Ends). l ++ after ∷ []) popped.0;
-      status = c.status_of.ensures;
-      fault = c.fault_of.ensures;
-      served = subst (λ (b : Ends). ServesFresh g.S.Source.left g.K.Sink.taken b after ended) popped.1 c.serve_fresh-ends.ensures.session;
-      source_fault = λ is. subst (λ (b : Ends). Rose (g.S.Source.faults b.source) (g.S.Source.faults after.source)) popped.1 (c.serve_fresh-ends.ensures.source_fault is);
-      sink_fault = λ is. subst (λ (b : Ends). Rose (g.K.Sink.faults b.sink) (g.K.Sink.faults after.sink)) popped.1 (c.serve_fresh-ends.ensures.sink_fault is);
-    }
+    let taken = only_one c.take_first-ends.result before c.take_first-ends.new.list.items (sym one ∙ c.take_first-ends.ensures.items) in
+    let after = c.serve_first-ended.new.ends in
+    let desks = c.serve_first-ended.ensures.desks in
+    let run = c.run_end.result in
+    subst (λ (b : Ends). ServesOne g.D.Disk.content g.D.Disk.may_leave g.D.Disk.fault_count g.S.Source.left g.K.Sink.taken g.S.Source.faults g.K.Sink.faults first others b run) taken.0
+    (serves g.D.Disk.content g.D.Disk.may_leave g.D.Disk.fault_count g.S.Source.left g.K.Sink.taken g.S.Source.faults g.K.Sink.faults first others c.take_first-ends.result after c.serve_first-ended.result run
+    desks.0 desks.1 desks.2 c.args.opened.desks.items c.serve_first-ended.new.desks.items
+    opened desks.3 desks.4
+    (subst (λ (l : List g.row.D.Denot). AreClosed g.D.Disk.content g.D.Disk.may_leave c.serve_first-ended.new.desks.items l) (sym c.run_end.ensures.desks) c.close_desks.ensures)
+    desks.5
+    (c.run_end.ensures.sessions ∙ c.put_in_front.ensures.items ∙ ap (λ (l : List Ends). after ∷ l) taken.1)
+    c.run_end.ensures.status c.run_end.ensures.fault
+    c.serve_first-ended.ensures.source_fault c.serve_first-ended.ensures.sink_fault c.serve_first-ended.ensures.source_later c.serve_first-ended.ensures.sink_later c.serve_first-ended.ensures.clock)

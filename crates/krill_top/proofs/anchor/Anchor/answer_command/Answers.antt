@@ -1,13 +1,33 @@
-use Rattle.std.proofs.Common.{sym}
-use Rattle.krill_top.proofs.Answering.{accepted_answers, refused_answers}
+use Rattle.std.proofs.Common.{◌≡◌, ◌∙◌, ap, [], ◌∷◌, ◌++◌, List, ℕ, refl}
+use Rattle.json_api.specs.Reply.{accepted_spelling}
+use Rattle.krill_top.proofs.Answering.{accepted_answers, fault_answers}
 use Rattle.krill_top.proofs.anchor.Anchor.answer_command.Goals as goal
 
-pub returns-in_ok-reserve-in-Ok-clause-ok : goal.returns-in_ok-reserve-in-Ok-clause-ok
-returns-in_ok-reserve-in-Ok-clause-ok c =
-    let t = c.accept.ensures in
-    (t.0, cc, accepted_answers c.verdict_on_the_fold.ensures c.args.self.now c.accept.new.self c.args.name.now c.args.command t.0 c.accept.result (sym c.in-Ok.ensures.verdict) t.2)
+pub returns-in-Ok-clause-ok : goal.returns-in-Ok-clause-ok
+returns-in-Ok-clause-ok g c =
+    let took = c.in-Ok.ensures in
+    let text = accepted_spelling c.args.name.now c.in-Ok.count in (
+      text,
+      c.append.ensures.items ∙ ap (λ (l : List ℕ). l ++ 10 ∷ []) (c.accepted_into.ensures.text ∙ ap (λ (l : List ℕ). l ++ text) c.in_ok-reserve.ensures.items),
+      accepted_answers g.D.Disk.content g.D.Disk.fault_count c.verdict_on_the_fold.ensures c.args.self.now.desk c.commit.new.self c.args.name.now c.args.command c.in-Ok.count text
+          (record {
+            place = took.place;
+            commands = took.commands;
+            counted = took.counted.1;
+            held = took.held;
+            is_open = took.open.0;
+            settled = took.open.1;
+            number = took.number;
+            later = took.later;
+            bytes = took.bytes;
+          })
+          refl,
+    )
 
-pub returns-in_ok-append_refusal-in-Err-clause-ok : goal.returns-in_ok-append_refusal-in-Err-clause-ok
-returns-in_ok-append_refusal-in-Err-clause-ok c =
-    let t = c.in_ok-append_refusal-in-Err.ensures.ok in
-    (t.0, t.1, refused_answers c.verdict_on_the_fold.ensures c.args.self.now c.args.name.now c.args.command c.in-Err.refusal t.0 (sym c.in-Err.ensures.verdict) t.2)
+pub returns-in-Err-clause-ok : goal.returns-in-Err-clause-ok
+returns-in-Err-clause-ok g c =
+    let said = c.append_fault.ensures in (
+      said.0,
+      said.1 ∙ ap (λ (l : List ℕ). l ++ said.0 ++ 10 ∷ []) c.in_ok-reserve.ensures.items,
+      fault_answers g.D.Disk.content g.D.Disk.fault_count c.verdict_on_the_fold.ensures c.args.self.now.desk c.commit.new.self c.args.name.now c.args.command c.in-Err.fault said.0 c.in-Err.ensures.refused said.2,
+    )

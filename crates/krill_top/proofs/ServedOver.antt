@@ -1,0 +1,108 @@
+-- A session that was served over the first of the desks, and what the disks hold when they are closed.
+use Rattle.std.proofs.Common.{◌≡◌, ℕ, ◌≤◌, List, [], ◌∷◌, sym, ◌∙◌, ap, subst, refl}
+use Rattle.std.specs.Prelude.{Option, None, Some, IfSome, map}
+use Rattle.line_loop.specs.Fault.{Rose}
+use Rattle.line_loop.specs.declared.session.SessionEnd.{SessionEnd}
+use Rattle.line_loop.specs.declared.session.SessionEnd.TheVariants.{SourceFault, SinkFault}
+use Rattle.cmd_codec.specs.Spelling.{spelling}
+use Rattle.desk_core.specs.Commands.{Records}
+use Rattle.desk_core.specs.View.{View}
+use Rattle.krill_top.specs.declared.serving.SessionEnds.{SessionEnds}
+use Rattle.krill_top.specs.declared.running.RunEnd.{RunEnd}
+use Rattle.krill_top.specs.Replies.{State, anchor_desk}
+use Rattle.krill_top.specs.Stands.{IsIn}
+use Rattle.krill_top.specs.Ended.{Served}
+use Rattle.krill_top.specs.Ends.{status_of, fault_of}
+use Rattle.krill_top.specs.Desks.{IsLeft, AreKept}
+use Rattle.krill_top.specs.Opened.{IsOpened, IsClosed, AreOpened, AreClosed}
+use Rattle.krill_top.specs.Run.{IsOpenedOn, IsClosedOn, ServesOne}
+use Rattle.krill_top.proofs.Desks.{opened_stood_for, closed_left, kept_all}
+use Rattle.krill_top.proofs.Grows.{serves_grows}
+use Rattle.std.specs.Io.KnownBytes.{IsAtEnd}
+
+-- the journal records the commands of the anchor's desk
+recorded_in : {D : Type 0} (content : D → Option (List ℕ)) (fault_count : D → ℕ) (desk : View D) (state : State) → IsIn content fault_count desk state → Records anchor_desk (map spelling state.commands) state.commands
+recorded_in content fault_count desk state is =
+    subst (λ (n : ℕ). Records n (map spelling state.commands) state.commands) is.number (subst (λ (r : List (List ℕ)). Records desk.number r state.commands) is.commands.recorded.spelled is.commands.recorded)
+
+-- the state of the anchor's desk as it was opened
+abbrev opened_state : {D : Type 0} (content : D → Option (List ℕ)) (fault_count : D → ℕ) (disk : D) (desk : View D) → IsOpened content fault_count anchor_desk disk desk → State
+opened_state content fault_count disk desk is = record { commands = is.commands.0; held = desk.held; doubt = None; faults = fault_count desk.disk; content = content desk.disk }
+
+opened_in : {D : Type 0} (content : D → Option (List ℕ)) (fault_count : D → ℕ) (disk : D) (desk : View D) (is : IsOpened content fault_count anchor_desk disk desk) → IsIn content fault_count desk (opened_state content fault_count disk desk is)
+opened_in content fault_count disk desk is = record {
+  number = is.number_is;
+  commands = is.commands.1;
+  held = refl;
+  doubt = is.settled;
+  shut = (λ none. refl, λ none. is.is_open);
+  faults = refl;
+  bytes = refl;
+  next = tt;
+}
+
+opened_on : {D : Type 0} (content : D → Option (List ℕ)) (may_leave : D → List ℕ → Type 0) (fault_count : D → ℕ) (disk : D) (desk : View D) (is : IsOpened content fault_count anchor_desk disk desk) → IsOpenedOn content fault_count disk (opened_state content fault_count disk desk is)
+opened_on content may_leave fault_count disk desk is = record {
+  found = opened_stood_for content may_leave fault_count anchor_desk disk desk is.commands.0 is is.commands.1;
+  recorded = recorded_in content fault_count desk (opened_state content fault_count disk desk is) (opened_in content fault_count disk desk is);
+  held = is.held;
+  bytes = is.bytes;
+  is_open = refl;
+  later = is.later;
+}
+
+closed_on : {D : Type 0} (content : D → Option (List ℕ)) (may_leave : D → List ℕ → Type 0) (fault_count : D → ℕ) (desk : View D) (disk : D) (state : State) → IsIn content fault_count desk state → IsClosed content may_leave desk disk
+    → IsClosedOn content may_leave fault_count disk state
+closed_on content may_leave fault_count desk disk state is closed = record {
+  recorded = recorded_in content fault_count desk state is;
+  next = is.next;
+  left = closed_left content may_leave fault_count desk disk state.commands state.doubt closed is.commands.recorded.spelled is.doubt;
+  bytes = ap content closed.same ∙ is.bytes;
+  counted = ap fault_count closed.same ∙ is.faults;
+}
+
+module _ {D S K C : Type 0} (content : D → Option (List ℕ)) (may_leave : D → List ℕ → Type 0) (fault_count : D → ℕ) (left : S → Option (List ℕ)) (taken : K → Option (List ℕ)) (source_faults : S → ℕ) (sink_faults : K → ℕ) where
+  pub serves : (first : D) (others : List D) (before after : SessionEnds S K C) (end : SessionEnd) (run : RunEnd D S K C)
+      (desk served : View D) (rest : List (View D)) (desks closed : List (View D))
+      → AreOpened content fault_count 0 (first ∷ others) desks → desks ≡ desk ∷ rest → closed ≡ served ∷ rest → AreClosed content may_leave closed run.desks.items
+      → ((state : State) → IsIn content fault_count desk state → Served content fault_count (left before.source) (left after.source) (taken before.sink) (taken after.sink) state served end)
+      → run.sessions.items ≡ after ∷ [] → run.status ≡ status_of end → run.fault ≡ fault_of end
+      → (end ≡ SourceFault → Rose (source_faults before.source) (source_faults after.source))
+      → (end ≡ SinkFault → Rose (sink_faults before.sink) (sink_faults after.sink))
+      → source_faults before.source ≤ source_faults after.source → sink_faults before.sink ≤ sink_faults after.sink
+      → after.clock ≡ before.clock
+      → ServesOne content may_leave fault_count left taken source_faults sink_faults first others before run
+  serves first others before after end run desk served rest desks closed opened desks_are closed_are back session sessions status fault source_fault sink_fault source_later sink_later clock =
+      let all_opened : AreOpened content fault_count 0 (first ∷ others) (desk ∷ rest) = subst (λ (l : List (View D)). AreOpened content fault_count 0 (first ∷ others) l) desks_are opened in
+      let all_closed : AreClosed content may_leave (served ∷ rest) run.desks.items = subst (λ (l : List (View D)). AreClosed content may_leave l run.desks.items) closed_are back in
+      over run.desks.items refl all_opened all_closed
+    where
+      over : (disks : List D) → run.desks.items ≡ disks → AreOpened content fault_count 0 (first ∷ others) (desk ∷ rest) → AreClosed content may_leave (served ∷ rest) disks
+          → ServesOne content may_leave fault_count left taken source_faults sink_faults first others before run
+      over [] is all_opened all_closed = absurd all_closed
+      over (disk ∷ disks) is all_opened all_closed =
+          let state = opened_state content fault_count first desk all_opened.0 in
+          let done = session state (opened_in content fault_count first desk all_opened.0) in
+          let grown = serves_grows end done.given done.written (IsAtEnd (left after.source)) state done.after done.replies in
+          record {
+            first' = disk;
+            others' = disks;
+            after = after;
+            end = end;
+            begun = state;
+            ended = done.after;
+            accepted = grown.0;
+            desks_back = is;
+            handed_back = sessions;
+            status = status;
+            fault = fault;
+            opening = opened_on content may_leave fault_count first desk all_opened.0;
+            served = record { given = done.given; written = done.written; source = done.source; sink = done.sink; replies = done.replies; clock = clock };
+            grows = grown.1;
+            closing = closed_on content may_leave fault_count served disk done.after done.stands all_closed.0;
+            others_kept = kept_all content may_leave fault_count 1 others rest disks all_opened.1 all_closed.1;
+            source_fault = source_fault;
+            sink_fault = sink_fault;
+            source_later = source_later;
+            sink_later = sink_later;
+          }
