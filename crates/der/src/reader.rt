@@ -55,6 +55,13 @@ impl<'a> Reader<'a> {
         self.left.first().copied()
     }
 
+    /// The bytes that are left.
+    pub fn rest(&self) -> &'a [u8]
+        ensures { result.now ≡ self.now.left }
+    {
+        self.left
+    }
+
     /// The content of the next element, which is to have that tag.
     pub fn take(&mut self, tag: u8) -> Result<&'a [u8], DerFault>
         ensures passes { IfOk result (λ content. Passes (spelled tag content.now) self.old self.new) }

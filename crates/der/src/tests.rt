@@ -162,3 +162,65 @@ fn every_first_length_byte_and_every_cut(rt: HostRuntime) {
     }
     assert_eq!(rt; Reader::new(&bytes).take(0x30), Ok(&bytes[4..260]));
 }
+
+// printf 'asn1=SEQUENCE:s\n[s]\na=INTEGER:64496\nb=FORMAT:HEX,OCTETSTRING:0001\nc=FORMAT:HEX,BITSTRING:0a\nd=SEQUENCE:t\n[t]\ne=INTEGER:0\n' >conf
+// openssl asn1parse -genconf conf -noout -out /dev/stdout | xxd -p
+#[test]
+fn a_sequence_as_openssl_spells_it(rt: HostRuntime) -> Result<(), Fail> {
+    let spelled =
+        b"\x30\x12\x02\x03\x00\xfb\xf0\x04\x02\x00\x01\x03\x02\x00\x0a\x30\x03\x02\x01\x00";
+    let mut inner = Vec::new(rt.alloc());
+    unsigned(rt.alloc(), &mut inner, 0)?;
+    let mut content = Vec::new(rt.alloc());
+    unsigned(rt.alloc(), &mut content, 64496)?;
+    element(rt.alloc(), &mut content, 4, b"\x00\x01")?;
+    bits(rt.alloc(), &mut content, 0, b"\x0a")?;
+    element(rt.alloc(), &mut content, 0x30, &inner)?;
+    let mut out = Vec::new(rt.alloc());
+    element(rt.alloc(), &mut out, 0x30, &content)?;
+    assert_eq!(rt; out.as_slice(), spelled.as_slice());
+    let mut reader = Reader::new(&out);
+    assert_eq!(rt; reader.rest(), spelled.as_slice());
+    assert_eq!(rt; reader.take(0x30), Ok(content.as_slice()));
+    assert!(rt; reader.rest().is_empty());
+
+    for end in 0..out.len() {
+        let cut = Reader::new(&out[..end]).take(0x30);
+        assert_eq!(rt; cut, Err(DerFault::Truncated { at: 0 }));
+    }
+    for first in 0..=255u8 {
+        if let Some(tag) = out.first_mut() {
+            *tag = first;
+        }
+        let read = Reader::new(&out).take(0x30);
+        if first == 0x30 {
+            assert_eq!(rt; read, Ok(content.as_slice()));
+        } else {
+            assert_eq!(rt; read, Err(DerFault::BadTag { at: 0 }));
+        }
+    }
+    Ok(())
+}
+
+#[test]
+fn small_values_are_read_back(rt: HostRuntime) -> Result<(), Fail> {
+    for n in 0..66_000u64 {
+        let mut out = Vec::new(rt.alloc());
+        unsigned(rt.alloc(), &mut out, n)?;
+        assert_eq!(rt; Reader::new(&out).unsigned(), Ok(n));
+    }
+    for len in 0..300usize {
+        let content = vec![in rt.alloc(); 7; len]?;
+        let mut out = Vec::new(rt.alloc());
+        element(rt.alloc(), &mut out, 4, &content)?;
+        assert_eq!(rt; Reader::new(&out).take(4), Ok(content.as_slice()));
+    }
+    for unused in 0..=255u8 {
+        for byte in 0..=255u8 {
+            let spelled = [3, 2, unused, byte];
+            let is_one = unused < 8 && byte.trailing_zeros() >= u32::from(unused);
+            assert_eq!(rt; Reader::new(&spelled).bits().is_ok(), is_one);
+        }
+    }
+    Ok(())
+}

@@ -16,6 +16,7 @@ mod texts;
 
 pub use holdings::Resources;
 pub use numbers::{Family, Range};
+pub use prefixes::prefix_length;
 pub use printing::reads_own_texts;
 pub use sets::{Ranges, same_members_same_set};
 pub use texts::{TextFault, reads_texts_once};

@@ -44,7 +44,7 @@ pub fn prefix_range(bits: u32, address: u128, length: u64) -> Result<Range, Bloc
     })
 }
 
-// The length of the prefix that the range is, if it is one, of addresses of so many bits.
+/// The length of the prefix that the range is, if it is one, of addresses of so many bits.
 pub fn prefix_length(bits: u32, range: Range) -> Option<u32>
     requires short { bits ≤ 128 }
     requires fits { range.last < 2 ^ bits }
