@@ -1,0 +1,48 @@
+#!/bin/sh
+# The table of extensions in crates/res_ext/src/table.rt, made anew by openssl and compared. Skipped
+# where openssl is missing. With the word `print` it prints the lines that it made.
+set -eu
+top=$(cd "$(dirname "$0")/.." && pwd)
+command -v openssl >/dev/null || { echo "checks/extensions: openssl is missing, skipped"; exit 0; }
+scratch=$(mktemp -d)
+trap 'rm -rf "$scratch"' EXIT
+cd "$scratch"
+openssl genrsa -out key 2048 2>/dev/null
+
+# blocks FAMILY LIST: a line of openssl's configuration for each block.
+blocks() {
+    echo "$2" | sed 's/, /\n/g' | sed '/^$/d' | awk -v family="$1" '{ print family "." NR "=" $0 }'
+}
+
+# extension NAME: the value, in hexadecimal, of the extension with the blocks on standard input.
+extension() {
+    { printf '[req]\ndistinguished_name=d\nprompt=no\n[d]\nCN=x\n[e]\n%s=critical,@v\n[v]\n' "$1"; cat; } >conf
+    openssl req -new -x509 -key key -config conf -extensions e -outform DER -out cert
+    at=$(openssl asn1parse -inform DER -in cert \
+        | awk -v name="$1" 'index($0, name) { found = 1 } found && /OCTET STRING/ { sub(":.*", ""); print $1; exit }')
+    openssl asn1parse -inform DER -in cert -strparse "$at" -noout -out value
+    od -An -v -tx1 value | tr -d ' \n'
+}
+
+failed=0
+sed -n '/^v4=/p;/^asn=/p' "$top/crates/res_ext/src/table.rt" >lines
+while IFS= read -r line; do
+    case $line in
+    v4=*)
+        v4=${line#v4=} v4=${v4%%;*} v6=${line#*;v6=} v6=${v6%%;*}
+        made="v4=$v4;v6=$v6;$({ blocks IPv4 "$v4"; blocks IPv6 "$v6"; } | extension sbgp-ipAddrBlock)"
+        ;;
+    *)
+        asn=${line#asn=} asn=${asn%%;*}
+        made="asn=$asn;$(blocks AS "$asn" | extension sbgp-autonomousSysNum)"
+        ;;
+    esac
+    if [ "${1-}" = print ]; then
+        echo "$made"
+    elif [ "$made" != "$line" ]; then
+        echo "checks/extensions: openssl makes $made"
+        failed=1
+    fi
+done <lines
+[ "$failed" = 0 ] && [ "${1-}" != print ] && echo "checks/extensions: ok"
+exit "$failed"

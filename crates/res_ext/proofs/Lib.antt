@@ -1,0 +1,11 @@
+pub mod Bytes
+pub mod Bits
+pub mod Ranges
+pub mod AsBlocks
+pub mod AddressBlocks
+pub mod Loops
+pub mod Outcomes
+pub mod ChoiceLemmas
+pub mod ValueLemmas
+pub mod Fronts
+pub mod Apart

@@ -1,0 +1,4 @@
+pub mod Prefixes
+pub mod Blocks
+pub mod Spelling
+pub mod Outcome
