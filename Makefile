@@ -12,3 +12,6 @@ test:
 bench:
 	python3 bench/lines
 	python3 bench/sets
+	python3 bench/der
+	python3 bench/commits
+	python3 bench/reopen
