@@ -35,6 +35,11 @@ printf '{"command":"roas update","ca":"ta","add":["10.0.0.0/16-24 => 64496"]}' >
 expect 0 '{"authority":"ta","count":1,"reply":"accepted"}
 ' '' run
 : >input
+cp krill-data/desk-00 whole
+printf '\037' | dd of=krill-data/desk-00 bs=1 seek=24 conv=notrunc 2>dd-said
+expect 3 '' 'krillc: opening refused: BadRecord device 0 at 0
+' run
+cp whole krill-data/desk-00
 head -c 57 krill-data/desk-00 >cut
 cp cut krill-data/desk-00
 expect 3 '' 'krillc: opening refused: Damaged device 0 at 57
