@@ -1,7 +1,8 @@
 # run: build the proved program and run it on the sample session.
 # test: the whole gate.
 # bench: the measurements, each as a ratio to a baseline of the same run.
-.PHONY: run test bench
+# allocations: every test with each of its allocations failing in turn, outside the gate.
+.PHONY: run test bench allocations
 
 run:
 	sh examples/run-first-session
@@ -15,3 +16,6 @@ bench:
 	python3 bench/der
 	python3 bench/commits
 	python3 bench/reopen
+
+allocations:
+	python3 checks/allocations.py

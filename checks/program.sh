@@ -26,6 +26,15 @@ expect() {
 usage='krillc: usage: krillc run
 '
 : >input
+expect 0 'krillc 0.1.0
+' '' --version
+expect 2 '' "$usage" --version run
+"$krillc" --help >help
+grep -q '^usage: krillc run$' help || { echo "checks/program: --help shows no usage"; failed=1; }
+rm -r krill-data
+expect 0 "$(cat help)
+" '' --help
+[ -e krill-data ] && { echo "checks/program: --help made the store's folder"; failed=1; }
 expect 0 '' '' run
 expect 2 '' "$usage"
 expect 2 '' "$usage" runs
@@ -47,13 +56,36 @@ expect 3 '' 'krillc: opening refused: Damaged device 0 at 57
 cmp -s cut krill-data/desk-00 || { echo "checks/program: a damaged desk was changed"; failed=1; }
 rm -r krill-data
 printf '{"command":"roas update","ca":"ta"}' >input
-if [ -w /dev/full ]; then
-    got=0
-    "$krillc" run <input >/dev/full 2>error || got=$?
-    if [ "$got" != 4 ] || [ "$(cat error)" != 'krillc: device failed' ]; then
-        echo "checks/program: a full device: status $got, expected 4"
+
+# fails WHAT STATUS: says so unless the program ended with status 4 and its message.
+fails() {
+    if [ "$2" != 4 ] || [ "$(cat error)" != 'krillc: device failed' ]; then
+        echo "checks/program: $1: status $2, expected 4"
         failed=1
     fi
+}
+
+# A folder can be opened and not read.
+got=0
+"$krillc" run <. >output 2>error || got=$?
+fails 'a source that fails at once' "$got"
+cmp -s output /dev/null || { echo "checks/program: a reply without a line"; failed=1; }
+if [ -w /dev/full ]; then
+    for word in run --help; do
+        got=0
+        "$krillc" "$word" <input >/dev/full 2>error || got=$?
+        fails "a full device and $word" "$got"
+    done
 fi
+
+# One origin more than a configuration may have.
+rm -r krill-data
+awk 'BEGIN {
+    printf "{\"command\":\"roas update\",\"ca\":\"ta\",\"add\":["
+    for (n = 0; n < 1025; n++) printf "%s\"10.%d.%d.0/24 => 1\"", n ? "," : "", n / 256, n % 256
+    printf "]}"
+}' >input
+expect 0 '{"code":15,"detail":"1025","refused":"TooManyOrigins"}
+' '' run
 [ "$failed" = 0 ] && echo "checks/program: ok"
 exit "$failed"

@@ -2,12 +2,12 @@
 ghost use Rattle.std.specs.Prelude.{◌≡◌, ◌≤◌, ◌+◌, ◌-◌, ◌<◌, ◌^◌, ◌++◌, [], ◌∷◌, ℕ, List, Option, Some, None, Ok, map, length, drop, IfOk, IfErr, IfSome, OnOk, OnErr, IsTrue, ◌↔◌, MatchOption, ◌⊎◌};
 ghost use Rattle.std.specs.Option.{option_map};
 ghost use Rattle.disk_api.specs.Images.{LeavesOnly};
-ghost use Rattle.disk_api.specs.Faults.{HasRisen};
+ghost use Rattle.fault_count.specs.Rise.{HasRisen};
 ghost use Rattle.disk_api.specs.Content.{BothTold};
 ghost use Rattle.gate_journal.specs.Format.{stands_for, damaged_at, held_by, opened, IsUnopened};
 ghost use Rattle.gate_journal.specs.Storing.{stored, entry_bytes};
 ghost use Rattle.authority_book.specs.declared.commands.Command.{Command};
-ghost use Rattle.cmd_codec.specs.Spelling.{spelling, IsShort};
+ghost use Rattle.cmd_codec.specs.Spelling.{spelling};
 ghost use Rattle.desk_core.specs.View.{View, journal_limit};
 ghost use Rattle.desk_core.specs.Commands.{HasCommands};
 

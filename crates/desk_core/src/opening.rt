@@ -2,7 +2,7 @@
 ghost use Rattle.std.specs.Prelude.{◌≡◌, ◌≤◌, ◌++◌, [], ◌∷◌, ℕ, List, Option, map, true, false, IfOk, IfErr, OnOk, IfSome};
 ghost use Rattle.authority_book.specs.declared.commands.Command.{Command};
 ghost use Rattle.authority_book.specs.Fold.{IsFoldOf};
-ghost use Rattle.disk_api.specs.Faults.{HasRisen};
+ghost use Rattle.fault_count.specs.Rise.{HasRisen};
 ghost use Rattle.gate_journal.specs.View.{IsSafe, IsCounted};
 ghost use Rattle.gate_journal.specs.Answers.{IsSameButDisk};
 ghost use Rattle.gate_journal.specs.Reading.{Rests};

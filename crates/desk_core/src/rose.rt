@@ -1,6 +1,6 @@
 // The word of a fault of a desk's disk: only this crate makes one.
 ghost use Rattle.std.specs.Prelude.{◌≡◌, ℕ};
-ghost use Rattle.disk_api.specs.Faults.{HasRisen};
+ghost use Rattle.fault_count.specs.Rise.{HasRisen};
 
 use disk_api::Disk;
 use gate_journal::Rose;

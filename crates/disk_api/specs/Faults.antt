@@ -1,11 +1,8 @@
 -- A disk's count of faults.
-use Rattle.std.specs.Prelude.{◌≡◌, ◌⊎◌, ◌<◌, ◌≤◌, ◌^◌, ◌-◌, ℕ, Result, OnErr, IsErrOf}
+use Rattle.std.specs.Prelude.{◌≤◌, ℕ, Result, OnErr, IsErrOf}
+use Rattle.fault_count.specs.Rise.{HasRisen}
 use Rattle.disk_api.specs.declared.disk.DiskStop.{DiskStop}
 use Rattle.disk_api.specs.declared.disk.DiskStop.TheVariants.{Fault}
-
--- a count rose between two moments, or stands at the last value of a u64
-abbrev pub HasRisen : ℕ → ℕ → Type 0
-HasRisen before after = (before < after) ⊎ ((before ≡ 2 ^ 64 - 1) × (after ≡ 2 ^ 64 - 1))
 
 -- the count never falls, and rises at a fault
 pub record CountsFaults {T : Type 0} (before after : ℕ) (result : Result T DiskStop) : Type 0 where

@@ -1,9 +1,10 @@
 // A disk over a real file. It tells nothing of what it holds: it is the trusted edge.
 ghost use Rattle.std.specs.Prelude.{◌≡◌, None, IfOk};
-ghost use Rattle.disk_api.specs.Faults.{HasRisen};
+ghost use Rattle.fault_count.specs.Rise.{HasRisen};
 ghost use Rattle.disk_api.specs.FileLaws.{told_is_left};
 
 use crate::{Disk, DiskStop};
+use fault_count::raised;
 use std::alloc::Global;
 use std::os::unix::fs::FileExt;
 use std::path::Path;
@@ -31,7 +32,7 @@ impl FileDisk {
     fn stopped(&mut self, error: io::Error) -> DiskStop
         ensures { HasRisen self.old.faults self.new.faults }
     {
-        self.faults = self.faults.saturating_add(1);
+        self.faults = raised(self.faults);
         stop_of(error)
     }
 }

@@ -1,12 +1,13 @@
 // A disk in memory, which keeps each change, so that each moment's images can be told and made.
 ghost use Rattle.std.specs.Prelude.{◌≡◌, ◌+◌, ◌-◌, ◌≤◌, ℕ, min, Some, None, IsTrue, true, cond, length, vec_len, vec_capacity, ◌<◌, IfOk, OnOk, OnErr, ◌↔◌, IsErrOf, [], ◌∷◌, ◌++◌};
 ghost use Rattle.disk_api.specs.Content.{overwritten, cut_to, Gives};
-ghost use Rattle.disk_api.specs.Faults.{HasRisen};
+ghost use Rattle.fault_count.specs.Rise.{HasRisen};
 ghost use Rattle.disk_api.specs.Steps.{content_after, steps_fit};
 
 use crate::image::{replayed, synced, torn};
 use crate::step::{Step, overwrite};
 use crate::{Disk, DiskStop};
+use fault_count::raised;
 use std::alloc::{AllocError, Global};
 
 /// A file in memory, whose calls can be made to fail and whose crash images can be taken.
@@ -108,7 +109,7 @@ impl MemoryDisk {
         ensures file { IsSameFile self.old self.new }
         ensures calls { IsSameScript self.old self.new }
     {
-        self.faults = self.faults.saturating_add(1);
+        self.faults = raised(self.faults);
         stop
     }
 

@@ -7,7 +7,7 @@ use Rattle.std.proofs.lemmas.Option.{none-some}
 use Rattle.std.specs.Option.{option_map, option_or, unwrap_or}
 use Rattle.disk_api.specs.Content.{BothTold}
 use Rattle.disk_api.specs.Images.{IsOnly}
-use Rattle.disk_api.specs.Faults.{HasRisen}
+use Rattle.fault_count.specs.Rise.{HasRisen}
 use Rattle.gate_journal.specs.Storing.{stored, entry_bytes, IsStoring}
 use Rattle.gate_journal.specs.Kept.{IsLaidOut, IsKept, pair_of, shows}
 use Rattle.gate_journal.specs.declared.place.Place.{Place}

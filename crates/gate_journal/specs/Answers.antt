@@ -1,7 +1,7 @@
 -- When a call of a journal is refused, and what each refusal leaves.
 use Rattle.std.specs.Prelude.{◌≡◌, ◌<◌, ◌≤◌, ℕ, ◌+◌, Some, None, Result, Ok, Err, List, length}
 use Rattle.std.specs.Option.{unwrap_or}
-use Rattle.disk_api.specs.Faults.{HasRisen}
+use Rattle.fault_count.specs.Rise.{HasRisen}
 use Rattle.gate_journal.specs.View.{View}
 use Rattle.gate_journal.specs.declared.fault.OpenRefused.{OpenRefused}
 use Rattle.gate_journal.specs.declared.fault.JournalFault.{JournalFault}

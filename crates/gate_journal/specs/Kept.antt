@@ -3,7 +3,7 @@ use Rattle.std.specs.Prelude.{◌≡◌, ◌≢◌, ◌≤◌, ◌<◌, ℕ, ◌
 use Rattle.std.specs.List.{All}
 use Rattle.std.specs.Option.{option_map}
 use Rattle.disk_api.specs.Images.{IsOnly}
-use Rattle.disk_api.specs.Faults.{HasRisen}
+use Rattle.fault_count.specs.Rise.{HasRisen}
 use Rattle.gate_journal.specs.Format.{header, spelled, held_by, payload_of, stands_for}
 use Rattle.gate_journal.specs.View.{StandsForOrDoubt}
 use Rattle.gate_journal.specs.declared.place.Place.{Place}

@@ -3,7 +3,7 @@ ghost use Rattle.std.specs.Prelude.{◌≡◌, ◌≤◌, ◌<◌, ◌+◌, ◌-
 ghost use Rattle.std.specs.Option.{option_map};
 ghost use Rattle.disk_api.specs.Content.{BothTold};
 ghost use Rattle.disk_api.specs.Images.{LeavesOnly};
-ghost use Rattle.disk_api.specs.Faults.{HasRisen};
+ghost use Rattle.fault_count.specs.Rise.{HasRisen};
 ghost use Rattle.gate_journal.specs.Format.{stands_for, damaged_at, held_by, opened, IsUnopened};
 ghost use Rattle.gate_journal.specs.Reading.{Rests};
 ghost use Rattle.gate_journal.specs.Storing.{stored, entry_bytes};

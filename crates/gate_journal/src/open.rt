@@ -3,7 +3,8 @@ ghost use Rattle.std.specs.Prelude.{◌≡◌, ◌≤◌, ◌<◌, ◌+◌, ◌-
 ghost use Rattle.std.specs.Option.{option_map};
 ghost use Rattle.disk_api.specs.Content.{BothTold};
 ghost use Rattle.disk_api.specs.Images.{LeavesOnly, IsOnly};
-ghost use Rattle.disk_api.specs.Faults.{HasRisen, CountsFaults, CountsStops};
+ghost use Rattle.disk_api.specs.Faults.{CountsFaults, CountsStops};
+ghost use Rattle.fault_count.specs.Rise.{HasRisen};
 ghost use Rattle.gate_journal.specs.Format.{header, has_header, stands_for, damaged_at, opened, IsUnopened};
 ghost use Rattle.gate_journal.specs.Reading.{Rests, Fills, IsHead, StandsAt, IsHarmed, Finds, Opens};
 ghost use Rattle.gate_journal.specs.View.{StandsFor};

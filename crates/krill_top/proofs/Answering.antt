@@ -4,7 +4,7 @@ use Rattle.std.specs.Prelude.{Result, Ok, Err, Option, None, Some, IfOk, OnOk, m
 use Rattle.std.specs.Option.{option_map}
 use Rattle.std.proofs.lemmas.List.Elements.{All-push}
 use Rattle.std.proofs.lemmas.Option.{none-some}
-use Rattle.disk_api.specs.Faults.{HasRisen}
+use Rattle.fault_count.specs.Rise.{HasRisen}
 use Rattle.authority_book.specs.declared.commands.Command.{Command}
 use Rattle.authority_book.specs.declared.commands.Command.TheVariants.{UpdateRoas}
 use Rattle.authority_book.specs.declared.refusals.Refusal.{Refusal}

@@ -9,7 +9,7 @@ use Rattle.cmd_codec.specs.Spelling.{spelling}
 use Rattle.desk_core.specs.View.{View, journal_limit}
 use Rattle.desk_core.specs.Commands.{Records, HasCommands}
 use Rattle.desk_core.specs.Images.{Holds, HoldsTold}
-use Rattle.disk_api.specs.Faults.{HasRisen}
+use Rattle.fault_count.specs.Rise.{HasRisen}
 use Rattle.disk_api.specs.Images.{LeavesOnly}
 use Rattle.desk_core.specs.Commands.{IsFirstBad}
 use Rattle.desk_core.specs.declared.faults.DeskOpenFault.{DeskOpenFault}

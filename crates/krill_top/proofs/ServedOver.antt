@@ -1,7 +1,7 @@
 -- A session that was served over the first of the desks, and what the disks hold when they are closed.
 use Rattle.std.proofs.Common.{◌≡◌, ℕ, ◌≤◌, List, [], ◌∷◌, sym, ◌∙◌, ap, subst, refl}
 use Rattle.std.specs.Prelude.{Option, None, Some, IfSome, map}
-use Rattle.line_loop.specs.Fault.{Rose}
+use Rattle.fault_count.specs.Rise.{HasRisen}
 use Rattle.line_loop.specs.declared.session.SessionEnd.{SessionEnd}
 use Rattle.line_loop.specs.declared.session.SessionEnd.TheVariants.{SourceFault, SinkFault}
 use Rattle.cmd_codec.specs.Spelling.{spelling}
@@ -67,8 +67,8 @@ module _ {D S K C : Type 0} (content : D → Option (List ℕ)) (may_leave : D �
       → AreOpened content fault_count 0 (first ∷ others) desks → desks ≡ desk ∷ rest → closed ≡ served ∷ rest → AreClosed content may_leave closed run.desks.items
       → ((state : State) → IsIn content fault_count desk state → Served content fault_count (left before.source) (left after.source) (taken before.sink) (taken after.sink) state served end)
       → run.sessions.items ≡ after ∷ [] → run.status ≡ status_of end → run.fault ≡ fault_of end
-      → (end ≡ SourceFault → Rose (source_faults before.source) (source_faults after.source))
-      → (end ≡ SinkFault → Rose (sink_faults before.sink) (sink_faults after.sink))
+      → (end ≡ SourceFault → HasRisen (source_faults before.source) (source_faults after.source))
+      → (end ≡ SinkFault → HasRisen (sink_faults before.sink) (sink_faults after.sink))
       → source_faults before.source ≤ source_faults after.source → sink_faults before.sink ≤ sink_faults after.sink
       → after.clock ≡ before.clock
       → ServesOne content may_leave fault_count left taken source_faults sink_faults first others before run
@@ -83,7 +83,7 @@ module _ {D S K C : Type 0} (content : D → Option (List ℕ)) (may_leave : D �
       over (disk ∷ disks) is all_opened all_closed =
           let state = opened_state content fault_count first desk all_opened.0 in
           let done = session state (opened_in content fault_count first desk all_opened.0) in
-          let grown = serves_grows end done.given done.written (IsAtEnd (left after.source)) state done.after done.replies in
+          let grown = serves_grows end done.session.given done.session.written (IsAtEnd (left after.source)) state done.after done.session.replies in
           record {
             first' = disk;
             others' = disks;
@@ -97,7 +97,8 @@ module _ {D S K C : Type 0} (content : D → Option (List ℕ)) (may_leave : D �
             status = status;
             fault = fault;
             opening = opened_on content may_leave fault_count first desk all_opened.0;
-            served = record { given = done.given; written = done.written; source = done.source; sink = done.sink; replies = done.replies; clock = clock };
+            served = done.session;
+            clock = clock;
             grows = grown.1;
             closing = closed_on content may_leave fault_count served disk done.after done.stands all_closed.0;
             others_kept = kept_all content may_leave fault_count 1 others rest disks all_opened.1 all_closed.1;

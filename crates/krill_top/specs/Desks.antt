@@ -1,7 +1,7 @@
 -- The disks of a run's desks, as they were handed in and as they are handed back.
 use Rattle.std.specs.Prelude.{◌≡◌, ◌⊎◌, ℕ, ◌+◌, ◌≤◌, suc, Option, None, Some, List, [], ◌∷◌, ◌++◌, length, map, IfSome, ⊤}
 use Rattle.std.specs.Option.{option_map}
-use Rattle.disk_api.specs.Faults.{HasRisen}
+use Rattle.fault_count.specs.Rise.{HasRisen}
 use Rattle.disk_api.specs.Content.{BothTold}
 use Rattle.gate_journal.specs.Format.{stands_for, damaged_at, opened, IsUnopened}
 use Rattle.authority_book.specs.declared.commands.Command.{Command}

@@ -7,13 +7,17 @@ use Rattle.desk_core.specs.View.{View}
 use Rattle.krill_top.specs.Replies.{State, IsReply}
 use Rattle.krill_top.specs.Stands.{IsIn}
 
--- From a state before, the source gave these bytes, the sink took the replies to their lines, as far as
--- the session's end says, and the desk is in the state after.
-pub record Served {D : Type 0} (content : D → Option (List ℕ)) (fault_count : D → ℕ) (left left' taken taken' : Option (List ℕ)) (before : State) (desk : View D) (ended : SessionEnd) : Type 0 where
+-- The source gave these bytes, and the sink took the replies to their lines, as far as the session's end
+-- says, while the desk went from the one state to the other.
+pub record Converses (left left' taken taken' : Option (List ℕ)) (begun ended : State) (end : SessionEnd) : Type 0 where
   pub given : List ℕ
   pub written : List ℕ
-  pub after : State
   pub source : Consumes left left' given
   pub sink : Appends taken taken' written
-  pub replies : Serves IsReply before given (IsAtEnd left') written after ended
+  pub replies : Serves IsReply begun given (IsAtEnd left') written ended end
+
+-- The session was served from a state before, and the desk is in the state after.
+pub record Served {D : Type 0} (content : D → Option (List ℕ)) (fault_count : D → ℕ) (left left' taken taken' : Option (List ℕ)) (before : State) (desk : View D) (end : SessionEnd) : Type 0 where
+  pub after : State
+  pub session : Converses left left' taken taken' before after end
   pub stands : IsIn content fault_count desk after

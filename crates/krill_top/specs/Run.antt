@@ -1,10 +1,8 @@
 -- What a whole run leaves.
 use Rattle.std.specs.Prelude.{◌≡◌, ℕ, ◌≤◌, List, [], ◌∷◌, ◌++◌, Option, None, Some, IfSome, map}
 use Rattle.std.specs.Option.{option_map}
-use Rattle.std.specs.Io.KnownBytes.{Consumes, Appends, IsAtEnd}
 use Rattle.gate_journal.specs.Format.{stands_for, held_by, opened}
-use Rattle.line_loop.specs.Fault.{Rose}
-use Rattle.line_loop.specs.Session.{Serves}
+use Rattle.fault_count.specs.Rise.{HasRisen}
 use Rattle.line_loop.specs.declared.session.SessionEnd.{SessionEnd}
 use Rattle.line_loop.specs.declared.session.SessionEnd.TheVariants.{SourceFault, SinkFault}
 use Rattle.authority_book.specs.declared.commands.Command.{Command}
@@ -14,7 +12,8 @@ use Rattle.krill_top.specs.declared.faults.OpenFault.{OpenFault}
 use Rattle.krill_top.specs.declared.faults.RunFault.{RunFault}
 use Rattle.krill_top.specs.declared.serving.SessionEnds.{SessionEnds}
 use Rattle.krill_top.specs.declared.running.RunEnd.{RunEnd}
-use Rattle.krill_top.specs.Replies.{State, anchor_desk, IsReply}
+use Rattle.krill_top.specs.Replies.{State, anchor_desk}
+use Rattle.krill_top.specs.Ended.{Converses}
 use Rattle.krill_top.specs.Desks.{StoodFor, IsLeft, AreKept, IsOpeningRefused}
 use Rattle.krill_top.specs.Ends.{status_of, fault_of, opening_status, opening_fault}
 
@@ -32,16 +31,6 @@ pub record IsRefusedAtOpening {D S K C : Type 0} (content : D → Option (List �
   pub fault_is : run.fault ≡ Some (opening_fault fault)
   pub refused : IsOpeningRefused content may_leave fault_count fault desks run.desks.items
   pub untouched : run.sessions.items ≡ sessions
-
--- A session served from a state of the anchor's desk on: the sink took the replies to the lines of the
--- bytes that the source gave, as far as the session's end says.
-pub record ServesFrom {S K C : Type 0} (left : S → Option (List ℕ)) (taken : K → Option (List ℕ)) (before after : SessionEnds S K C) (begun ended : State) (end : SessionEnd) : Type 0 where
-  pub given : List ℕ
-  pub written : List ℕ
-  pub source : Consumes (left before.source) (left after.source) given
-  pub sink : Appends (taken before.sink) (taken after.sink) written
-  pub replies : Serves IsReply begun given (IsAtEnd (left after.source)) written ended end
-  pub clock : after.clock ≡ before.clock
 
 -- The state of the anchor's desk once it was opened over a disk.
 pub record IsOpenedOn {D : Type 0} (content : D → Option (List ℕ)) (fault_count : D → ℕ) (disk : D) (begun : State) : Type 0 where
@@ -77,11 +66,12 @@ pub record ServesOne {D S K C : Type 0} (content : D → Option (List ℕ)) (may
   pub status : run.status ≡ status_of end
   pub fault : run.fault ≡ fault_of end
   pub opening : IsOpenedOn content fault_count first begun
-  pub served : ServesFrom left taken before after begun ended end
+  pub served : Converses (left before.source) (left after.source) (taken before.sink) (taken after.sink) begun ended end
+  pub clock : after.clock ≡ before.clock
   pub grows : ended.commands ≡ begun.commands ++ accepted
   pub closing : IsClosedOn content may_leave fault_count first' ended
   pub others_kept : AreKept content may_leave fault_count 1 others others'
-  pub source_fault : end ≡ SourceFault → Rose (source_faults before.source) (source_faults after.source)
-  pub sink_fault : end ≡ SinkFault → Rose (sink_faults before.sink) (sink_faults after.sink)
+  pub source_fault : end ≡ SourceFault → HasRisen (source_faults before.source) (source_faults after.source)
+  pub sink_fault : end ≡ SinkFault → HasRisen (sink_faults before.sink) (sink_faults after.sink)
   pub source_later : source_faults before.source ≤ source_faults after.source
   pub sink_later : sink_faults before.sink ≤ sink_faults after.sink

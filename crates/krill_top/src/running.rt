@@ -10,7 +10,7 @@ ghost use Rattle.krill_top.specs.Replies.{State};
 ghost use Rattle.krill_top.specs.Stands.{IsIn, MayServe};
 ghost use Rattle.krill_top.specs.Ended.{Served};
 ghost use Rattle.krill_top.specs.Run.{IsRefused, IsRefusedAtOpening, ServesOne};
-ghost use Rattle.line_loop.specs.Fault.{Rose};
+ghost use Rattle.fault_count.specs.Rise.{HasRisen};
 ghost use Rattle.krill_top.specs.declared.faults.RunFault.TheVariants as faults;
 ghost use Rattle.krill_top.specs.declared.faults.OpenFault.TheVariants as opening;
 
@@ -116,9 +116,9 @@ fn serve_first<D: Disk, S: Source, K: Sink, C: Clock>(
         → Served D.content D.fault_count (S.left ends.old.source) (S.left ends.new.source) (K.taken ends.old.sink) (K.taken ends.new.sink) before served result) }
     ensures len { vec_len desks.new ≡ vec_len desks.old }
     ensures source_fault { result ≡ SessionEnd.SourceFault →
-        Rose (S.faults ends.old.source) (S.faults ends.new.source) }
+        HasRisen (S.faults ends.old.source) (S.faults ends.new.source) }
     ensures sink_fault { result ≡ SessionEnd.SinkFault →
-        Rose (K.faults ends.old.sink) (K.faults ends.new.sink) }
+        HasRisen (K.faults ends.old.sink) (K.faults ends.new.sink) }
     ensures source_later { S.faults ends.old.source ≤ S.faults ends.new.source }
     ensures sink_later { K.faults ends.old.sink ≤ K.faults ends.new.sink }
     ensures clock { ends.new.clock ≡ ends.old.clock }

@@ -1,7 +1,7 @@
 //! A session: its lines, answered over the anchor's desk.
 
 ghost use Rattle.std.specs.Prelude.{◌≡◌, ◌≤◌};
-ghost use Rattle.line_loop.specs.Fault.{Rose};
+ghost use Rattle.fault_count.specs.Rise.{HasRisen};
 ghost use Rattle.krill_top.specs.Replies.{State};
 ghost use Rattle.krill_top.specs.Stands.{IsIn};
 ghost use Rattle.krill_top.specs.Ended.{Served};
@@ -37,9 +37,9 @@ impl Session {
         ensures session { (before : State) → IsIn D.content D.fault_count anchor.old.desk before
             → Served D.content D.fault_count (S.left ends.old.source) (S.left ends.new.source) (K.taken ends.old.sink) (K.taken ends.new.sink) before anchor.new.desk result }
         ensures source_fault { result ≡ SessionEnd.SourceFault →
-            Rose (S.faults ends.old.source) (S.faults ends.new.source) }
+            HasRisen (S.faults ends.old.source) (S.faults ends.new.source) }
         ensures sink_fault { result ≡ SessionEnd.SinkFault →
-            Rose (K.faults ends.old.sink) (K.faults ends.new.sink) }
+            HasRisen (K.faults ends.old.sink) (K.faults ends.new.sink) }
         ensures source_later { S.faults ends.old.source ≤ S.faults ends.new.source }
         ensures sink_later { K.faults ends.old.sink ≤ K.faults ends.new.sink }
         ensures clock { ends.new.clock ≡ ends.old.clock }

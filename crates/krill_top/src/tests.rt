@@ -137,11 +137,43 @@ fn more_than_1024_origins_are_refused(rt: HostRuntime) -> Result<(), Fail> {
     line.push_str("]}")?;
     let sessions = vec![in alloc; session(alloc, &line, &[], &[])?]?;
     let end = run(alloc, "run", sessions)?;
+    assert_eq!(rt; end.status, 0);
     assert_eq!(rt; end.sessions.len(), 1);
     assert_eq!(rt;
         end.sessions[0].sink.bytes(),
         b"{\"code\":15,\"detail\":\"1025\",\"refused\":\"TooManyOrigins\"}\n".as_slice()
     );
+    Ok(())
+}
+
+#[test]
+fn a_refused_line_leaves_the_origins_as_they_were(rt: HostRuntime) -> Result<(), Fail> {
+    let alloc = rt.alloc();
+    let input = "{\"command\":\"roas update\",\"ca\":\"ta\",\"add\":[\"10.0.0.0/16-24 => 64496\"]}
+{\"command\":\"roas update\",\"ca\":\"ta\",\"add\":[\"10.9.0.0/16 => 1\",\"10.0.0.0/16-24 => 64496\"]}
+{\"command\":\"roas update\",\"ca\":\"ta\",\"remove\":[\"10.9.0.0/16 => 1\"]}
+{\"command\":\"roas update\",\"ca\":\"ta\",\"add\":[\"10.9.0.0/16 => 1\"]}
+";
+    let want = "{\"authority\":\"ta\",\"count\":1,\"reply\":\"accepted\"}
+{\"code\":12,\"detail\":\"10.0.0.0/16-24 => 64496\",\"refused\":\"OriginThere\"}
+{\"code\":14,\"detail\":\"10.9.0.0/16 => 1\",\"refused\":\"NoSuchOrigin\"}
+{\"authority\":\"ta\",\"count\":2,\"reply\":\"accepted\"}
+";
+    for piece in [1, 2, 3, usize::MAX] {
+        let ends = SessionEnds {
+            source: MemorySource::in_pieces(
+                input.as_bytes().to_vec(alloc)?,
+                Vec::new(alloc),
+                piece,
+            ),
+            sink: MemorySink::in_pieces(alloc, Vec::new(alloc), piece),
+            clock: ListClock::new(Vec::new(alloc)),
+        };
+        let end = run(alloc, "run", vec![in alloc; ends]?)?;
+        assert_eq!(rt; end.status, 0);
+        assert_eq!(rt; end.sessions.len(), 1);
+        assert_eq!(rt; end.sessions[0].sink.bytes(), want.as_bytes(), "by {piece}");
+    }
     Ok(())
 }
 
@@ -163,6 +195,7 @@ fn a_line_above_the_limit_is_a_bad_line_once(rt: HostRuntime) -> Result<(), Fail
             clock: ListClock::new(Vec::new(alloc)),
         };
         let end = run(alloc, "run", vec![in alloc; ends]?)?;
+        assert_eq!(rt; end.status, 0);
         assert_eq!(rt; end.sessions.len(), 1);
         assert_eq!(rt;
             end.sessions[0].sink.bytes(),
@@ -282,6 +315,7 @@ fn an_accepted_command_stands_on_the_first_disk(rt: HostRuntime) -> Result<(), F
 fn a_second_run_goes_on_from_the_first(rt: HostRuntime) -> Result<(), Fail> {
     let alloc = rt.alloc();
     let end = run_input(alloc, FIRST, empty_disks(alloc, 64)?)?;
+    assert_eq!(rt; end.status, 0);
     let line =
         "{\"command\":\"roas update\",\"ca\":\"ta\",\"remove\":[\"10.0.0.0/16-24 => 64496\"]}";
     let input = format!(in alloc; "{FIRST}{line}")?;

@@ -7,7 +7,7 @@ use disk_api::{DiskStop, FileDisk};
 use krill_top::{
     RunFault, SessionEnds, StreamSink, StreamSource, SystemClock, fault_text, run_krill,
 };
-use std::io::ErrorKind;
+use std::io::{ErrorKind, Write};
 use std::process::ExitCode;
 use std::{env, fs};
 
@@ -15,6 +15,17 @@ use std::{env, fs};
 const FOLDER: &str = "krill-data";
 
 const DESKS: u32 = 64;
+
+const HELP: &str = "krillc: a delegated RPKI certificate authority daemon
+
+usage: krillc run
+       krillc --help | --version
+
+run reads commands from standard input, one line of JSON each, and writes a line of reply to each on
+standard output. Accepted commands are kept in the folder krill-data of the working directory.
+";
+
+const VERSION: &str = "krillc 0.1.0\n";
 
 /// The statuses of what `main` itself refuses, which are those of the top call.
 const WORDS_STATUS: u8 = 2;
@@ -25,7 +36,10 @@ const MEMORY_STATUS: u8 = 6;
 
 fn main(rt: HostRuntime) -> ExitCode {
     match words_of(&rt) {
-        Ok(words) => open_and_run(&rt, &words),
+        Ok(words) => match asked_text(&words) {
+            Some(text) => tell(&rt, text),
+            None => open_and_run(&rt, &words),
+        },
         Err(ErrorKind::InvalidData) => refused(&rt, WORDS_STATUS, RunFault::Words),
         Err(ErrorKind::OutOfMemory) => refused(&rt, MEMORY_STATUS, RunFault::Memory),
         Err(_) => refused(&rt, DEVICE_STATUS, RunFault::Device),
@@ -41,7 +55,27 @@ fn words_of(rt: &HostRuntime) -> Result<Vec<String>, ErrorKind> {
         .map_err(|_| ErrorKind::OutOfMemory)
 }
 
-/// Opens the files, whatever the words are, and runs over them.
+/// The text on the program itself that the words ask for, if that is what they ask.
+fn asked_text(words: &[String]) -> Option<&'static str> {
+    match words {
+        [word] if word.as_str() == "--help" => Some(HELP),
+        [word] if word.as_str() == "--version" => Some(VERSION),
+        _ => None,
+    }
+}
+
+/// Writes the text to standard output, and opens nothing.
+fn tell(rt: &HostRuntime, text: &str) -> ExitCode {
+    match rt.stdout().write_all(text.as_bytes()) {
+        Ok(()) => ExitCode::SUCCESS,
+        Err(error) if error.kind() == ErrorKind::OutOfMemory => {
+            refused(rt, MEMORY_STATUS, RunFault::Memory)
+        }
+        Err(_) => refused(rt, DEVICE_STATUS, RunFault::Device),
+    }
+}
+
+/// Opens the files, whatever else the words are, and runs over them.
 fn open_and_run(rt: &HostRuntime, words: &[String]) -> ExitCode {
     match open_disks(rt) {
         Ok(desks) => run(rt, words, desks),

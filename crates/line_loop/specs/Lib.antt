@@ -1,4 +1,3 @@
-pub mod Fault
 pub mod Lines
 pub mod Replies
 pub mod Session

@@ -2,9 +2,10 @@
 ghost use Rattle.std.specs.Prelude.{◌≡◌, ◌≢◌, ◌↔◌, ℕ, ◌+◌, ◌-◌, ◌^◌, ◌<◌, ◌≤◌, Some, Err, List, [], ◌++◌, length, take, drop, min, slice_index, vec_len, IsTrue, IfOk, OnOk};
 ghost use Rattle.std.specs.Bool.{OnTrue, OnFalse};
 ghost use Rattle.std.specs.Io.KnownBytes.{ReadConsumes, WriteAppends};
-ghost use Rattle.line_loop.specs.Fault.{Rose};
+ghost use Rattle.fault_count.specs.Rise.{HasRisen};
 
 use crate::{Clock, Sink, SinkStop, Source, SourceStop};
+use fault_count::raised;
 use std::alloc::Global;
 
 /// Which calls of an end are to fail.
@@ -32,14 +33,14 @@ impl Schedule {
     fn count_call(&mut self) -> bool
         ensures fails { IsTrue result ↔ IsToFail self.old }
         ensures counts { CountsCall self.old self.new }
-        ensures fault { OnTrue result (Rose self.old.faults self.new.faults) }
+        ensures fault { OnTrue result (HasRisen self.old.faults self.new.faults) }
         ensures no_fault { OnFalse result (self.new.faults ≡ self.old.faults) }
     {
         self.calls = self.calls.saturating_add(1);
         let call = self.calls;
         let is_to_fail = self.fails.contains(&call);
         if is_to_fail {
-            self.faults = self.faults.saturating_add(1);
+            self.faults = raised(self.faults);
         }
         is_to_fail
     }
@@ -106,7 +107,7 @@ impl Source for MemorySource {
         ensures bytes { ReadConsumes (Some (source_left self.old)) (Some (source_left self.new)) result into.new }
         ensures later { fault_count (source_schedule self.old) ≤ fault_count (source_schedule self.new) }
         ensures fault { result ≡ Err SourceStop.Fault →
-            Rose (fault_count (source_schedule self.old)) (fault_count (source_schedule self.new)) }
+            HasRisen (fault_count (source_schedule self.old)) (fault_count (source_schedule self.new)) }
 
         // It fails where it is told to and nowhere else, and gives what there is room for.
         ensures fails { (result ≡ Err SourceStop.Fault) ↔ IsToFail (source_schedule self.old) }
@@ -182,7 +183,7 @@ impl Sink for MemorySink {
         ensures bytes { WriteAppends (Some (sink_bytes self.old)) (Some (sink_bytes self.new)) result bytes.now }
         ensures later { fault_count (sink_schedule self.old) ≤ fault_count (sink_schedule self.new) }
         ensures fault { result ≡ Err SinkStop.Fault →
-            Rose (fault_count (sink_schedule self.old)) (fault_count (sink_schedule self.new)) }
+            HasRisen (fault_count (sink_schedule self.old)) (fault_count (sink_schedule self.new)) }
 
         // It fails where it is told to and nowhere else.
         ensures fails { (result ≡ Err SinkStop.Fault) ↔ IsToFail (sink_schedule self.old) }

@@ -3,7 +3,7 @@ ghost use Rattle.std.specs.Prelude.{◌≡◌, ℕ, ◌<◌, ◌≤◌, Bool, Li
 ghost use Rattle.std.specs.Bool.{OnTrue, OnFalse};
 ghost use Rattle.line_loop.specs.Replies.{Answers, AnswersAtMostOne};
 ghost use Rattle.std.specs.Io.KnownBytes.{Appends, Consumes, IsAtEnd};
-ghost use Rattle.line_loop.specs.Fault.{Rose};
+ghost use Rattle.fault_count.specs.Rise.{HasRisen};
 ghost use Rattle.line_loop.specs.Pending.{NoFeed, IsTail};
 ghost use Rattle.line_loop.specs.Progress.{Advances, Interrupts, InterruptsLast};
 ghost use Rattle.line_loop.specs.Session.{Serves, end_of};
@@ -42,7 +42,7 @@ fn give_all<K: Sink>(alloc: Global, sink: &mut K, out: &mut Vec<u8>) -> Result<(
         × Appends (K.taken sink.old) (K.taken sink.new) written
         × (out.old.items ≡ written ++ cut_off)) }
     ensures later { K.faults sink.old ≤ K.faults sink.new }
-    ensures fault { result ≡ Err SinkStop.Fault → Rose (K.faults sink.old) (K.faults sink.new) }
+    ensures fault { result ≡ Err SinkStop.Fault → HasRisen (K.faults sink.old) (K.faults sink.new) }
 {
     let mut at = 0;
     while at < out.len() {
@@ -58,7 +58,7 @@ fn give_and_stop<K: Sink>(alloc: Global, sink: &mut K, out: &mut Vec<u8>) -> Sin
         × Appends (K.taken sink.old) (K.taken sink.new) written
         × (out.old.items ≡ written ++ cut_off) }
     ensures later { K.faults sink.old ≤ K.faults sink.new }
-    ensures fault { result ≡ SinkStop.Fault → Rose (K.faults sink.old) (K.faults sink.new) }
+    ensures fault { result ≡ SinkStop.Fault → HasRisen (K.faults sink.old) (K.faults sink.new) }
 {
     match give_all(alloc, sink, out) {
         Ok(()) => SinkStop::Memory,
@@ -109,7 +109,7 @@ fn answer_pending<H: LineHandler, K: Sink>(
         × Appends (K.taken sink.old) (K.taken sink.new) written
         × Interrupts H.answers handler.old window.old written handler.new) }
     ensures later { K.faults sink.old ≤ K.faults sink.new }
-    ensures fault { result ≡ Err SinkStop.Fault → Rose (K.faults sink.old) (K.faults sink.new) }
+    ensures fault { result ≡ Err SinkStop.Fault → HasRisen (K.faults sink.old) (K.faults sink.new) }
 {
     'batches: loop {
         match answer_batch(alloc, handler, window, out) {
@@ -137,7 +137,7 @@ fn finish<H: LineHandler, K: Sink>(
         × Appends (K.taken sink.old) (K.taken sink.new) written
         × InterruptsLast H.answers handler.old window.now written handler.new) }
     ensures later { K.faults sink.old ≤ K.faults sink.new }
-    ensures fault { result ≡ Err SinkStop.Fault → Rose (K.faults sink.old) (K.faults sink.new) }
+    ensures fault { result ≡ Err SinkStop.Fault → HasRisen (K.faults sink.old) (K.faults sink.new) }
 {
     match answer_last(alloc, handler, window, out) {
         Ok(()) => give_all(alloc, sink, out),
@@ -172,9 +172,9 @@ pub fn serve_lines<H: LineHandler, S: Source, K: Sink>(
 
     // It doesn't give up by itself.
     ensures source_fault { result ≡ SessionEnd.SourceFault →
-        Rose (S.faults source.old) (S.faults source.new) }
+        HasRisen (S.faults source.old) (S.faults source.new) }
     ensures sink_fault { result ≡ SessionEnd.SinkFault →
-        Rose (K.faults sink.old) (K.faults sink.new) }
+        HasRisen (K.faults sink.old) (K.faults sink.new) }
     ensures source_later { S.faults source.old ≤ S.faults source.new }
     ensures sink_later { K.faults sink.old ≤ K.faults sink.new }
 {

@@ -1,9 +1,10 @@
 // Ends over the standard library's readers, writers and clock.
 ghost use Rattle.std.specs.Prelude.{◌≡◌, ◌-◌, ◌^◌, ◌<◌, ◌≤◌, ℕ, None, Err, Option, List, length, take, min, IfOk, OnOk, OnErr};
 ghost use Rattle.std.specs.Io.KnownBytes.{Consumes, IsAtEnd, Keeps, ReadConsumes, WriteAppends};
-ghost use Rattle.line_loop.specs.Fault.{Rose};
+ghost use Rattle.fault_count.specs.Rise.{HasRisen};
 
 use crate::{Clock, Sink, SinkStop, Source, SourceStop};
+use fault_count::raised;
 use std::alloc::Global;
 use std::io::{ErrorKind, Read, Write};
 use std::time::{SystemTime, UNIX_EPOCH};
@@ -54,13 +55,13 @@ impl<R: Read + Drop> Source for StreamSource<R> {
         ensures bytes { ReadConsumes (R.remaining (source_reader self.old)) (R.remaining (source_reader self.new)) result into.new }
         ensures later { source_fault_count self.old ≤ source_fault_count self.new }
         ensures fault { result ≡ Err SourceStop.Fault →
-            Rose (source_fault_count self.old) (source_fault_count self.new) }
+            HasRisen (source_fault_count self.old) (source_fault_count self.new) }
         ensures ok { OnOk result (source_fault_count self.new ≡ source_fault_count self.old) }
     {
         match read_once(&mut self.from, into) {
             Ok(n) => Ok(n),
             Err(_) => {
-                self.faults = self.faults.saturating_add(1);
+                self.faults = raised(self.faults);
                 Err(SourceStop::Fault)
             }
         }
@@ -128,13 +129,13 @@ impl<W: Write + Drop> Sink for StreamSink<W> {
         ensures bytes { WriteAppends None None result bytes.now }
         ensures later { sink_fault_count self.old ≤ sink_fault_count self.new }
         ensures fault { result ≡ Err SinkStop.Fault →
-            Rose (sink_fault_count self.old) (sink_fault_count self.new) }
+            HasRisen (sink_fault_count self.old) (sink_fault_count self.new) }
         ensures ok { OnOk result (sink_fault_count self.new ≡ sink_fault_count self.old) }
     {
         match write_once(&mut self.to, bytes) {
             Ok(n) => Ok(n),
             Err(_) => {
-                self.faults = self.faults.saturating_add(1);
+                self.faults = raised(self.faults);
                 Err(SinkStop::Fault)
             }
         }

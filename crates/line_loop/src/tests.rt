@@ -64,6 +64,35 @@ fn lines_are_answered_in_whatever_pieces_they_come(rt: HostRuntime) -> Result<()
     Ok(())
 }
 
+// The text of this length with a line feed wherever the pattern, from its lowest bit on, has a 1.
+fn text_of(alloc: Global, len: u32, pattern: u32) -> Result<Vec<u8>, AllocError> {
+    let mut text = Vec::new(alloc);
+    let mut rest = pattern;
+    for _ in 0..len {
+        text.push(if rest % 2 == 1 { b'\n' } else { b'x' })?;
+        rest /= 2;
+    }
+    Ok(text)
+}
+
+#[test]
+fn line_feeds_are_found_at_every_place_in_single_bytes(rt: HostRuntime) -> Result<(), Fail> {
+    let alloc = rt.alloc();
+    // Each length, and how many texts of it there are.
+    for (len, patterns) in [(0, 1), (1, 2), (2, 4), (3, 8), (4, 16), (5, 32), (6, 64)] {
+        for pattern in 0..patterns {
+            let input = text_of(alloc, len, pattern)?;
+            let mut want = input.to_vec(alloc)?;
+            want.push(b'\n')?;
+            let mut source = MemorySource::in_pieces(input, Vec::new(alloc), 1);
+            let mut sink = MemorySink::in_pieces(alloc, Vec::new(alloc), 1);
+            assert_eq!(rt; served(alloc, &mut source, &mut sink), SessionEnd::End);
+            assert_eq!(rt; sink.bytes(), want.as_slice(), "{len} bytes, {pattern:b}");
+        }
+    }
+    Ok(())
+}
+
 #[test]
 fn a_source_that_fails_ends_the_session_behind_the_lines_that_came(
     rt: HostRuntime,

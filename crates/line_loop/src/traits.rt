@@ -1,7 +1,7 @@
 // The ends of a session as the loop sees them. What an end holds is told or not; its faults are counted.
 ghost use Rattle.std.specs.Prelude.{◌≡◌, ℕ, ◌<◌, ◌≤◌, List, Option, Err, length, IfOk};
 ghost use Rattle.std.specs.Io.KnownBytes.{ReadConsumes, WriteAppends};
-ghost use Rattle.line_loop.specs.Fault.{Rose};
+ghost use Rattle.fault_count.specs.Rise.{HasRisen};
 
 use std::alloc::Global;
 use thiserror::Error;
@@ -38,7 +38,7 @@ pub trait Source: Drop {
         ensures room { IfOk result (λ n. n ≤ length into.new) }
         ensures bytes { ReadConsumes (left self.old) (left self.new) result into.new }
         ensures later { faults self.old ≤ faults self.new }
-        ensures fault { result ≡ Err SourceStop.Fault → Rose (faults self.old) (faults self.new) };
+        ensures fault { result ≡ Err SourceStop.Fault → HasRisen (faults self.old) (faults self.new) };
 }
 
 /// Where a session's replies go.
@@ -55,7 +55,7 @@ pub trait Sink: Drop {
         ensures some { IfOk result (λ n. 0 < length bytes.now → 0 < n) }
         ensures bytes { WriteAppends (taken self.old) (taken self.new) result bytes.now }
         ensures later { faults self.old ≤ faults self.new }
-        ensures fault { result ≡ Err SinkStop.Fault → Rose (faults self.old) (faults self.new) };
+        ensures fault { result ≡ Err SinkStop.Fault → HasRisen (faults self.old) (faults self.new) };
 }
 
 /// What tells the time.

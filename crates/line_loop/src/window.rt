@@ -1,7 +1,7 @@
 // The bytes of a session that are not answered yet, in a buffer that they move through.
 ghost use Rattle.std.specs.Prelude.{◌≡◌, ℕ, ◌+◌, ◌-◌, ◌*◌, ◌<◌, ◌≤◌, Err, false, List, [], ◌++◌, length, take, drop, IfSome, IfNone, IfOk, OnErr};
 ghost use Rattle.std.specs.Io.KnownBytes.{Consumes, IsAtEnd, Keeps};
-ghost use Rattle.line_loop.specs.Fault.{Rose};
+ghost use Rattle.fault_count.specs.Rise.{HasRisen};
 ghost use Rattle.line_loop.specs.Pending.{Pending, NoFeed, EndsLine, IsShortened};
 
 use crate::{LINE_LIMIT, Source, SourceStop};
@@ -69,7 +69,7 @@ fn take_at<S: Source>(
     ensures end { IfOk result (λ n. n ≡ 0 → 0 < room → IsAtEnd (S.left source.new)) }
     ensures err { OnErr result (Keeps (S.left source.old) (S.left source.new)) }
     ensures later { S.faults source.old ≤ S.faults source.new }
-    ensures fault { result ≡ Err SourceStop.Fault → Rose (S.faults source.old) (S.faults source.new) }
+    ensures fault { result ≡ Err SourceStop.Fault → HasRisen (S.faults source.old) (S.faults source.new) }
 {
     source.take(alloc, &mut buffer[end..end + room])
 }
@@ -188,7 +188,7 @@ impl Window {
             × Keeps (S.left source.old) (S.left source.new)) }
         ensures later { S.faults source.old ≤ S.faults source.new }
         ensures fault { result ≡ Err SourceStop.Fault →
-            Rose (S.faults source.old) (S.faults source.new) }
+            HasRisen (S.faults source.old) (S.faults source.new) }
     {
         self.make_room();
         let free = BUFFER_LEN - self.end;

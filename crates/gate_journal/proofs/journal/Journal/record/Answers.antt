@@ -1,6 +1,6 @@
 use Rattle.std.proofs.Common.{◌≡◌, ◌∙◌, ◌<◌, ℕ, List, Option, Some, IfSome, sym, ap, subst, rules}
 use Rattle.std.specs.Prelude.{slice_get}
-use Rattle.disk_api.specs.Faults.{HasRisen}
+use Rattle.fault_count.specs.Rise.{HasRisen}
 use Rattle.gate_journal.specs.Kept.{IsKept, IsGuarded, doubt_of}
 use Rattle.gate_journal.specs.View.{View}
 use Rattle.gate_journal.proofs.Keeping.{kept_read, kept_shut, or_is}

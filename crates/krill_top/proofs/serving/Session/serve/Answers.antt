@@ -6,11 +6,7 @@ returns-clause-session g c before stands =
     let s = c.serve_lines.ensures.session in
     let e = serves_over g.D.Disk.content g.D.Disk.fault_count c.serve_lines.result s.0 s.1 _ _ _ before s.4 stands in
     record {
-      given = s.0;
-      written = s.1;
       after = e.after;
-      source = s.2;
-      sink = s.3;
-      replies = e.so;
+      session = record { given = s.0; written = s.1; source = s.2; sink = s.3; replies = e.so };
       stands = e.stands;
     }

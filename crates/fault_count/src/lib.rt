@@ -1,0 +1,33 @@
+//! The count by which an object of the outside shows that a call of it failed.
+//!
+//! Whoever blames the object compares the counts before and after the call. Nothing here takes memory.
+#![tactic(auto)]
+
+ghost use Rattle.std.specs.Prelude.{◌≡◌, ◌+◌, ◌-◌, ◌^◌, min};
+ghost use Rattle.fault_count.specs.Rise.{HasRisen};
+
+/// The count after one failure more. It stands still at the last value of a `u64`.
+pub fn raised(count: u64) -> u64
+    ensures next { result ≡ min (count + 1) (2 ^ 64 - 1) }
+    ensures risen { HasRisen count result }
+{
+    count.saturating_add(1)
+}
+
+#[cfg(test)]
+mod tests {
+    use super::raised;
+
+    #[test]
+    fn a_count_goes_up_by_one_and_stops_at_its_end(rt: HostRuntime) {
+        let table = [
+            (0, 1),
+            (7, 8),
+            (u64::MAX - 1, u64::MAX),
+            (u64::MAX, u64::MAX),
+        ];
+        for (count, after) in table {
+            assert_eq!(rt; raised(count), after);
+        }
+    }
+}
