@@ -87,5 +87,20 @@ awk 'BEGIN {
 }' >input
 expect 0 '{"code":15,"detail":"1025","refused":"TooManyOrigins"}
 ' '' run
+
+# A second program is refused while the first one has the store, and then not.
+mkfifo lines replies
+"$krillc" run <lines >replies &
+exec 3>lines 4<replies
+printf '{"command":"roas update","ca":"ta"}\n' >&3
+read -r first <&4
+[ "$first" = '{"authority":"ta","count":1,"reply":"accepted"}' ] || { echo "checks/program: $first"; failed=1; }
+: >input
+expect 4 '' 'krillc: device failed
+' run
+exec 3>&- 4<&-
+wait
+expect 0 '' '' run
+
 [ "$failed" = 0 ] && echo "checks/program: ok"
 exit "$failed"

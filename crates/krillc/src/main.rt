@@ -9,7 +9,7 @@ use krill_top::{
 };
 use std::io::{ErrorKind, Write};
 use std::process::ExitCode;
-use std::{env, fs};
+use std::{env, fs, io};
 
 /// The folder of the desks' files, in the working directory.
 const FOLDER: &str = "krill-data";
@@ -77,41 +77,56 @@ fn tell(rt: &HostRuntime, text: &str) -> ExitCode {
 
 /// Opens the files, whatever else the words are, and runs over them.
 fn open_and_run(rt: &HostRuntime, words: &[String]) -> ExitCode {
-    match open_disks(rt) {
-        Ok(desks) => run(rt, words, desks),
+    match open_store(rt) {
+        Ok(store) => run(rt, words, store),
         Err(DiskStop::Fault) => refused(rt, DEVICE_STATUS, RunFault::Device),
         Err(DiskStop::Memory) => refused(rt, MEMORY_STATUS, RunFault::Memory),
     }
 }
 
-/// Makes the folder, and opens the desks' files in it.
-fn open_disks(rt: &HostRuntime) -> Result<Vec<FileDisk>, DiskStop> {
-    make_folder(rt)?;
+/// The files of the desks, and their folder, which no other program can lock as long as it's open here.
+#[derive(Drop)]
+struct Store {
+    folder: fs::File,
+    desks: Vec<FileDisk>,
+}
+
+/// Makes the folder, locks it, and opens the desks' files in it.
+fn open_store(rt: &HostRuntime) -> Result<Store, DiskStop> {
+    let folder = lock_folder(rt)?;
     let mut desks = Vec::with_capacity(rt.alloc(), DESKS as usize)?;
     for number in 0..DESKS {
         let path = format!(in rt.alloc(); "{FOLDER}/desk-{number:02}")?;
         desks.push(FileDisk::open(rt, rt.alloc(), &path)?)?;
     }
-    Ok(desks)
+    Ok(Store { folder, desks })
 }
 
-/// Makes the folder where it is missing, and syncs its own name: without it, a crash could leave the
-/// working directory without the folder.
-fn make_folder(rt: &HostRuntime) -> Result<(), DiskStop> {
-    match make_folder_synced(rt) {
-        Ok(()) => Ok(()),
+/// The folder, locked. It fails at once where another program has it open.
+fn lock_folder(rt: &HostRuntime) -> Result<fs::File, DiskStop> {
+    match make_folder_locked(rt) {
+        Ok(folder) => Ok(folder),
         Err(error) if error.kind() == ErrorKind::OutOfMemory => Err(DiskStop::Memory),
         Err(_) => Err(DiskStop::Fault),
     }
 }
 
-fn make_folder_synced(rt: &HostRuntime) -> Result<(), std::io::Error> {
+/// Makes the folder where it is missing, and syncs its own name: without it, a crash could leave the
+/// working directory without the folder.
+fn make_folder_locked(rt: &HostRuntime) -> Result<fs::File, io::Error> {
     fs::create_dir_all(rt, FOLDER)?;
-    fs::File::open(rt, ".")?.sync_all()
+    fs::File::open(rt, ".")?.sync_all()?;
+    let folder = fs::File::open(rt, FOLDER)?;
+    folder.try_lock().map_err(io::Error::from)?;
+    Ok(folder)
 }
 
 /// Runs over standard input and output, and tells why it ended otherwise than well.
-fn run(rt: &HostRuntime, words: &[String], desks: Vec<FileDisk>) -> ExitCode {
+fn run(rt: &HostRuntime, words: &[String], store: Store) -> ExitCode {
+    let Store {
+        folder: _locked,
+        desks,
+    } = store;
     let session = SessionEnds {
         source: StreamSource::new(rt.stdin()),
         sink: StreamSink::new(rt.stdout()),
