@@ -60,6 +60,7 @@ impl<R: Read + Drop> Source for StreamSource<R> {
     {
         match read_once(&mut self.from, into) {
             Ok(n) => Ok(n),
+            Err(e) if e.kind() == ErrorKind::OutOfMemory => Err(SourceStop::Memory),
             Err(_) => {
                 self.faults = raised(self.faults);
                 Err(SourceStop::Fault)
@@ -134,6 +135,7 @@ impl<W: Write + Drop> Sink for StreamSink<W> {
     {
         match write_once(&mut self.to, bytes) {
             Ok(n) => Ok(n),
+            Err(e) if e.kind() == ErrorKind::OutOfMemory => Err(SinkStop::Memory),
             Err(_) => {
                 self.faults = raised(self.faults);
                 Err(SinkStop::Fault)

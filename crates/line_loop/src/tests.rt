@@ -2,7 +2,8 @@ ghost use Rattle.std.specs.Prelude.{◌≡◌, ◌⊎◌, ◌<◌, ◌≤◌, []
 
 use super::*;
 use std::alloc::{AllocError, Global};
-use std::io::Cursor;
+use std::io;
+use std::io::{Cursor, ErrorKind, Read, Write};
 use std::test::Fail;
 
 // Answers each line with itself, and a longer one with an exclamation mark.
@@ -172,6 +173,117 @@ fn streams_serve_too(rt: HostRuntime) -> Result<(), Fail> {
     let mut source = StreamSource::new(Cursor::new(b"ab\ncd".to_vec(alloc)?));
     let mut written = Vec::new(alloc);
     let mut sink = StreamSink::new(&mut written);
+    let end = serve_lines(alloc, &mut Echo, &mut source, &mut sink);
+    drop(sink);
+    assert_eq!(rt; end, SessionEnd::End);
+    assert_eq!(rt; written.as_slice(), b"ab\ncd\n".as_slice());
+    Ok(())
+}
+
+// A stream whose calls fail so.
+#[derive(Drop)]
+struct Failing(ErrorKind);
+
+impl Read for Failing {
+    fn read(&mut self, _buf: &mut [u8]) -> io::Result<usize> {
+        Err(io::Error::from(self.0))
+    }
+}
+
+impl Write for Failing {
+    fn write(&mut self, _buf: &[u8]) -> io::Result<usize> {
+        Err(io::Error::from(self.0))
+    }
+
+    fn flush(&mut self) -> io::Result<()> {
+        Err(io::Error::from(self.0))
+    }
+}
+
+#[test]
+fn a_stream_tells_want_of_memory_from_its_faults(rt: HostRuntime) -> Result<(), Fail> {
+    let alloc = rt.alloc();
+    let rows = [
+        (
+            ErrorKind::OutOfMemory,
+            SessionEnd::Memory,
+            SessionEnd::Memory,
+        ),
+        (
+            ErrorKind::BrokenPipe,
+            SessionEnd::SourceFault,
+            SessionEnd::SinkFault,
+        ),
+    ];
+    for (kind, unread, unwritten) in rows {
+        let mut source = StreamSource::new(Failing(kind));
+        let mut sink = MemorySink::new(alloc, Vec::new(alloc));
+        assert_eq!(rt;
+            serve_lines(alloc, &mut Echo, &mut source, &mut sink),
+            unread
+        );
+        let mut source = MemorySource::new(b"ab".to_vec(alloc)?, Vec::new(alloc));
+        let mut sink = StreamSink::new(Failing(kind));
+        assert_eq!(rt;
+            serve_lines(alloc, &mut Echo, &mut source, &mut sink),
+            unwritten
+        );
+    }
+    Ok(())
+}
+
+// A stream whose every second call is interrupted, from the first on.
+#[derive(Drop)]
+struct Interrupted<S> {
+    stream: S,
+    is_next: bool,
+}
+
+impl<S> Interrupted<S> {
+    fn new(stream: S) -> Self {
+        Interrupted {
+            stream,
+            is_next: true,
+        }
+    }
+
+    fn turn(&mut self) -> io::Result<()> {
+        let is_now = self.is_next;
+        self.is_next = !is_now;
+        if is_now {
+            Err(io::Error::from(ErrorKind::Interrupted))
+        } else {
+            Ok(())
+        }
+    }
+}
+
+impl<S: Read> Read for Interrupted<S> {
+    fn read(&mut self, buf: &mut [u8]) -> io::Result<usize> {
+        self.turn()?;
+        self.stream.read(buf)
+    }
+}
+
+impl<S: Write> Write for Interrupted<S> {
+    fn write(&mut self, buf: &[u8]) -> io::Result<usize> {
+        self.turn()?;
+        self.stream.write(buf)
+    }
+
+    fn flush(&mut self) -> io::Result<()> {
+        self.turn()?;
+        self.stream.flush()
+    }
+}
+
+#[test]
+fn a_stream_that_is_interrupted_is_tried_again(rt: HostRuntime) -> Result<(), Fail> {
+    let alloc = rt.alloc();
+    let bytes = Cursor::new(b"ab\ncd".to_vec(alloc)?);
+    let mut source = StreamSource::new(Interrupted::new(bytes));
+    let mut written = Vec::new(alloc);
+    let mut sink = StreamSink::new(Interrupted::new(&mut written));
     let end = serve_lines(alloc, &mut Echo, &mut source, &mut sink);
     drop(sink);
     assert_eq!(rt; end, SessionEnd::End);
