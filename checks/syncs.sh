@@ -1,0 +1,81 @@
+#!/bin/sh
+# Looks at the calls that the built program makes on the anchor's file: each write of a commit is synced before the
+# next call and before the reply. Skipped where the program isn't built, or where there is no strace that may trace.
+set -eu
+top=$(cd "$(dirname "$0")/.." && pwd)
+krillc=$top/crates/krillc/out/krillc
+[ -x "$krillc" ] || { echo "checks/syncs: krillc isn't built, skipped"; exit 0; }
+strace -o /dev/null true 2>/dev/null || { echo "checks/syncs: no strace, skipped"; exit 0; }
+scratch=$(mktemp -d)
+trap 'rm -rf "$scratch"' EXIT
+cd "$scratch"
+
+# The calls of a run over these lines that change the anchor's file, sync it, or give a reply.
+calls_over() {
+    strace -y -o calls -e trace=pwrite64,write,ftruncate,fsync,fdatasync "$krillc" run <"$1" >replies
+    sed -n \
+        -e 's/^pwrite64([0-9]*<[^>]*\/desk-00>, .*, \([0-9]*\), \([0-9]*\)) *= [0-9]*$/write \1 at \2/p' \
+        -e 's/^ftruncate([0-9]*<[^>]*\/desk-00>, .*$/cut/p' \
+        -e 's/^fsync([0-9]*<[^>]*\/desk-00>) *= 0$/sync/p' \
+        -e 's/^fdatasync([0-9]*<[^>]*\/desk-00>) *= 0$/sync of the data/p' \
+        -e 's/^write(1<.*$/reply/p' calls
+}
+
+# Compares the calls over these lines with those that are wanted.
+expect_calls() {
+    calls_over "$1" >seen
+    cat >wanted
+    if ! cmp -s wanted seen; then
+        echo "checks/syncs: other calls were made over $1:" >&2
+        diff wanted seen >&2 || true
+        exit 1
+    fi
+}
+
+cat >first <<'LINES'
+{"command":"roas update","ca":"ta","add":["10.0.0.0/16-24 => 64496"]}
+LINES
+# The first two calls of a run sync the file where it is opened as a file and as a journal.
+expect_calls first <<'CALLS'
+sync
+sync
+write 17 at 0
+sync
+write 41 at 17
+sync
+write 1 at 16
+sync
+reply
+CALLS
+
+# How many lines of the standard input are this path.
+count_of() {
+    grep -cx "$1" || true
+}
+
+expect_syncs() {
+    [ "$2" -eq "$3" ] || { echo "checks/syncs: $2 of $3 syncs of $1" >&2; exit 1; }
+}
+
+# Each desk's file is synced, each time with its name in the folder, and once the folder's own name.
+sed -n 's/^fsync([0-9]*<\([^>]*\)>) *= 0$/\1/p' calls >synced
+here=$(pwd -P)
+expect_syncs "different files" "$(sort -u synced | count_of "$here/krill-data/desk-[0-9][0-9]")" 64
+expect_syncs "the folder" "$(count_of "$here/krill-data" <synced)" 64
+expect_syncs "the working directory" "$(count_of "$here" <synced)" 1
+
+cat >second <<'LINES'
+{"command":"roas update","ca":"ta","add":["10.0.0.0/16-24 => 64496"]}
+{"command":"roas update","ca":"ta","remove":["10.0.0.0/16-24 => 64496"]}
+LINES
+# A refused command changes nothing; its reply goes with that of the accepted one behind it.
+expect_calls second <<'CALLS'
+sync
+sync
+write 41 at 58
+sync
+write 1 at 57
+sync
+reply
+CALLS
+echo "checks/syncs: ok"
