@@ -1,0 +1,12 @@
+#!/bin/sh
+# Tries the signer beside the program: its keys, its signatures by openssl, kills, faulty lines. Skipped where its
+# Python package or openssl is missing.
+set -eu
+top=$(cd "$(dirname "$0")/.." && pwd)
+command -v python3 >/dev/null || { echo "checks/signer: no python3, skipped"; exit 0; }
+python3 -c 'import cryptography' 2>/dev/null || { echo "checks/signer: no package cryptography, skipped"; exit 0; }
+command -v openssl >/dev/null || { echo "checks/signer: no openssl, skipped"; exit 0; }
+scratch=$(mktemp -d)
+trap 'rm -rf "$scratch"' EXIT
+cd "$scratch"
+python3 "$top/checks/signer.py" "$top/signer/krill-signer"
