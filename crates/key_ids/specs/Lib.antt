@@ -1,0 +1,3 @@
+pub mod Base
+pub mod Places
+pub mod Refusal
