@@ -1,0 +1,35 @@
+-- What a parent answers to a child's request (RFC 6492 sections 3.3 to 3.6).
+use Rattle.std.specs.Prelude.{◌≡◌, ◌≢◌, ◌⊎◌, ℕ, List, string_bytes, codes}
+use Rattle.key_ids.specs.declared.identifier.KeyId.{KeyId}
+use Rattle.res_sets.specs.declared.holdings.Resources.{Resources}
+use Rattle.res_sets.specs.Triples.{AreEmpty}
+use Rattle.provision.specs.declared.Reply.{Reply}
+use Rattle.provision.specs.declared.Reply.TheVariants.{NoClass, Class, Issued, Error}
+use Rattle.provision.specs.declared.Request.{Request}
+use Rattle.provision.specs.declared.Request.TheVariants.{List as ListClasses, Issue}
+
+-- the name of a parent's one class
+abbrev pub only_class : List ℕ
+only_class = codes "0"
+
+-- A list of the classes: the one class with the child's resources, or none where it has no resources.
+abbrev pub IsListed : Resources → Reply → Type 0
+IsListed held NoClass = AreEmpty held
+IsListed held (Class resources) = (¬ AreEmpty held) × (resources ≡ held)
+IsListed held (Issued _ _) = ⊥
+IsListed held (Error _) = ⊥
+
+-- A certificate for a key: all the child's resources for it. Another class's name is error 1201, and a child without
+-- resources 1202, the class's name being looked at first.
+abbrev pub IsIssued : Resources → List ℕ → KeyId → Reply → Type 0
+IsIssued held class key NoClass = ⊥
+IsIssued held class key (Class _) = ⊥
+IsIssued held class key (Issued id resources) =
+    (class ≡ only_class) × (¬ AreEmpty held) × (id ≡ key) × (resources ≡ held)
+IsIssued held class key (Error code) =
+    ((class ≢ only_class) × (code ≡ 1201)) ⊎ ((class ≡ only_class) × AreEmpty held × (code ≡ 1202))
+
+-- The reply is the answer to the request of a child that holds these resources.
+abbrev pub IsAnswer : Resources → Request → Reply → Type 0
+IsAnswer held ListClasses reply = IsListed held reply
+IsAnswer held (Issue class key) reply = IsIssued held (string_bytes class) key reply

@@ -1,0 +1,63 @@
+//! What a parent answers to the requests of a child (RFC 6492).
+#![tactic(auto)]
+
+ghost use Rattle.std.specs.Prelude.{IfOk};
+ghost use Rattle.provision.specs.Answer.{IsAnswer};
+
+use key_ids::KeyId;
+use res_sets::Resources;
+use std::alloc::{AllocError, Global};
+
+/// What a parent has for a child: one class, whose name is `0`, with what the child is certified for.
+#[derive(Debug, Drop)]
+pub struct Class {
+    pub resources: Resources,
+}
+
+/// A child's request.
+#[derive(Debug, Drop)]
+pub enum Request {
+    /// Which classes there are for it (section 3.3).
+    List,
+    /// A certificate of that class for a key (section 3.4).
+    Issue { class: String, key: KeyId },
+}
+
+/// The parent's answer.
+#[derive(Debug, Drop)]
+pub enum Reply {
+    /// There is no class for this child.
+    NoClass,
+    /// The class and its resources.
+    Class { resources: Resources },
+    /// The key is certified for these resources.
+    Issued { key: KeyId, resources: Resources },
+    /// The request is refused, with its code by section 3.6: 1201 for an unknown class, 1202 where
+    /// the class has no resources.
+    Error { code: u32 },
+}
+
+const UNKNOWN_CLASS: u32 = 1201;
+
+const NO_RESOURCES: u32 = 1202;
+
+/// The answer to a request of the child that the class is for.
+pub fn answer(alloc: Global, class: &Class, request: &Request) -> Result<Reply, AllocError>
+    ensures { IfOk result (IsAnswer class.now.resources request.now) }
+{
+    let held = &class.resources;
+    match request {
+        Request::List if held.is_empty() => Ok(Reply::NoClass),
+        Request::List => Ok(Reply::Class {
+            resources: held.copy(alloc)?,
+        }),
+        Request::Issue { class: name, .. } if name.as_str() != "0" => Ok(Reply::Error {
+            code: UNKNOWN_CLASS,
+        }),
+        Request::Issue { .. } if held.is_empty() => Ok(Reply::Error { code: NO_RESOURCES }),
+        Request::Issue { key, .. } => Ok(Reply::Issued {
+            key: *key,
+            resources: held.copy(alloc)?,
+        }),
+    }
+}
