@@ -1,8 +1,9 @@
 -- What a commit does to a desk, by what its parts do.
-use Rattle.std.proofs.Common.{◌≡◌, ◌⊎◌, ◌≤◌, ◌<◌, ◌+◌, ◌-◌, ◌^◌, ℕ, Option, Some, None, List, [], ◌∷◌, ◌++◌, length, refl, sym, ◌∙◌, ap, subst, arith}
+use Rattle.std.proofs.Common.{◌≡◌, ◌⊎◌, ◌≤◌, ◌<◌, ◌+◌, ◌-◌, ◌^◌, ℕ, Option, Some, None, List, [], ◌∷◌, ◌++◌, map, length, refl, sym, ◌∙◌, ap, subst, arith}
 use Rattle.std.specs.Prelude.{IfSome, IsSome, min}
 use Rattle.std.specs.Option.{option_map}
-use Rattle.std.proofs.lemmas.List.{length-map}
+use Rattle.std.proofs.lemmas.List.{length-map, map-append}
+use Rattle.gate_journal.specs.Format.{held_for, held_by}
 use Rattle.disk_api.specs.Images.{LeavesOnly}
 use Rattle.authority_book.specs.declared.commands.Command.{Command}
 use Rattle.authority_book.specs.Settings.{Settings}
@@ -23,7 +24,7 @@ use Rattle.desk_core.proofs.Recorded.{records_push}
 
 -- a desk with these parts
 abbrev pub desk_of : {D : Type 0} → ℕ → Settings → List (List ℕ) → View D → desk.View D
-desk_of number settings records j = record { disk = j.disk; number = number; settings = settings; records = records; held = j.held; shut = j.shut; doubt = j.doubt }
+desk_of number settings records j = record { disk = j.disk; number = number; settings = settings; records = records; shut = j.shut; doubt = j.doubt }
 
 -- an image of the journal's is one of the desk's
 told_with : (content : Option (List ℕ)) (limit : ℕ) (shown : Option (List (List ℕ))) (records : List (List ℕ)) (payload file : List ℕ) → limit ≡ journal_limit →
@@ -52,12 +53,14 @@ told_push (Some all) new records payload same is = subst (λ (o : Option (List (
 
 -- a desk with one record more
 pub kept_push : {D : Type 0} (content : D → Option (List ℕ)) (may_leave : D → List ℕ → Type 0) (number : ℕ) (settings next : Settings) (records more : List (List ℕ)) (payload : List ℕ) (old mid new : View D) →
-    IsKept content may_leave number settings records old → IsSameButRoom old mid → new.records ≡ option_map (λ all. all ++ payload ∷ []) mid.records → new.limit ≡ mid.limit →
+    IsKept content may_leave number settings records old → IsSameButRoom old mid → new.records ≡ option_map (λ all. all ++ payload ∷ []) mid.records → new.limit ≡ mid.limit → new.sizes ≡ mid.sizes ++ length payload ∷ [] →
     IsSafe content may_leave new → more ≡ records ++ payload ∷ [] → IsLoaded number next (records ++ payload ∷ []) → IsKept content may_leave number next more new
-kept_push content may_leave number settings next records more payload old mid new kept same appended limit safe pushed loaded = record {
+kept_push content may_leave number settings next records more payload old mid new kept same appended limit sizes safe pushed loaded = record {
   loaded = subst (λ (r : List (List ℕ)). IsLoaded number next r) (sym pushed) loaded;
   told = subst (λ (r : List (List ℕ)). IfSome new.records (λ all. all ≡ r)) (sym pushed)
       (told_push old.records new.records records payload kept.told (appended ∙ ap (λ (j : View _). option_map (λ (all : List (List ℕ)). all ++ payload ∷ []) j.records) same));
+  sizes = sizes ∙ ap (λ (j : View _). j.sizes ++ length payload ∷ []) same ∙ ap (λ (l : List ℕ). l ++ length payload ∷ []) kept.sizes
+      ∙ sym (map-append length records (payload ∷ [])) ∙ ap (λ (r : List (List ℕ)). map length r) (sym pushed);
   limit = limit ∙ (ap (λ (j : View _). j.limit) same ∙ kept.limit);
   safe = safe;
 }
@@ -74,23 +77,23 @@ has_push number settings next records more payload command old new recordable sp
 
 -- a journal's refusal is the desk's
 pub refused_of : {D : Type 0} (fault_count : D → ℕ) (fault : AppendFault D) (payload : List ℕ) (command : Command) (signers number : ℕ) (settings next : Settings) (records more : List (List ℕ)) (old mid new : View D) →
-    old.limit ≡ journal_limit → IsSameButRoom old mid → next ≡ settings → more ≡ records → payload ≡ spelling command → HasPlace (desk_of number settings records old) command signers →
-    IsAppendFault fault_count fault payload mid new → new.held ≡ mid.held → IsRecordable command → IsDeskFault fault_count (fault_of number fault) command signers (desk_of number settings records old) (desk_of number next more new)
-refused_of fault_count (Shut rose) payload command signers number settings next records more old mid new limit same now_settings now_records spelled place answer held recordable =
+    old.limit ≡ journal_limit → old.sizes ≡ map length records → IsSameButRoom old mid → next ≡ settings → more ≡ records → payload ≡ spelling command → HasPlace (desk_of number settings records old) command signers →
+    IsAppendFault fault_count fault payload mid new → IsRecordable command → IsDeskFault fault_count (fault_of number fault) command signers (desk_of number settings records old) (desk_of number next more new)
+refused_of fault_count (Shut rose) payload command signers number settings next records more old mid new limit sizes same now_settings now_records spelled place answer recordable =
     let shut : mid.shut ≡ Some rose = answer.shut in
     let was : mid.shut ≡ old.shut = ap (λ (j : View _). j.shut) same in
     let is_open : old.shut ≡ None = place.may_come.is_open in
     let no : Some rose ≡ None = sym shut ∙ (was ∙ is_open) in cc
-refused_of fault_count (JournalFull h n) payload command signers number settings next records more old mid new limit same now_settings now_records spelled place answer held recordable =
+refused_of fault_count (JournalFull h n) payload command signers number settings next records more old mid new limit sizes same now_settings now_records spelled place answer recordable =
     let was_limit : mid.limit ≡ old.limit = ap (λ (j : View _). j.limit) same in
-    let was_held : mid.held ≡ old.held = ap (λ (j : View _). j.held) same in
+    let was_held : held_for mid.sizes ≡ held_by records = ap (λ (j : View _). held_for j.sizes) same ∙ ap held_for sizes in
     let long : length payload ≡ length (spelling command) = ap length spelled in
     let past : mid.limit < h + n = answer.past in
-    let h_is : h ≡ mid.held = answer.held_is in
+    let h_is : h ≡ held_for mid.sizes = answer.held_is in
     let n_is : n ≡ length payload + 9 = answer.needed_is in
-    let fits : old.held + (length (spelling command) + 9) ≤ journal_limit = place.fits in
+    let fits : held_by records + (length (spelling command) + 9) ≤ journal_limit = place.fits in
     absurd (omega arith)
-refused_of fault_count (DiskFault rose) payload command signers number settings next records more old mid new limit same now_settings now_records spelled place answer held recordable = record {
+refused_of fault_count (DiskFault rose) payload command signers number settings next records more old mid new limit sizes same now_settings now_records spelled place answer recordable = record {
   place = place;
   desk = refl;
   before = answer.before ∙ ap (λ (j : View _). fault_count j.disk) same;
@@ -98,10 +101,9 @@ refused_of fault_count (DiskFault rose) payload command signers number settings 
   risen = answer.risen;
   recordable = recordable;
   same =
-      let was_held : new.held ≡ old.held = held ∙ ap (λ (j : View _). j.held) same in
       let doubt : new.doubt ≡ Some (spelling command) = answer.doubt ∙ ap Some spelled in
       let shut : new.shut ≡ Some rose = answer.shut in
-      λ i. record { disk = new.disk; number = number; settings = now_settings i; records = now_records i; held = was_held i; shut = shut i; doubt = doubt i };
+      λ i. record { disk = new.disk; number = number; settings = now_settings i; records = now_records i; shut = shut i; doubt = doubt i };
 }
 
 -- how many commands were accepted, as far as a count goes

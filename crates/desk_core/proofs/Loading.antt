@@ -1,8 +1,8 @@
 -- How far the reading of a journal's records has come.
-use Rattle.std.proofs.Common.{◌≡◌, ◌≤◌, ◌+◌, ℕ, Option, Some, None, List, [], ◌∷◌, ◌++◌, take, sym, ◌∙◌, ap, subst, get_or}
+use Rattle.std.proofs.Common.{◌≡◌, ◌≤◌, ◌+◌, ℕ, Option, Some, None, List, [], ◌∷◌, ◌++◌, map, length, take, sym, ◌∙◌, ap, subst, get_or}
 use Rattle.std.specs.Prelude.{IfSome}
 use Rattle.std.specs.List.{slice_get}
-use Rattle.std.proofs.lemmas.List.{take_more}
+use Rattle.std.proofs.lemmas.List.{take_more, map-append}
 use Rattle.std.proofs.lemmas.Option.{slice_get_within, get_or_from_slice_get}
 use Rattle.authority_book.specs.declared.commands.Command.{Command}
 use Rattle.authority_book.specs.Settings.{Settings}
@@ -16,6 +16,7 @@ use Rattle.desk_core.specs.Kept.{IsLoaded}
 pub record IsLoading {D : Type 0} (content : D → Option (List ℕ)) (may_leave : D → List ℕ → Type 0) (moment : D → ℕ) (left_since : D → ℕ → List ℕ → Type 0) (fault_count : D → ℕ) (number : ℕ) (settings : Settings) (records : List (List ℕ)) (index : ℕ) (old new : View D) : Type 0 where
   pub loaded : IsLoaded number settings records
   pub told : IfSome old.records (λ all. records ≡ take index all)
+  pub sizes : map length records ≡ take index old.sizes
   pub open_still : new.shut ≡ old.shut
   pub same : IsSameButDisk old new
   pub disk : Rests content may_leave moment left_since old.disk new.disk
@@ -44,6 +45,16 @@ told_push (Some all) records new payload index so_far there pushed =
     let one : get_or all index [] ≡ payload = get_or_from_slice_get all index payload [] there in
     let back = sym one in
     pushed ∙ ((λ i. so_far i ++ back i ∷ []) ∙ sym more)
+
+-- and its size
+pub sizes_push : (sizes : List ℕ) (records new : List (List ℕ)) (payload : List ℕ) (index : ℕ) → map length records ≡ take index sizes → slice_get sizes index ≡ Some (length payload) → new ≡ records ++ payload ∷ []
+    → map length new ≡ take (index + 1) sizes
+sizes_push sizes records new payload index so_far there pushed =
+    ap (λ (l : List (List ℕ)). map length l) pushed
+    ∙ map-append length records (payload ∷ [])
+    ∙ ap (λ (l : List ℕ). l ++ length payload ∷ []) so_far
+    ∙ ap (λ (n : ℕ). take index sizes ++ n ∷ []) (sym (get_or_from_slice_get sizes index (length payload) 0 there))
+    ∙ sym (take_more sizes index 0 (slice_get_within sizes index (length payload) there))
 
 pub same_far : {D : Type 0} (old mid new : View D) → IsSameButDisk old mid → IsSameButDisk mid new → IsSameButDisk old new
 same_far old mid new so_far more = more ∙ ap (λ (v : View _). record v { disk = new.disk; shut = new.shut }) so_far

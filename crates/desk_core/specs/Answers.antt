@@ -11,6 +11,7 @@ use Rattle.desk_core.specs.declared.faults.DeskFault.TheVariants.{Shut, Verdict,
 use Rattle.desk_core.specs.declared.faults.DeskRefused.{DeskRefused}
 use Rattle.desk_core.specs.declared.faults.DeskOpenFault.{DeskOpenFault}
 use Rattle.desk_core.specs.declared.faults.DeskOpenFault.TheVariants as opening
+use Rattle.gate_journal.specs.Format.{held_by}
 use Rattle.gate_journal.specs.declared.fault.JournalFault.{JournalFault}
 use Rattle.gate_journal.specs.declared.fault.JournalFault.TheVariants as journal
 use Rattle.gate_journal.specs.declared.fault.AppendFault.{AppendFault}
@@ -28,7 +29,7 @@ pub record MayCome {D : Type 0} (desk : View D) (command : Command) (signers : �
 -- and its record fits
 pub record HasPlace {D : Type 0} (desk : View D) (command : Command) (signers : ℕ) : Type 0 where
   pub may_come : MayCome desk command signers
-  pub fits : desk.held + needed_for command ≤ journal_limit
+  pub fits : held_by desk.records + needed_for command ≤ journal_limit
 
 pub record IsVerdictAnswer {D : Type 0} (refusal : Refusal) (command : Command) (signers : ℕ) (old new : View D) : Type 0 where
   pub is_open : old.shut ≡ None
@@ -42,7 +43,7 @@ pub record IsShutAnswer {D : Type 0} (rose : ℕ × (ℕ × ℕ)) (old new : Vie
 
 pub record IsFullAnswer {D : Type 0} (held needed : ℕ) (command : Command) (signers : ℕ) (old new : View D) : Type 0 where
   pub may_come : MayCome old command signers
-  pub held_is : held ≡ old.held
+  pub held_is : held ≡ held_by old.records
   pub needed_is : needed ≡ needed_for command
   pub past : journal_limit < held + needed
   pub same : new ≡ old

@@ -1,5 +1,5 @@
 -- What a desk keeps true of its parts.
-use Rattle.std.specs.Prelude.{◌≡◌, ℕ, Option, List, IfSome}
+use Rattle.std.specs.Prelude.{◌≡◌, ℕ, Option, List, length, map, IfSome}
 use Rattle.authority_book.specs.declared.commands.Command.{Command}
 use Rattle.authority_book.specs.Settings.{Settings}
 use Rattle.authority_book.specs.Fold.{IsFoldOf}
@@ -13,9 +13,11 @@ pub record IsLoaded (number : ℕ) (settings : Settings) (records : List (List �
   pub recorded : Records number records commands
   pub fold : IsFoldOf settings number commands
 
--- The payloads are the journal's, where its disk tells, and record the commands of the configuration.
+-- The payloads are the journal's, where its disk tells, and have its sizes in any case. They record the
+-- commands of the configuration.
 pub record IsKept {D : Type 0} (content : D → Option (List ℕ)) (may_leave : D → List ℕ → Type 0) (number : ℕ) (settings : Settings) (records : List (List ℕ)) (journal : View D) : Type 0 where
   pub loaded : IsLoaded number settings records
   pub told : IfSome journal.records (λ all. all ≡ records)
+  pub sizes : journal.sizes ≡ map length records
   pub limit : journal.limit ≡ journal_limit
   pub safe : IsSafe content may_leave journal

@@ -12,8 +12,6 @@ pub record View (D : Type 0) : Type 0 where
   pub settings : Settings
   -- the payloads of the journal's records, in order
   pub records : List (List ℕ)
-  -- how many bytes the journal takes
-  pub held : ℕ
   -- the disk's counts of faults before and after the call that shut the journal
   pub shut : Option (ℕ × ℕ)
   -- the payload of the record that such a call was to append: it may stand on the disk, or not

@@ -40,7 +40,7 @@ impl<D: Disk> Model for Desk<D> {
 
     ghost Value = { View D };
 
-    ghost view = { λ d. record { disk = d.journal.disk; number = d.number; settings = d.config.settings; records = map (λ payload. payload.items) d.records.items; held = d.journal.held; shut = d.journal.shut; doubt = d.journal.doubt } };
+    ghost view = { λ d. record { disk = d.journal.disk; number = d.number; settings = d.config.settings; records = map (λ payload. payload.items) d.records.items; shut = d.journal.shut; doubt = d.journal.doubt } };
 
     ghost invariant = { λ d. IsKept D.content D.may_leave d.number d.config.settings (map (λ payload. payload.items) d.records.items) d.journal };
 }
@@ -62,7 +62,6 @@ impl<D: Disk> Desk<D> {
         ensures bytes { IfOk result (λ desk. D.content desk.disk ≡ option_map opened (D.content disk)) }
         ensures whole { IfOk result (λ desk. IfSome (D.content disk) (λ bytes. damaged_at journal_limit bytes ≡ None)) }
         ensures number { IfOk result (λ desk. desk.number ≡ number) }
-        ensures held { IfOk result (λ desk. IfSome (D.content disk) (λ bytes. desk.held ≡ held_by (stands_for bytes))) }
         ensures open { IfOk result (λ desk. (desk.shut ≡ None) × (desk.doubt ≡ None)) }
         ensures durable { IfOk result (λ desk. (c : List ℕ) → D.may_leave desk.disk c → HoldsTold (D.content disk) desk.records None c) }
 
@@ -156,8 +155,7 @@ impl<D: Disk> Desk<D> {
         ensures recorded { OnOk result (self.new.records ≡ self.old.records ++ spelling command ∷ []) }
         ensures commands { OnOk result ((commands : List Command) → HasCommands self.old commands → HasCommands self.new (commands ++ command ∷ [])) }
         ensures counted { IfOk result (λ count. (count ≡ length self.new.records) × (count ≡ self.new.settings.count)) }
-        ensures held { OnOk result (self.new.held ≡ self.old.held + needed_for command) }
-        ensures bytes { OnOk result (D.content self.new.disk ≡ option_map (stored self.old.held (entry_bytes (spelling command))) (D.content self.old.disk)) }
+        ensures bytes { OnOk result (D.content self.new.disk ≡ option_map (stored (held_by self.old.records) (entry_bytes (spelling command))) (D.content self.old.disk)) }
         ensures open { OnOk result ((self.new.shut ≡ None) × (self.new.doubt ≡ None)) }
 
         ensures refused { IfErr result (λ fault. IsDeskFault D.fault_count fault command signers self.old self.new) }

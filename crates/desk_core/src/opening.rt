@@ -1,9 +1,9 @@
 // What a journal's records come to, read one after another.
-ghost use Rattle.std.specs.Prelude.{◌≡◌, ◌≤◌, ◌++◌, [], ◌∷◌, ℕ, List, Option, map, true, false, IfOk, IfErr, OnOk, IfSome};
+ghost use Rattle.std.specs.Prelude.{◌≡◌, ◌≤◌, ◌++◌, [], ◌∷◌, ℕ, List, Option, length, map, true, false, IfOk, IfErr, OnOk, IfSome};
 ghost use Rattle.authority_book.specs.declared.commands.Command.{Command};
 ghost use Rattle.authority_book.specs.Fold.{IsFoldOf};
 ghost use Rattle.fault_count.specs.Rise.{HasRisen};
-ghost use Rattle.gate_journal.specs.View.{IsSafe, IsCounted};
+ghost use Rattle.gate_journal.specs.View.{IsSafe, HasSizes};
 ghost use Rattle.gate_journal.specs.Answers.{IsSameButDisk};
 ghost use Rattle.gate_journal.specs.Reading.{Rests};
 ghost use Rattle.desk_core.specs.Commands.{RecordsNoNext, IsFirstBad};
@@ -70,11 +70,12 @@ pub(crate) fn load<D: Disk>(
     number: u32,
     journal: &mut Journal<D>,
 ) -> Result<Loaded, DeskOpenFault>
-    requires counted { IsCounted journal.old }
+    requires sizes { HasSizes journal.old }
     requires safe { IsSafe D.content D.may_leave journal.old }
 
     ensures loaded { IfOk result (λ loaded. IsLoaded number loaded.config.settings (map (λ payload. payload.items) loaded.records.items)) }
     ensures told { IfOk result (λ loaded. IfSome journal.old.records (λ all. all ≡ map (λ payload. payload.items) loaded.records.items)) }
+    ensures sizes { IfOk result (λ loaded. journal.old.sizes ≡ map length (map (λ payload. payload.items) loaded.records.items)) }
     ensures open { OnOk result (journal.new.shut ≡ journal.old.shut) }
 
     ensures bad { IfErr result (λ fault. (at : ℕ) → fault ≡ DeskOpenFault.BadRecord at → IfSome journal.old.records (λ all. IsFirstBad number all at)) }

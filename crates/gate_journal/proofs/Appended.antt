@@ -1,35 +1,26 @@
 -- A laid-out file while a record is stored, and after it.
-use Rattle.std.proofs.Common.{◌≡◌, ◌≢◌, ◌⊎◌, inl, inr, ℕ, ◌+◌, ◌-◌, ◌≤◌, ◌<◌, ◌^◌, Option, Some, None, List, [], ◌∷◌, ◌++◌, map, length, take, drop, set, refl, sym, ◌∙◌, ap, arith, append_assoc, length-append, take-append-drop}
+use Rattle.std.proofs.Common.{◌≡◌, ◌≢◌, ◌⊎◌, inl, inr, ℕ, ◌+◌, ◌-◌, ◌≤◌, ◌<◌, ◌^◌, Option, None, Some, List, [], ◌∷◌, ◌++◌, map, length, take, drop, sym, ◌∙◌, ap, arith, append_assoc, length-append, take-append-drop, refl}
 use Rattle.std.proofs.lemmas.List.{take_at, map-append}
-use Rattle.std.proofs.lemmas.Grind.{take-set_at}
 use Rattle.std.proofs.lemmas.List.Elements.{All-push}
 use Rattle.std.proofs.lemmas.Bool.{cases_eq}
 use Rattle.std.proofs.lemmas.Option.{none-some}
-use Rattle.std.specs.Int.{w64, to_be_bytes}
-use Rattle.gate_journal.specs.Format.{header, spelled, held_by}
+use Rattle.gate_journal.specs.Format.{header, spelled, held_for, taken_by}
 use Rattle.gate_journal.specs.Storing.{stored, entry_bytes, IsBehindGate, HasRecord, IsStoring}
 use Rattle.gate_journal.specs.View.{Holds}
-use Rattle.gate_journal.specs.Kept.{IsLaidOut, places_of, pair_of}
-use Rattle.gate_journal.specs.declared.place.Place.{Place}
-use Rattle.gate_journal.proofs.Records.{length-to_be_bytes, entry, entry_bytes-append, spelled-push, length-spelled-push}
+use Rattle.gate_journal.specs.Kept.{IsLaidOut}
+use Rattle.gate_journal.proofs.Records.{entry, entry_bytes-append, spelled-push}
+use Rattle.gate_journal.proofs.Sizes.{taken_by-spelled}
 use Rattle.gate_journal.proofs.Whole.{AreWithin, holds_closed}
 
-length-head : (records : List (List ℕ)) → length (header ++ spelled records) ≡ held_by records - 1
-length-head records = omega (arith, length-append header (spelled records))
+length-head : (records : List (List ℕ)) → length (header ++ spelled records) ≡ 16 + taken_by (map length records)
+length-head records = omega (arith, length-append header (spelled records), taken_by-spelled records)
 
 regroup : (records : List (List ℕ)) (rest : List ℕ) → header ++ (spelled records ++ rest) ≡ (header ++ spelled records) ++ rest
 regroup records rest = sym (append_assoc header (spelled records) rest)
 
-pub places_of-push : (at : ℕ) (records : List (List ℕ)) (payload : List ℕ) → places_of at (records ++ payload ∷ []) ≡ places_of at records ++ (at + length (spelled records) + 9, length payload) ∷ []
-places_of-push at [] payload = ap (λ (n : ℕ). (n, length payload) ∷ []) (omega arith)
-places_of-push at (first ∷ records) payload =
-    let size : length (spelled (first ∷ records)) ≡ 9 + length first + length (spelled records) = omega (arith, length-append (to_be_bytes w64 (length first)) (first ++ spelled records), length-append first (spelled records), length-to_be_bytes (length first)) in
-    ap (λ (l : List (ℕ × ℕ)). (at + 9, length first) ∷ l) (places_of-push (at + 9 + length first) records payload)
-    ∙ ap (λ (n : ℕ). (at + 9, length first) ∷ (places_of (at + 9 + length first) records ++ (n, length payload) ∷ [])) (omega (arith, size))
-
-module _ {records : List (List ℕ)} {count held : ℕ} {places : List Place} {shut : Option (ℕ × ℕ)} {bytes : List ℕ} (laid : IsLaidOut records count held places shut bytes) where
+module _ {records : List (List ℕ)} {sizes : List ℕ} {shut : Option (ℕ × ℕ)} {bytes : List ℕ} (laid : IsLaidOut records sizes shut bytes) (held : ℕ) (held_is : held ≡ held_for sizes) where
   at_gate : length (header ++ spelled records) ≡ held - 1
-  at_gate = omega (arith, length-head records, laid.held_is)
+  at_gate = omega (arith, length-head records, held_is, ap taken_by laid.sizes_are)
 
   pub take-before : take (held - 1) bytes ≡ header ++ spelled records
   take-before = ap (λ (l : List ℕ). take (held - 1) l) (laid.split ∙ regroup records (laid.gate ∷ laid.tail)) ∙ take_at (header ++ spelled records) (laid.gate ∷ laid.tail) (held - 1) at_gate
@@ -37,10 +28,10 @@ module _ {records : List (List ℕ)} {count held : ℕ} {places : List Place} {s
   take-front : take held bytes ≡ (header ++ spelled records) ++ laid.gate ∷ []
   take-front =
       ap (λ (l : List ℕ). take held l) (laid.split ∙ regroup records (laid.gate ∷ laid.tail) ∙ sym (append_assoc (header ++ spelled records) (laid.gate ∷ []) laid.tail))
-      ∙ take_at ((header ++ spelled records) ++ laid.gate ∷ []) laid.tail held (omega (arith, length-append (header ++ spelled records) (laid.gate ∷ []), at_gate, laid.held_is))
+      ∙ take_at ((header ++ spelled records) ++ laid.gate ∷ []) laid.tail held (omega (arith, length-append (header ++ spelled records) (laid.gate ∷ []), at_gate, held_is))
 
   pub laid_long : held ≤ length bytes
-  laid_long = omega (arith, ap (λ (l : List ℕ). length l) (laid.split ∙ regroup records (laid.gate ∷ laid.tail)), length-append (header ++ spelled records) (laid.gate ∷ laid.tail), at_gate, laid.held_is)
+  laid_long = omega (arith, ap (λ (l : List ℕ). length l) (laid.split ∙ regroup records (laid.gate ∷ laid.tail)), length-append (header ++ spelled records) (laid.gate ∷ laid.tail), at_gate, held_is)
 
   -- a gate that is untouched, and a record that is whole behind some gate
   pub behind_split : (c : List ℕ) → IsBehindGate held bytes c → c ≡ header ++ (spelled records ++ laid.gate ∷ drop held c)
@@ -57,15 +48,13 @@ module _ {records : List (List ℕ)} {count held : ℕ} {places : List Place} {s
       ∙ sym (regroup records (has.gate ∷ (new ++ drop (held + length new) bytes)))
 
   -- in each outcome the records stand where they were
-  pub laid_storing : (new c : List ℕ) (rose : ℕ × ℕ) → IsStoring held new bytes c → IsLaidOut records count held places (Some rose) c
+  pub laid_storing : (new c : List ℕ) (rose : ℕ × ℕ) → IsStoring held new bytes c → IsLaidOut records sizes (Some rose) c
   laid_storing new c rose (inl same) = record {
     gate = laid.gate;
     tail = drop held c;
     split = behind_split c same;
     closed = λ is. absurd (none-some rose (sym is));
-    held_is = laid.held_is;
-    count_is = laid.count_is;
-    places_are = laid.places_are;
+    sizes_are = laid.sizes_are;
     small = laid.small;
   }
   laid_storing new c rose (inr has) = record {
@@ -73,9 +62,7 @@ module _ {records : List (List ℕ)} {count held : ℕ} {places : List Place} {s
     tail = new ++ drop (held + length new) bytes;
     split = record_split new c has;
     closed = λ is. absurd (none-some rose (sym is));
-    held_is = laid.held_is;
-    count_is = laid.count_is;
-    places_are = laid.places_are;
+    sizes_are = laid.sizes_are;
     small = laid.small;
   }
 
@@ -95,9 +82,8 @@ module _ {records : List (List ℕ)} {count held : ℕ} {places : List Place} {s
       ]
 
   -- once it is stored, the file is laid out with it
-  pub laid_stored : (payload : List ℕ) (place : Place) → length payload < 2 ^ 64 → count < length places → pair_of place ≡ (held + 8, length payload)
-      → IsLaidOut (records ++ payload ∷ []) (count + 1) (held + (length payload + 9)) (set places count place) None (stored held (entry_bytes payload) bytes)
-  laid_stored payload place few room is =
+  pub laid_stored : (payload : List ℕ) → length payload < 2 ^ 64 → IsLaidOut (records ++ payload ∷ []) (sizes ++ length payload ∷ []) None (stored held (entry_bytes payload) bytes)
+  laid_stored payload few =
       let rest = drop (held + length (entry_bytes payload)) bytes in
       record {
         gate = 0;
@@ -107,14 +93,6 @@ module _ {records : List (List ℕ)} {count held : ℕ} {places : List Place} {s
             ∙ ap (λ (l : List ℕ). header ++ (spelled records ++ 1 ∷ l)) (entry_bytes-append payload rest)
             ∙ ap (λ (l : List ℕ). header ++ l) (sym (spelled-push records payload (0 ∷ rest)));
         closed = λ _. omega arith;
-        held_is = omega (arith, laid.held_is, length-spelled-push records payload);
-        count_is = omega (arith, laid.count_is, length-append records (payload ∷ []));
-        places_are =
-            ap (λ (l : List Place). map pair_of l) (take-set_at places count (count + 1) place refl room)
-            ∙ map-append pair_of (take count places) (place ∷ [])
-            ∙ ap (λ (l : List (ℕ × ℕ)). l ++ pair_of place ∷ []) laid.places_are
-            ∙ ap (λ (p : ℕ × ℕ). places_of 16 records ++ p ∷ []) is
-            ∙ ap (λ (n : ℕ). places_of 16 records ++ (n, length payload) ∷ []) (omega (arith, laid.held_is))
-            ∙ sym (places_of-push 16 records payload);
+        sizes_are = ap (λ (l : List ℕ). l ++ length payload ∷ []) laid.sizes_are ∙ sym (map-append length records (payload ∷ []));
         small = All-push (λ p. length p < 2 ^ 64) records payload laid.small few;
       }

@@ -1,5 +1,5 @@
 -- What opening found, where the disk may tell what it holds.
-use Rattle.std.proofs.Common.{◌≡◌, inl, inr, ◌<◌, ℕ, Option, Some, None, Result, Ok, Err, IfErr, List, [], ◌∷◌, ◌++◌, length, IfSome, refl, sym, ◌∙◌, ap, subst, arith}
+use Rattle.std.proofs.Common.{◌≡◌, inl, inr, ◌<◌, ℕ, Option, Some, None, Result, Ok, Err, IfErr, List, [], ◌∷◌, ◌++◌, map, length, IfSome, refl, sym, ◌∙◌, ap, subst, arith}
 use Rattle.std.proofs.lemmas.Bool.{cond-true, cond-false, le-leb, lt-leb, cases_lt}
 use Rattle.std.specs.Prelude.{nat_le}
 use Rattle.std.specs.Option.{option_map}
@@ -12,21 +12,19 @@ use Rattle.gate_journal.proofs.Laid.{stands_for-short, stands_for-closed}
 use Rattle.gate_journal.proofs.Whole.{damaged_at-closed, damaged_short}
 
 -- a new journal
-pub opens_new : (limit : ℕ) (content now : Option (List ℕ)) (places : List Place) → places ≡ [] → IfSome content (λ bytes. length bytes < 18) → now ≡ option_map (λ _. header ++ 0 ∷ []) content → IfSome content (λ bytes. Opens limit 17 places bytes now)
+pub opens_new : (limit : ℕ) (content now : Option (List ℕ)) (places : List Place) → places ≡ [] → IfSome content (λ bytes. length bytes < 18) → now ≡ option_map (λ _. header ++ 0 ∷ []) content → IfSome content (λ bytes. Opens limit places bytes now)
 opens_new limit None now places none short is = tt
 opens_new limit (Some bytes) now places none short is = record {
   now = header ++ 0 ∷ [];
   told = is;
   found = record {
     records = [];
-    laid_out = subst (λ (l : List Place). IsLaidOut [] (length l) 17 l None (header ++ 0 ∷ [])) (sym none) (record {
+    laid_out = subst (λ (l : List Place). IsLaidOut [] (map (λ (place : Place). place.size) l) None (header ++ 0 ∷ [])) (sym none) (record {
       gate = 0;
       tail = [];
       split = refl;
       closed = λ _. omega arith;
-      held_is = refl;
-      count_is = refl;
-      places_are = refl;
+      sizes_are = refl;
       small = λ k d lt. absurd (omega (arith, lt));
     });
     within = λ k d lt. absurd (omega (arith, lt));
@@ -69,11 +67,11 @@ unopened_stands (Some bytes) now both =
     ])
 
 -- an old one
-pub opens_old : (limit len held : ℕ) (content mid now : Option (List ℕ)) (places : List Place) → mid ≡ content → now ≡ content → IfSome content (λ bytes. len ≡ length bytes) → 17 < len → IfSome mid (λ bytes. Finds limit held places bytes)
-    → IfSome content (λ bytes. Opens limit held places bytes now)
-opens_old limit len held None mid now places at_mid at_now told long finds = tt
-opens_old limit len held (Some bytes) mid now places at_mid at_now told long finds =
-    let here : Finds limit held places bytes = subst (λ (o : Option (List ℕ)). IfSome o (λ b. Finds limit held places b)) at_mid finds in
+pub opens_old : (limit len : ℕ) (content mid now : Option (List ℕ)) (places : List Place) → mid ≡ content → now ≡ content → IfSome content (λ bytes. len ≡ length bytes) → 17 < len → IfSome mid (λ bytes. Finds limit places bytes)
+    → IfSome content (λ bytes. Opens limit places bytes now)
+opens_old limit len None mid now places at_mid at_now told long finds = tt
+opens_old limit len (Some bytes) mid now places at_mid at_now told long finds =
+    let here : Finds limit places bytes = subst (λ (o : Option (List ℕ)). IfSome o (λ b. Finds limit places b)) at_mid finds in
     let laid = here.laid_out in
     record {
       now = bytes;
@@ -84,10 +82,12 @@ opens_old limit len held (Some bytes) mid now places at_mid at_now told long fin
     }
 
 -- what an opened journal keeps, and shows
-pub found_laid : (limit held : ℕ) (content now : Option (List ℕ)) (places : List Place) → IfSome content (λ bytes. Opens limit held places bytes now) → (content ≡ None → now ≡ None) → IfSome now (λ bytes. (records : List (List ℕ)) × IsLaidOut records (length places) held places None bytes)
-found_laid limit held None now places opens untold = subst (λ (o : Option (List ℕ)). IfSome o (λ bytes. (records : List (List ℕ)) × IsLaidOut records (length places) held places None bytes)) (sym (untold refl)) tt
-found_laid limit held (Some bytes) now places opens untold =
-    subst (λ (o : Option (List ℕ)). IfSome o (λ b. (records : List (List ℕ)) × IsLaidOut records (length places) held places None b)) (sym opens.told) (opens.found.records, opens.found.laid_out)
+pub found_laid : (limit : ℕ) (content now : Option (List ℕ)) (places : List Place) → IfSome content (λ bytes. Opens limit places bytes now) → (content ≡ None → now ≡ None)
+    → IfSome now (λ bytes. (records : List (List ℕ)) × IsLaidOut records (map (λ (place : Place). place.size) places) None bytes)
+found_laid limit None now places opens untold =
+    subst (λ (o : Option (List ℕ)). IfSome o (λ bytes. (records : List (List ℕ)) × IsLaidOut records (map (λ (place : Place). place.size) places) None bytes)) (sym (untold refl)) tt
+found_laid limit (Some bytes) now places opens untold =
+    subst (λ (o : Option (List ℕ)). IfSome o (λ b. (records : List (List ℕ)) × IsLaidOut records (map (λ (place : Place). place.size) places) None b)) (sym opens.told) (opens.found.records, opens.found.laid_out)
 
 pub if_err_weaker : {T F : Type 0} (r : Result T F) (P Q : F → Type 0) → ((e : F) → P e → Q e) → IfErr r P → IfErr r Q
 if_err_weaker (Ok x) P Q f h = h

@@ -1,19 +1,22 @@
 -- What the disk and each crash image of a journal stand for, from call to call.
-use Rattle.std.proofs.Common.{◌≡◌, ◌⊎◌, inl, ℕ, ◌+◌, ◌≤◌, ◌<◌, ◌^◌, Option, Some, None, List, [], ◌∷◌, ◌++◌, length, IfSome, IsSome, refl, sym, ◌∙◌, ap, subst}
+use Rattle.std.proofs.Common.{◌≡◌, ◌⊎◌, inl, ℕ, ◌+◌, ◌≤◌, ◌<◌, ◌^◌, Option, Some, None, List, [], ◌∷◌, ◌++◌, length, set, IfSome, IsSome, refl, sym, ◌∙◌, ap, subst}
+use Rattle.std.proofs.lemmas.List.{length-map}
 use Rattle.std.proofs.lemmas.List.Elements.{All-push}
 use Rattle.std.proofs.lemmas.Option.{none-some, same_Some}
 use Rattle.std.specs.Option.{option_map, unwrap_or}
 use Rattle.disk_api.specs.Images.{IsOnly}
 use Rattle.gate_journal.specs.Format.{stands_for}
 use Rattle.gate_journal.specs.Storing.{stored, entry_bytes, IsStoringTold}
-use Rattle.gate_journal.specs.Kept.{IsLaidOut, IsKept, IsGuarded, shows, doubt_of, pair_of}
+use Rattle.gate_journal.specs.Kept.{IsLaidOut, IsKept, IsGuarded, shows, doubt_of, sizes_of, pair_of}
 use Rattle.gate_journal.specs.Reading.{Opens}
 use Rattle.gate_journal.specs.View.{Holds, StandsFor, StandsForOrWith, StandsForOrDoubt}
 use Rattle.gate_journal.specs.declared.place.Place.{Place}
 use Rattle.gate_journal.proofs.Records.{payload_of-entry}
 use Rattle.gate_journal.proofs.Laid.{shown}
 use Rattle.gate_journal.proofs.Whole.{AreWithin, holds_closed}
-use Rattle.gate_journal.proofs.Appended.{laid_stored, storing_holds}
+use Rattle.gate_journal.proofs.Sizes.{length-sizes_of}
+use Rattle.gate_journal.proofs.Keeping.{stored_laid, measured_stored}
+use Rattle.gate_journal.proofs.Appended.{storing_holds}
 
 -- these records alone are one of the two
 pub with_none : (limit : ℕ) (records : Option (List (List ℕ))) (payload file : List ℕ) → StandsFor limit records file → StandsForOrWith limit records payload file
@@ -46,8 +49,9 @@ module _ (limit count : ℕ) where
   storing_stands payload few fits (Some bytes) may_leave held places doubt shut opened kept guarded c storing =
       let laid = kept.told.1 in
       let all = kept.told.0 in
-      let within : AreWithin limit all = subst (λ (l : List (List ℕ)). AreWithin limit l) (shown laid) guarded.within in
-      subst (λ (l : List (List ℕ)). Holds limit l c ⊎ Holds limit (l ++ payload ∷ []) c) (sym (shown laid)) (storing_holds laid limit payload c (laid.closed opened) few fits within storing)
+      let shows_all = shown count (length-sizes_of count places kept.measured.counted) laid in
+      let within : AreWithin limit all = subst (λ (l : List (List ℕ)). AreWithin limit l) shows_all guarded.within in
+      subst (λ (l : List (List ℕ)). Holds limit l c ⊎ Holds limit (l ++ payload ∷ []) c) (sym shows_all) (storing_holds laid held kept.measured.held_is limit payload c (laid.closed opened) few fits within storing)
 
   -- after a fault in it
   pub guarded_failed : (payload : List ℕ) (content now : Option (List ℕ)) (may_leave after : List ℕ → Type 0) (doubt new_doubt : Option (List ℕ)) (shut : Option (ℕ × ℕ)) (rose : ℕ × ℕ) → IsGuarded content may_leave limit count doubt shut → shows count now ≡ shows count content
@@ -69,18 +73,19 @@ module _ (limit count : ℕ) where
     settled = λ _. none;
   }
   guarded_stored payload few fits (Some bytes) now may_leave after held places place doubt new_doubt shut opened kept guarded is only room at none =
-      let laid : IsLaidOut kept.told.0 count held places None bytes = subst (λ (s : Option (ℕ × ℕ)). IsLaidOut kept.told.0 count held places s bytes) opened kept.told.1 in
+      let laid : IsLaidOut kept.told.0 (sizes_of count places) None bytes = subst (λ (s : Option (ℕ × ℕ)). IsLaidOut kept.told.0 (sizes_of count places) s bytes) opened kept.told.1 in
       let all = kept.told.0 ++ payload ∷ [] in
       let new = stored held (entry_bytes payload) bytes in
-      let next = laid_stored laid payload place few room at in
-      let within : AreWithin limit all = All-push (λ p. length p ≤ limit) kept.told.0 payload (subst (λ (l : List (List ℕ)). AreWithin limit l) (shown laid) guarded.within) fits in
+      let next = stored_laid payload few count held places place kept.told.0 bytes kept.measured laid room at in
+      let shows_next = shown (count + 1) (length-sizes_of (count + 1) (set places count place) (measured_stored payload few count held places place kept.measured room at).counted) next in
+      let within : AreWithin limit all = All-push (λ p. length p ≤ limit) kept.told.0 payload (subst (λ (l : List (List ℕ)). AreWithin limit l) (shown count (length-sizes_of count places kept.measured.counted) laid) guarded.within) fits in
       let holds : Holds limit all new = holds_closed limit all next.gate next.tail new next.split next.small within (next.closed refl) in
       record {
-        within = subst (λ (o : Option (List ℕ)). IfSome (shows (count + 1) o) (λ l. AreWithin limit l)) (sym is) (subst (λ (l : List (List ℕ)). AreWithin limit l) (sym (shown next)) within);
+        within = subst (λ (o : Option (List ℕ)). IfSome (shows (count + 1) o) (λ l. AreWithin limit l)) (sym is) (subst (λ (l : List (List ℕ)). AreWithin limit l) (sym shows_next) within);
         images = λ c left.
             subst (λ (o : Option (List ℕ)). StandsForOrDoubt limit (shows (count + 1) now) o c) (sym none)
             (subst (λ (o : Option (List ℕ)). StandsFor limit (shows (count + 1) o) c) (sym is)
-            (subst (λ (l : List (List ℕ)). Holds limit l c) (sym (shown next)) (subst (λ (b : List ℕ). Holds limit all b) (same_Some new c (sym is ∙ only c left)) holds)));
+            (subst (λ (l : List (List ℕ)). Holds limit l c) (sym shows_next) (subst (λ (b : List ℕ). Holds limit all b) (same_Some new c (sym is ∙ only c left)) holds)));
         settled = λ _. none;
       }
 
@@ -98,30 +103,31 @@ module _ (limit count : ℕ) where
   guarded_shut content may_leave doubt shut rose guarded = record { within = guarded.within; images = guarded.images; settled = λ none. absurd (none-some (unwrap_or shut rose) (sym none)) }
 
 -- a journal shows what the file that was opened stood for
-pub shows_found : (limit count held : ℕ) (content now : Option (List ℕ)) (places : List Place) → count ≡ length places → IfSome content (λ bytes. Opens limit held places bytes now) → (content ≡ None → now ≡ None) → shows count now ≡ option_map stands_for content
-shows_found limit count held None now places all opens untold = ap (λ (o : Option (List ℕ)). shows count o) (untold refl)
-shows_found limit count held (Some bytes) now places all opens untold =
+pub shows_found : (limit count : ℕ) (content now : Option (List ℕ)) (places : List Place) → count ≡ length places → IfSome content (λ bytes. Opens limit places bytes now) → (content ≡ None → now ≡ None) → shows count now ≡ option_map stands_for content
+shows_found limit count None now places all opens untold = ap (λ (o : Option (List ℕ)). shows count o) (untold refl)
+shows_found limit count (Some bytes) now places all opens untold =
     let found = opens.found in
-    let laid : IsLaidOut found.records count held places None opens.now = subst (λ (n : ℕ). IsLaidOut found.records n held places None opens.now) (sym all) found.laid_out in
-    ap (λ (o : Option (List ℕ)). shows count o) opens.told ∙ ap (λ (l : List (List ℕ)). Some l) (shown laid ∙ opens.same)
+    let shows_all = shown count (length-map places (λ (place : Place). place.size) ∙ sym all) found.laid_out in
+    ap (λ (o : Option (List ℕ)). shows count o) opens.told ∙ ap (λ (l : List (List ℕ)). Some l) (shows_all ∙ opens.same)
 
 -- of an opened file
-pub guarded_found : (limit count held : ℕ) (content now : Option (List ℕ)) (after : List ℕ → Type 0) (places : List Place) (doubt : Option (List ℕ)) → count ≡ length places → IfSome content (λ bytes. Opens limit held places bytes now) → (content ≡ None → now ≡ None) → IsOnly now after
+pub guarded_found : (limit count : ℕ) (content now : Option (List ℕ)) (after : List ℕ → Type 0) (places : List Place) (doubt : Option (List ℕ)) → count ≡ length places → IfSome content (λ bytes. Opens limit places bytes now) → (content ≡ None → now ≡ None) → IsOnly now after
     → doubt ≡ None → IsGuarded now after limit count doubt None
-guarded_found limit count held None now after places doubt all opens untold only none = record {
+guarded_found limit count None now after places doubt all opens untold only none = record {
   within = subst (λ (o : Option (List ℕ)). IfSome (shows count o) (λ l. AreWithin limit l)) (sym (untold refl)) tt;
   images = λ c left. absurd (none-some c (sym (untold refl) ∙ only c left));
   settled = λ _. none;
 }
-guarded_found limit count held (Some bytes) now after places doubt all opens untold only none =
+guarded_found limit count (Some bytes) now after places doubt all opens untold only none =
     let found = opens.found in
-    let laid : IsLaidOut found.records count held places None opens.now = subst (λ (n : ℕ). IsLaidOut found.records n held places None opens.now) (sym all) found.laid_out in
+    let shows_all = shown count (length-map places (λ (place : Place). place.size) ∙ sym all) found.laid_out in
+    let laid = found.laid_out in
     let holds : Holds limit found.records opens.now = holds_closed limit found.records laid.gate laid.tail opens.now laid.split laid.small found.within (laid.closed refl) in
     record {
-      within = subst (λ (o : Option (List ℕ)). IfSome (shows count o) (λ l. AreWithin limit l)) (sym opens.told) (subst (λ (l : List (List ℕ)). AreWithin limit l) (sym (shown laid)) found.within);
+      within = subst (λ (o : Option (List ℕ)). IfSome (shows count o) (λ l. AreWithin limit l)) (sym opens.told) (subst (λ (l : List (List ℕ)). AreWithin limit l) (sym shows_all) found.within);
       images = λ c left.
           subst (λ (o : Option (List ℕ)). StandsForOrDoubt limit (shows count now) o c) (sym none)
           (subst (λ (o : Option (List ℕ)). StandsFor limit (shows count o) c) (sym opens.told)
-          (subst (λ (l : List (List ℕ)). Holds limit l c) (sym (shown laid)) (subst (λ (b : List ℕ). Holds limit found.records b) (same_Some opens.now c (sym opens.told ∙ only c left)) holds)));
+          (subst (λ (l : List (List ℕ)). Holds limit l c) (sym shows_all) (subst (λ (b : List ℕ). Holds limit found.records b) (same_Some opens.now c (sym opens.told ∙ only c left)) holds)));
       settled = λ _. none;
     }

@@ -1,14 +1,15 @@
 -- What a file stands for that is laid out as a journal keeps it.
-use Rattle.std.proofs.Common.{◌≡◌, ◌≢◌, inl, inr, ℕ, ◌+◌, ◌-◌, ◌≤◌, ◌<◌, ◌&&◌, Option, Some, None, List, [], ◌∷◌, ◌++◌, length, take, drop, IfSome, refl, sym, ◌∙◌, ap, arith, length-append}
+use Rattle.std.proofs.Common.{◌≡◌, ◌≢◌, inl, inr, ℕ, ◌+◌, ◌-◌, ◌≤◌, ◌<◌, ◌&&◌, Option, Some, None, List, [], ◌∷◌, ◌++◌, map, length, take, drop, IfSome, refl, sym, ◌∙◌, ap, arith, length-append}
 use Rattle.std.proofs.lemmas.Bool.{and_from, le-leb, lt-leb, and_left, cond-true, cond-false, cases_lt}
-use Rattle.std.proofs.lemmas.List.{take_at, append-nil, nil_from_length}
+use Rattle.std.proofs.lemmas.List.{take_at, append-nil, nil_from_length, length-map}
 use Rattle.std.specs.Prelude.{nat_le}
 use Rattle.std.specs.Int.{w64, to_be_bytes}
 use Rattle.std.specs.Option.{option_map}
-use Rattle.gate_journal.specs.Format.{header, spelled, held_by, records_in, has_header, stands_for}
-use Rattle.gate_journal.specs.Kept.{IsLaidOut, IsKept}
+use Rattle.gate_journal.specs.Format.{header, spelled, records_in, has_header, stands_for}
+use Rattle.gate_journal.specs.Kept.{IsLaidOut, IsKept, sizes_of}
 use Rattle.gate_journal.specs.declared.place.Place.{Place}
 use Rattle.gate_journal.proofs.Records.{AreSmall, records_in-spelled, records_in-closed}
+use Rattle.gate_journal.proofs.Sizes.{length-sizes_of}
 
 -- a file of at most 17 bytes stands for none
 pub stands_for-short : (file : List ℕ) → length file < 18 → stands_for file ≡ []
@@ -44,19 +45,20 @@ stands_for-closed records gate tail small closed =
     laid.1 ∙ ap (λ (l : List (List ℕ)). records ++ l) (records_in-closed laid.0 gate tail closed) ∙ append-nil records
 
 -- the records that a journal shows are those that are laid out
-pub shown : {records : List (List ℕ)} {count held : ℕ} {places : List Place} {shut : Option (ℕ × ℕ)} {bytes : List ℕ} → IsLaidOut records count held places shut bytes → take count (stands_for bytes) ≡ records
-shown {records} {count} {held} {places} {shut} {bytes} laid =
+pub shown : {records : List (List ℕ)} {sizes : List ℕ} {shut : Option (ℕ × ℕ)} {bytes : List ℕ} (count : ℕ) → length sizes ≡ count → IsLaidOut records sizes shut bytes → take count (stands_for bytes) ≡ records
+shown {records} {sizes} {shut} {bytes} count counted laid =
     let all = stands_for-laid records laid.gate laid.tail laid.small in
     ap (λ (b : List ℕ). take count (stands_for b)) laid.split
     ∙ ap (λ (l : List (List ℕ)). take count l) all.1
-    ∙ take_at records (records_in all.0 (laid.gate ∷ laid.tail)) count (sym laid.count_is)
+    ∙ take_at records (records_in all.0 (laid.gate ∷ laid.tail)) count (omega (arith, counted, ap (λ (l : List ℕ). length l) laid.sizes_are, length-map records length))
 
-pub shown_count : (content : Option (List ℕ)) (may_leave : List ℕ → Type 0) (count held : ℕ) (places : List Place) (shut : Option (ℕ × ℕ)) → IsKept content may_leave count held places shut
-    → IfSome (option_map (λ bytes. take count (stands_for bytes)) content) (λ all. count ≡ length all)
-shown_count None may_leave count held places shut kept = tt
-shown_count (Some bytes) may_leave count held places shut kept = kept.told.1.count_is ∙ ap (λ (l : List (List ℕ)). length l) (sym (shown kept.told.1))
+module _ (content : Option (List ℕ)) (may_leave : List ℕ → Type 0) (count held : ℕ) (places : List Place) (shut : Option (ℕ × ℕ)) (kept : IsKept content may_leave count held places shut) where
+  pub all_counted : length (sizes_of count places) ≡ count
+  all_counted = length-sizes_of count places kept.measured.counted
 
-pub shown_held : (content : Option (List ℕ)) (may_leave : List ℕ → Type 0) (count held : ℕ) (places : List Place) (shut : Option (ℕ × ℕ)) → IsKept content may_leave count held places shut
-    → IfSome (option_map (λ bytes. take count (stands_for bytes)) content) (λ all. held ≡ held_by all)
-shown_held None may_leave count held places shut kept = tt
-shown_held (Some bytes) may_leave count held places shut kept = kept.told.1.held_is ∙ ap (λ (l : List (List ℕ)). held_by l) (sym (shown kept.told.1))
+-- and the sizes are theirs
+pub shown_sizes : (content : Option (List ℕ)) (may_leave : List ℕ → Type 0) (count held : ℕ) (places : List Place) (shut : Option (ℕ × ℕ)) → IsKept content may_leave count held places shut
+    → IfSome (option_map (λ bytes. take count (stands_for bytes)) content) (λ all. sizes_of count places ≡ map length all)
+shown_sizes None may_leave count held places shut kept = tt
+shown_sizes (Some bytes) may_leave count held places shut kept =
+    kept.told.1.sizes_are ∙ ap (λ (l : List (List ℕ)). map length l) (sym (shown count (all_counted (Some bytes) may_leave count held places shut kept) kept.told.1))

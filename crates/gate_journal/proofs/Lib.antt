@@ -11,6 +11,7 @@ mod Moments
 mod Opened
 mod Placed
 mod Records
+mod Sizes
 mod Stored
 mod Torn
 mod Whole

@@ -1,11 +1,10 @@
 -- What the heads of the records say of the file, as far as they were read.
-use Rattle.std.proofs.Common.{◌≡◌, ◌≢◌, ℕ, suc, ◌+◌, ◌-◌, ◌≤◌, ◌<◌, ◌^◌, true, Option, Some, None, List, [], ◌∷◌, ◌++◌, map, length, take, drop, IfSome, refl, sym, ◌∙◌, ap, subst, arith, length-drop, take-append-drop}
-use Rattle.std.proofs.lemmas.List.{take_all, map-append, length-map, length-take, drop-drop}
+use Rattle.std.proofs.Common.{◌≡◌, ◌≢◌, ℕ, ◌+◌, ◌-◌, ◌≤◌, ◌<◌, ◌^◌, true, Option, Some, None, List, [], ◌∷◌, ◌++◌, map, length, take, drop, IfSome, refl, sym, ◌∙◌, ap, subst, arith, length-drop, take-append-drop}
+use Rattle.std.proofs.lemmas.List.{map-append, length-take, drop-drop}
 use Rattle.std.proofs.lemmas.List.Elements.{All-push}
 use Rattle.std.specs.List.{All}
 use Rattle.std.specs.Int.{w64, to_be_bytes}
 use Rattle.gate_journal.specs.Format.{header, spelled, size_of, has_header}
-use Rattle.gate_journal.specs.Kept.{places_of, pair_of}
 use Rattle.gate_journal.specs.Reading.{Finds, StandsAt}
 use Rattle.gate_journal.specs.declared.open.Head.{Head}
 use Rattle.gate_journal.specs.declared.open.Head.TheVariants.{Closed, Record}
@@ -13,20 +12,15 @@ use Rattle.std.proofs.lemmas.Slice.Eq.{slice_eq-Decides}
 use Rattle.std.proofs.lemmas.Bool.Decides.{Decides-eqb}
 use Rattle.gate_journal.specs.declared.place.Place.{Place}
 use Rattle.gate_journal.proofs.Records.{AreSmall, entry, spelled-push, length-spelled-push}
-use Rattle.gate_journal.proofs.Appended.{places_of-push}
 
 -- these records, within the limit, stand before an offset
 pub record HasRead (limit at : ℕ) (places : List Place) (bytes : List ℕ) : Type 0 where
   pub records : List (List ℕ)
   pub split : bytes ≡ header ++ (spelled records ++ drop at bytes)
   pub at_is : at ≡ 16 + length (spelled records)
-  pub places_are : map pair_of places ≡ places_of 16 records
+  pub sizes_are : map (λ (place : Place). place.size) places ≡ map length records
   pub small : AreSmall records
   pub within : All (λ payload. length payload ≤ limit) records
-
-length-places_of : (at : ℕ) (records : List (List ℕ)) → length (places_of at records) ≡ length records
-length-places_of at [] = refl
-length-places_of at (payload ∷ records) = ap (λ (n : ℕ). suc n) (length-places_of (at + 9 + length payload) records)
 
 header_is : (bytes : List ℕ) → has_header bytes ≡ true → take 16 bytes ≡ header
 header_is bytes is = (slice_eq-Decides Decides-eqb (take 16 bytes) header (has_header bytes) refl).0 is
@@ -36,13 +30,13 @@ read_none limit bytes long is = record {
   records = [];
   split = sym (take-append-drop 16 bytes) ∙ ap (λ (l : List ℕ). l ++ drop 16 bytes) is;
   at_is = refl;
-  places_are = refl;
+  sizes_are = refl;
   small = λ k d lt. absurd (omega (arith, lt));
   within = λ k d lt. absurd (omega (arith, lt));
 }
 
 module _ (limit at size : ℕ) (places : List Place) (place : Place) (bytes tail : List ℕ) (read : HasRead limit at places bytes) (opens : drop at bytes ≡ 1 ∷ tail) (is : size ≡ size_of tail) (spells : to_be_bytes w64 size ≡ take 8 tail)
-    (long : at + (9 + size) ≤ length bytes) (few : size ≤ limit) (small : size < 2 ^ 64) (there : pair_of place ≡ (at + 9, size)) where
+    (long : at + (9 + size) ≤ length bytes) (few : size ≤ limit) (small : size < 2 ^ 64) (there : place.size ≡ size) where
   length-tail : length tail + 1 ≡ length bytes - at
   length-tail = omega (arith, ap (λ (l : List ℕ). length l) opens, length-drop at bytes)
 
@@ -74,19 +68,17 @@ module _ (limit at size : ℕ) (places : List Place) (place : Place) (bytes tail
             ∙ ap (λ (l : List ℕ). header ++ (spelled read.records ++ l)) one_more
             ∙ ap (λ (l : List ℕ). header ++ l) (sym (spelled-push read.records payload (drop (at + (9 + size)) bytes)));
         at_is = omega (arith, read.at_is, length-spelled-push read.records payload, length-payload);
-        places_are =
-            map-append pair_of places (place ∷ [])
-            ∙ ap (λ (l : List (ℕ × ℕ)). l ++ pair_of place ∷ []) read.places_are
-            ∙ ap (λ (p : ℕ × ℕ). places_of 16 read.records ++ p ∷ []) there
-            ∙ ap (λ (n : ℕ). places_of 16 read.records ++ (n, size) ∷ []) (omega (arith, read.at_is))
-            ∙ ap (λ (n : ℕ). places_of 16 read.records ++ (16 + length (spelled read.records) + 9, n) ∷ []) (sym length-payload)
-            ∙ sym (places_of-push 16 read.records payload);
+        sizes_are =
+            map-append (λ (p : Place). p.size) places (place ∷ [])
+            ∙ ap (λ (l : List ℕ). l ++ place.size ∷ []) read.sizes_are
+            ∙ ap (λ (n : ℕ). map length read.records ++ n ∷ []) (there ∙ sym length-payload)
+            ∙ sym (map-append length read.records (payload ∷ []));
         small = All-push (λ p. length p < 2 ^ 64) read.records payload read.small (omega (arith, length-payload, small));
         within = All-push (λ p. length p ≤ limit) read.records payload read.within (omega (arith, length-payload, few));
       }
 
 -- at a closed gate the file is laid out
-pub read_all : (limit at gate : ℕ) (places : List Place) (bytes tail : List ℕ) → HasRead limit at places bytes → drop at bytes ≡ gate ∷ tail → gate ≢ 1 → Finds limit (at + 1) places bytes
+pub read_all : (limit at gate : ℕ) (places : List Place) (bytes tail : List ℕ) → HasRead limit at places bytes → drop at bytes ≡ gate ∷ tail → gate ≢ 1 → Finds limit places bytes
 read_all limit at gate places bytes tail read is closed = record {
   records = read.records;
   laid_out = record {
@@ -94,9 +86,7 @@ read_all limit at gate places bytes tail read is closed = record {
     tail = tail;
     split = read.split ∙ ap (λ (l : List ℕ). header ++ (spelled read.records ++ l)) is;
     closed = λ _. closed;
-    held_is = omega (arith, read.at_is);
-    count_is = omega (arith, ap (λ (l : List (ℕ × ℕ)). length l) read.places_are, length-map places pair_of, length-places_of 16 read.records);
-    places_are = ap (λ (l : List Place). map pair_of l) (take_all (length places) places (omega arith)) ∙ read.places_are;
+    sizes_are = read.sizes_are;
     small = read.small;
   };
   within = read.within;
@@ -109,14 +99,14 @@ read_none_told (Some bytes) limit len places none long told =
     subst (λ (l : List Place). HasRead limit 16 l bytes) (sym none) (read_none limit bytes (omega (arith, long, told.0)) (header_is bytes told.1))
 
 pub read_more_told : (content : Option (List ℕ)) (limit len at size : ℕ) (places more : List Place) (place : Place) → IfSome content (λ bytes. HasRead limit at places bytes) → IfSome content (λ bytes. StandsAt (drop at bytes) (Record size))
-    → IfSome content (λ bytes. (len ≡ length bytes) × (has_header bytes ≡ true)) → at + (9 + size) ≤ len → size ≤ limit → size < 2 ^ 64 → pair_of place ≡ (at + 9, size) → more ≡ places ++ place ∷ []
+    → IfSome content (λ bytes. (len ≡ length bytes) × (has_header bytes ≡ true)) → at + (9 + size) ≤ len → size ≤ limit → size < 2 ^ 64 → place.size ≡ size → more ≡ places ++ place ∷ []
     → IfSome content (λ bytes. HasRead limit (at + (9 + size)) more bytes)
 read_more_told None limit len at size places more place read stands told long few small there is = tt
 read_more_told (Some bytes) limit len at size places more place read stands told long few small there is =
     subst (λ (l : List Place). HasRead limit (at + (9 + size)) l bytes) (sym is)
     (read_more limit at size places place bytes stands.0 read stands.1 stands.2 stands.3 (omega (arith, long, told.0)) few small there)
 
-pub read_all_told : (content : Option (List ℕ)) (limit at : ℕ) (places : List Place) → IfSome content (λ bytes. HasRead limit at places bytes) → IfSome content (λ bytes. StandsAt (drop at bytes) Closed) → IfSome content (λ bytes. Finds limit (at + 1) places bytes)
+pub read_all_told : (content : Option (List ℕ)) (limit at : ℕ) (places : List Place) → IfSome content (λ bytes. HasRead limit at places bytes) → IfSome content (λ bytes. StandsAt (drop at bytes) Closed) → IfSome content (λ bytes. Finds limit places bytes)
 read_all_told None limit at places read stands = tt
 read_all_told (Some bytes) limit at places read stands = read_all limit at stands.0 places bytes stands.1 read stands.2 stands.3
 

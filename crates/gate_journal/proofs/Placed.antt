@@ -1,13 +1,16 @@
 -- Where a journal's records lie.
 use Rattle.std.proofs.Common.{◌≡◌, ℕ, zero, suc, ◌+◌, ◌≤◌, ◌<◌, Option, Some, None, List, [], ◌∷◌, ◌++◌, map, length, get_or, take, drop, IfSome, refl, sym, ◌∙◌, ap, subst, arith, length-append, length-drop}
-use Rattle.std.proofs.lemmas.List.{take_at, drop_at, drop-drop, get_or-take}
+use Rattle.std.proofs.lemmas.List.{take_at, drop_at, drop-drop, get_or-take, length-take, length-map}
+use Rattle.std.proofs.lemmas.Option.{slice_get-get_or, slice_get-map}
+use Rattle.std.specs.Option.{option_map}
 use Rattle.std.specs.Prelude.{slice_get}
 use Rattle.std.specs.Int.{w64, to_be_bytes}
 use Rattle.gate_journal.specs.Format.{spelled}
-use Rattle.gate_journal.specs.Kept.{IsLaidOut, IsKept, places_of, pair_of, shows}
+use Rattle.gate_journal.specs.Kept.{IsMeasured, IsLaidOut, IsKept, places_of, pair_of, sizes_of, shows}
 use Rattle.gate_journal.specs.declared.place.Place.{Place}
 use Rattle.gate_journal.proofs.Records.{length-to_be_bytes, spelled-more}
 use Rattle.gate_journal.proofs.Laid.{shown}
+use Rattle.gate_journal.proofs.Sizes.{length-sizes_of}
 
 -- a record is there
 pub record IsPlaced (records : List (List ℕ)) (index at size : ℕ) (bytes : List ℕ) : Type 0 where
@@ -15,7 +18,7 @@ pub record IsPlaced (records : List (List ℕ)) (index at size : ℕ) (bytes : L
   pub within : at + size ≤ length bytes
 
 pub placed : (records : List (List ℕ)) (rest bytes : List ℕ) (at index : ℕ) (d : ℕ × ℕ) → drop at bytes ≡ spelled records ++ rest → index < length records
-    → IsPlaced records index (get_or (places_of at records) index d).0 (get_or (places_of at records) index d).1 bytes
+    → IsPlaced records index (get_or (places_of at (map length records)) index d).0 (get_or (places_of at (map length records)) index d).1 bytes
 placed [] rest bytes at index d is lt = absurd (omega (arith, lt))
 placed (payload ∷ records) rest bytes at zero d is lt =
     let there : drop (at + 9) bytes ≡ payload ++ (spelled records ++ rest) =
@@ -38,16 +41,27 @@ get_or-map (place ∷ places) zero d = refl
 get_or-map (place ∷ places) (suc index) d = get_or-map places index d
 
 -- the record of a journal at a place that was kept for it
-pub laid_place : {records : List (List ℕ)} {count held : ℕ} {places : List Place} {shut : Option (ℕ × ℕ)} {bytes : List ℕ} (laid : IsLaidOut records count held places shut bytes) (index : ℕ) (place : Place) → index < count → place ≡ get_or places index place
+pub laid_place : {records : List (List ℕ)} {shut : Option (ℕ × ℕ)} {bytes : List ℕ} (count held : ℕ) (places : List Place) (laid : IsLaidOut records (sizes_of count places) shut bytes) (index : ℕ) (place : Place) → IsMeasured count held places → index < count → place ≡ get_or places index place
     → IsPlaced records index place.at place.size bytes
-laid_place {records} {count} {held} {places} {shut} {bytes} laid index place lt is =
+laid_place {records} {shut} {bytes} count held places laid index place measured lt is =
     let there : drop 16 bytes ≡ spelled records ++ laid.gate ∷ laid.tail = ap (λ (l : List ℕ). drop 16 l) laid.split in
-    let pair : get_or (places_of 16 records) index (pair_of place) ≡ pair_of place =
-    ap (λ (l : List (ℕ × ℕ)). get_or l index (pair_of place)) (sym laid.places_are) ∙ get_or-map (take count places) index place ∙ ap (λ (p : Place). pair_of p) (get_or-take count places index place lt ∙ sym is) in
-    subst (λ (p : ℕ × ℕ). IsPlaced records index p.0 p.1 bytes) pair (placed records (laid.gate ∷ laid.tail) bytes 16 index (pair_of place) there (omega (arith, lt, laid.count_is)))
+    let all : length records ≡ count = sym (length-map records length) ∙ ap (λ (l : List ℕ). length l) (sym laid.sizes_are) ∙ length-sizes_of count places measured.counted in
+    let pair : get_or (places_of 16 (map length records)) index (pair_of place) ≡ pair_of place =
+    ap (λ (l : List ℕ). get_or (places_of 16 l) index (pair_of place)) (sym laid.sizes_are)
+    ∙ ap (λ (l : List (ℕ × ℕ)). get_or l index (pair_of place)) (sym measured.places_are)
+    ∙ get_or-map (take count places) index place
+    ∙ ap (λ (p : Place). pair_of p) (get_or-take count places index place lt ∙ sym is) in
+    subst (λ (p : ℕ × ℕ). IsPlaced records index p.0 p.1 bytes) pair (placed records (laid.gate ∷ laid.tail) bytes 16 index (pair_of place) there (omega (arith, lt, all)))
 
 pub read_place : (content : Option (List ℕ)) (may_leave : List ℕ → Type 0) (count held : ℕ) (places : List Place) (shut : Option (ℕ × ℕ)) (index : ℕ) (place : Place) (payload : List ℕ) → IsKept content may_leave count held places shut → index < count → place ≡ get_or places index place
     → IfSome content (λ bytes. payload ≡ take place.size (drop place.at bytes)) → IfSome (shows count content) (λ all. slice_get all index ≡ Some payload)
 read_place None may_leave count held places shut index place payload kept lt is read = tt
 read_place (Some bytes) may_leave count held places shut index place payload kept lt is read =
-    ap (λ (l : List (List ℕ)). slice_get l index) (shown kept.told.1) ∙ (laid_place kept.told.1 index place lt is).payload ∙ ap (λ (l : List ℕ). Some l) (sym read)
+    ap (λ (l : List (List ℕ)). slice_get l index) (shown count (length-sizes_of count places kept.measured.counted) kept.told.1)
+    ∙ (laid_place count held places kept.told.1 index place kept.measured lt is).payload ∙ ap (λ (l : List ℕ). Some l) (sym read)
+
+-- and its size
+pub size_there : (count : ℕ) (places : List Place) (index : ℕ) (place : Place) → count ≤ length places → index < count → place ≡ get_or places index place → slice_get (sizes_of count places) index ≡ Some place.size
+size_there count places index place counted lt is =
+    slice_get-map (λ (p : Place). p.size) (take count places) index
+    ∙ ap (option_map (λ (p : Place). p.size)) (slice_get-get_or (take count places) index place (omega (arith, lt, counted, length-take count places)) ∙ ap (λ (p : Place). Some p) (get_or-take count places index place lt ∙ sym is))

@@ -2,6 +2,7 @@
 use Rattle.std.specs.Prelude.{◌≡◌, ◌<◌, ◌≤◌, ℕ, ◌+◌, Some, None, Result, Ok, Err, List, length}
 use Rattle.std.specs.Option.{unwrap_or}
 use Rattle.fault_count.specs.Rise.{HasRisen}
+use Rattle.gate_journal.specs.Format.{held_for}
 use Rattle.gate_journal.specs.View.{View}
 use Rattle.gate_journal.specs.declared.fault.OpenRefused.{OpenRefused}
 use Rattle.gate_journal.specs.declared.fault.JournalFault.{JournalFault}
@@ -12,7 +13,7 @@ use Rattle.gate_journal.specs.declared.fault.AppendFault.TheVariants.{Shut, Jour
 -- the journal is open, and a record of the needed bytes fits
 pub record HasPlace {D : Type 0} (journal : View D) (needed : ℕ) : Type 0 where
   pub is_open : journal.shut ≡ None
-  pub fits : journal.held + needed ≤ journal.limit
+  pub fits : held_for journal.sizes + needed ≤ journal.limit
 
 pub record IsShutAnswer {D : Type 0} (rose : ℕ × ℕ) (old new : View D) : Type 0 where
   pub shut : old.shut ≡ Some rose
@@ -20,7 +21,7 @@ pub record IsShutAnswer {D : Type 0} (rose : ℕ × ℕ) (old new : View D) : Ty
 
 pub record IsFullAnswer {D : Type 0} (held needed : ℕ) (payload : List ℕ) (old new : View D) : Type 0 where
   pub is_open : old.shut ≡ None
-  pub held_is : held ≡ old.held
+  pub held_is : held ≡ held_for old.sizes
   pub needed_is : needed ≡ length payload + 9
   pub past : old.limit < held + needed
   pub same : new ≡ old

@@ -1,6 +1,6 @@
 -- The journal's file: 16 bytes of header, then records, then a closed gate.
 -- A record is an open gate (01), the payload's length in 8 bytes, most significant first, and the payload.
-use Rattle.std.specs.Prelude.{◌≡◌, ◌≤◌, ℕ, zero, suc, ◌+◌, ◌==◌, ◌&&◌, nat_le, Bool, Option, Some, None, List, [], ◌∷◌, ◌++◌, length, take, drop, if◌then◌else◌}
+use Rattle.std.specs.Prelude.{◌≡◌, ◌≤◌, ℕ, zero, suc, ◌+◌, ◌==◌, ◌&&◌, nat_le, Bool, Option, Some, None, List, [], ◌∷◌, ◌++◌, length, map, take, drop, if◌then◌else◌}
 use Rattle.std.specs.Int.{w64, to_be_bytes, from_be_bytes}
 use Rattle.std.specs.Str.{bytes_eq}
 
@@ -17,9 +17,17 @@ spelled (payload ∷ records) = 1 ∷ (to_be_bytes w64 (length payload) ++ (payl
 abbrev pub file_of : List (List ℕ) → List ℕ
 file_of records = header ++ (spelled records ++ 0 ∷ [])
 
--- the offset just past the closed gate
+-- how many bytes records of these sizes take: each its own, and 9 for its gate and its length
+abbrev pub taken_by : List ℕ → ℕ
+taken_by [] = 0
+taken_by (size ∷ sizes) = 9 + size + taken_by sizes
+
+-- the offset just past the closed gate, by the sizes of the payloads and by the payloads
+abbrev pub held_for : List ℕ → ℕ
+held_for sizes = 17 + taken_by sizes
+
 abbrev pub held_by : List (List ℕ) → ℕ
-held_by records = 17 + length (spelled records)
+held_by records = held_for (map length records)
 
 -- what opening makes of a file: one of at most 17 bytes becomes a journal without records, a longer one stays
 abbrev pub opened : List ℕ → List ℕ

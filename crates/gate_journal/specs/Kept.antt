@@ -4,33 +4,40 @@ use Rattle.std.specs.List.{All}
 use Rattle.std.specs.Option.{option_map}
 use Rattle.disk_api.specs.Images.{IsOnly}
 use Rattle.fault_count.specs.Rise.{HasRisen}
-use Rattle.gate_journal.specs.Format.{header, spelled, held_by, payload_of, stands_for}
+use Rattle.gate_journal.specs.Format.{header, spelled, held_for, payload_of, stands_for}
 use Rattle.gate_journal.specs.View.{StandsForOrDoubt}
 use Rattle.gate_journal.specs.declared.place.Place.{Place}
 
--- where the payloads of these records lie, as offset and length, if the first gate is at this offset
-abbrev pub places_of : ℕ → List (List ℕ) → List (ℕ × ℕ)
+-- where payloads of these sizes lie, as offset and length, if the first gate is at this offset
+abbrev pub places_of : ℕ → List ℕ → List (ℕ × ℕ)
 places_of at [] = []
-places_of at (payload ∷ records) = (at + 9, length payload) ∷ places_of (at + 9 + length payload) records
+places_of at (size ∷ sizes) = (at + 9, size) ∷ places_of (at + 9 + size) sizes
 
 abbrev pub pair_of : Place → ℕ × ℕ
 pair_of place = (place.at, place.size)
 
--- the bytes are these records, behind the header, then a gate and a tail; the numbers are theirs
-pub record IsLaidOut (records : List (List ℕ)) (count held : ℕ) (places : List Place) (shut : Option (ℕ × ℕ)) (bytes : List ℕ) : Type 0 where
+-- how many bytes the payloads at the first places have
+abbrev pub sizes_of : ℕ → List Place → List ℕ
+sizes_of count places = map (λ (place : Place). place.size) (take count places)
+
+-- there are so many places, which lie one after another, and the closed gate behind them ends there
+pub record IsMeasured (count held : ℕ) (places : List Place) : Type 0 where
+  pub counted : count ≤ length places
+  pub held_is : held ≡ held_for (sizes_of count places)
+  pub places_are : map pair_of (take count places) ≡ places_of 16 (sizes_of count places)
+
+-- the bytes are these records, of these sizes, behind the header, then a gate and a tail
+pub record IsLaidOut (records : List (List ℕ)) (sizes : List ℕ) (shut : Option (ℕ × ℕ)) (bytes : List ℕ) : Type 0 where
   pub gate : ℕ
   pub tail : List ℕ
   pub split : bytes ≡ header ++ (spelled records ++ gate ∷ tail)
   pub closed : shut ≡ None → gate ≢ 1
-  pub held_is : held ≡ held_by records
-  pub count_is : count ≡ length records
-  pub places_are : map pair_of (take count places) ≡ places_of 16 records
+  pub sizes_are : sizes ≡ map length records
   pub small : All (λ payload. length payload < 2 ^ 64) records
 
 pub record IsKept (content : Option (List ℕ)) (may_leave : List ℕ → Type 0) (count held : ℕ) (places : List Place) (shut : Option (ℕ × ℕ)) : Type 0 where
-  pub gate : 17 ≤ held
-  pub counted : count ≤ length places
-  pub told : IfSome content (λ bytes. (records : List (List ℕ)) × IsLaidOut records count held places shut bytes)
+  pub measured : IsMeasured count held places
+  pub told : IfSome content (λ bytes. (records : List (List ℕ)) × IsLaidOut records (sizes_of count places) shut bytes)
   pub durable : shut ≡ None → IsOnly content may_leave
   pub risen : IfSome shut (λ rose. HasRisen rose.0 rose.1)
 

@@ -1,5 +1,5 @@
 -- Reading a journal's file: runs of calls that change nothing on the disk, and what they find.
-use Rattle.std.specs.Prelude.{◌≡◌, ◌≢◌, ◌⊎◌, ◌<◌, ◌≤◌, ℕ, ◌+◌, ◌-◌, ◌&&◌, nat_le, min, false, Option, Some, None, List, [], ◌∷◌, length, take, drop}
+use Rattle.std.specs.Prelude.{◌≡◌, ◌≢◌, ◌⊎◌, ◌<◌, ◌≤◌, ℕ, ◌+◌, ◌-◌, ◌&&◌, nat_le, min, false, Option, Some, None, List, [], ◌∷◌, length, map, take, drop}
 use Rattle.std.specs.List.{All}
 use Rattle.std.specs.Int.{w64, to_be_bytes}
 use Rattle.disk_api.specs.Images.{Keeps, LeavesOnly}
@@ -42,16 +42,16 @@ abbrev pub fault_of : DiskStop → JournalFault
 fault_of Fault = DiskFault
 fault_of DiskMemory = Memory
 
--- the layout of whole records within the limit, which end at a closed gate
-pub record Finds (limit held : ℕ) (places : List Place) (bytes : List ℕ) : Type 0 where
+-- whole records within the limit lie at these places, and end at a closed gate
+pub record Finds (limit : ℕ) (places : List Place) (bytes : List ℕ) : Type 0 where
   pub records : List (List ℕ)
-  pub laid_out : IsLaidOut records (length places) held places None bytes
+  pub laid_out : IsLaidOut records (map (λ (place : Place). place.size) places) None bytes
   pub within : All (λ payload. length payload ≤ limit) records
 
 -- the disk now holds a whole journal of the records that these bytes stand for
-pub record Opens (limit held : ℕ) (places : List Place) (bytes : List ℕ) (content : Option (List ℕ)) : Type 0 where
+pub record Opens (limit : ℕ) (places : List Place) (bytes : List ℕ) (content : Option (List ℕ)) : Type 0 where
   pub now : List ℕ
   pub told : content ≡ Some now
-  pub found : Finds limit held places now
+  pub found : Finds limit places now
   pub same : found.records ≡ stands_for bytes
   pub whole : damaged_at limit bytes ≡ None

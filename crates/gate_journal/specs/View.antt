@@ -1,13 +1,13 @@
 -- A journal as its contracts see it.
-use Rattle.std.specs.Prelude.{◌≡◌, ◌⊎◌, ℕ, Option, None, Some, List, [], ◌∷◌, ◌++◌, length, IfSome, IsSome}
-use Rattle.gate_journal.specs.Format.{stands_for, damaged_at, held_by}
+use Rattle.std.specs.Prelude.{◌≡◌, ◌⊎◌, ℕ, Option, None, Some, List, [], ◌∷◌, ◌++◌, length, map, IfSome, IsSome}
+use Rattle.gate_journal.specs.Format.{stands_for, damaged_at}
 
 pub record View (D : Type 0) : Type 0 where
   pub disk : D
   -- the payloads of the records that are kept, where the disk tells
   pub records : Option (List (List ℕ))
-  pub count : ℕ
-  pub held : ℕ
+  -- how many bytes each payload has, also where the disk doesn't tell
+  pub sizes : List ℕ
   pub limit : ℕ
   -- a payload shorter than this can be appended: one more than the spare room, and 0 where there is none
   pub room : ℕ
@@ -43,10 +43,9 @@ pub record IsSafe {D : Type 0} (content : D → Option (List ℕ)) (may_leave : 
   -- an open journal has no record in doubt
   pub settled : journal.shut ≡ None → journal.doubt ≡ None
 
--- the numbers are those of the records
-pub record IsCounted {D : Type 0} (journal : View D) : Type 0 where
-  pub count : IfSome journal.records (λ all. journal.count ≡ length all)
-  pub held : IfSome journal.records (λ all. journal.held ≡ held_by all)
+-- the sizes are those of the records, where these are told
+abbrev pub HasSizes : {D : Type 0} → View D → Type 0
+HasSizes journal = IfSome journal.records (λ all. journal.sizes ≡ map length all)
 
 -- the same but for the room
 abbrev pub IsSameButRoom : {D : Type 0} → View D → View D → Type 0

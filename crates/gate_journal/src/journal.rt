@@ -1,13 +1,13 @@
 // The journal, whose file holds its records between a header and a closed gate.
-ghost use Rattle.std.specs.Prelude.{◌≡◌, ◌≤◌, ◌<◌, ◌+◌, ◌-◌, ◌++◌, [], ◌∷◌, ◌↔◌, ◌⊎◌, ℕ, List, Option, Some, None, length, slice_get, IfOk, IfErr, IfSome, take, vec_capacity, OnOk, OnErr, IsSome, IsTrue, MatchResult, cond, vec_len};
+ghost use Rattle.std.specs.Prelude.{◌≡◌, ◌≤◌, ◌<◌, ◌+◌, ◌-◌, ◌++◌, [], ◌∷◌, ◌↔◌, ◌⊎◌, ℕ, List, Option, Some, None, length, map, slice_get, IfOk, IfErr, IfSome, take, vec_capacity, OnOk, OnErr, IsSome, IsTrue, MatchResult, cond, vec_len};
 ghost use Rattle.std.specs.Option.{option_map};
 ghost use Rattle.disk_api.specs.Content.{BothTold};
 ghost use Rattle.disk_api.specs.Images.{LeavesOnly};
 ghost use Rattle.fault_count.specs.Rise.{HasRisen};
-ghost use Rattle.gate_journal.specs.Format.{stands_for, damaged_at, held_by, opened, IsUnopened};
+ghost use Rattle.gate_journal.specs.Format.{stands_for, damaged_at, held_for, opened, IsUnopened};
 ghost use Rattle.gate_journal.specs.Reading.{Rests};
 ghost use Rattle.gate_journal.specs.Storing.{stored, entry_bytes};
-ghost use Rattle.gate_journal.specs.View.{View, StandsFor, StandsForOrWith, IsSafe, IsCounted, IsSameButRoom};
+ghost use Rattle.gate_journal.specs.View.{View, StandsFor, StandsForOrWith, IsSafe, HasSizes, IsSameButRoom};
 
 use crate::open::{find, read_payload};
 use crate::place::Place;
@@ -37,11 +37,11 @@ pub struct Journal<D: Disk> {
 impl<D: Disk> Model for Journal<D> {
     ghost use Rattle.std.specs.Prelude.{◌-◌, nat_lt, cond, take, length, vec_capacity};
     ghost use Rattle.gate_journal.specs.View.{View};
-    ghost use Rattle.gate_journal.specs.Kept.{IsKept, IsGuarded, doubt_of, shows};
+    ghost use Rattle.gate_journal.specs.Kept.{IsKept, IsGuarded, doubt_of, shows, sizes_of};
 
     ghost Value = { View D };
 
-    ghost view = { λ j. record { disk = j.disk; records = shows j.count (D.content j.disk); count = j.count; held = j.held; limit = j.limit; room = cond (nat_lt j.count (length j.places.items)) (vec_capacity j.buffer - 8) 0; doubt = doubt_of j.buffer.items; shut = j.shut } };
+    ghost view = { λ j. record { disk = j.disk; records = shows j.count (D.content j.disk); sizes = sizes_of j.count j.places.items; limit = j.limit; room = cond (nat_lt j.count (length j.places.items)) (vec_capacity j.buffer - 8) 0; doubt = doubt_of j.buffer.items; shut = j.shut } };
 
     ghost invariant = { λ j. IsKept (D.content j.disk) (D.may_leave j.disk) j.count j.held j.places.items j.shut
         × IsGuarded (D.content j.disk) (D.may_leave j.disk) j.limit j.count (doubt_of j.buffer.items) j.shut };
@@ -61,7 +61,7 @@ impl<D: Disk> Journal<D> {
         // A file of at most 17 bytes is now a header and a closed gate, and a longer one is as it was.
         ensures bytes { IfOk result (λ j. D.content j.disk ≡ option_map opened (D.content disk)) }
         ensures whole { IfOk result (λ j. IfSome (D.content disk) (λ bytes. damaged_at limit bytes ≡ None)) }
-        ensures counted { IfOk result (λ j. IsCounted j) }
+        ensures sizes { IfOk result (λ j. HasSizes j) }
         ensures open { IfOk result (λ j. (j.limit ≡ limit) × (j.shut ≡ None)) }
         ensures durable { IfOk result (λ j. (c : List ℕ) → D.may_leave j.disk c → StandsFor limit j.records c) }
         ensures safe { IfOk result (λ j. IsSafe D.content D.may_leave j) }
@@ -95,16 +95,16 @@ impl<D: Disk> Journal<D> {
 
     /// How many records there are.
     pub fn count(&self) -> u64
-        ensures count { result ≡ self.now.count }
-        ensures records { IfSome self.now.records (λ all. result ≡ length all) }
+        ensures count { result ≡ length self.now.sizes }
+        ensures sizes { HasSizes self.now }
     {
         self.count as u64
     }
 
     /// The offset just past the closed gate: the bytes that the records take, with the header.
     pub fn held(&self) -> u64
-        ensures held { result ≡ self.now.held }
-        ensures records { IfSome self.now.records (λ all. result ≡ held_by all) }
+        ensures held { result ≡ held_for self.now.sizes }
+        ensures sizes { HasSizes self.now }
     {
         self.held
     }
@@ -153,13 +153,13 @@ impl<D: Disk> Journal<D> {
         requires { length payload.now < self.old.room }
 
         ensures appended { OnOk result (self.new.records ≡ option_map (λ all. all ++ payload.now ∷ []) self.old.records) }
-        ensures bytes { OnOk result (D.content self.new.disk ≡ option_map (stored self.old.held (entry_bytes payload.now)) (D.content self.old.disk)) }
-        ensures counted { OnOk result ((self.new.count ≡ self.old.count + 1) × (self.new.held ≡ self.old.held + (length payload.now + 9))) }
+        ensures bytes { OnOk result (D.content self.new.disk ≡ option_map (stored (held_for self.old.sizes) (entry_bytes payload.now)) (D.content self.old.disk)) }
+        ensures sizes { OnOk result (self.new.sizes ≡ self.old.sizes ++ length payload.now ∷ []) }
         ensures place { OnOk result (HasPlace self.old (length payload.now + 9) × (self.new.shut ≡ None)) }
         ensures durable { OnOk result ((c : List ℕ) → D.may_leave self.new.disk c → StandsFor self.new.limit self.new.records c) }
 
         ensures refused { IfErr result (λ fault. IsAppendFault D.fault_count fault payload.now self.old self.new) }
-        ensures kept { OnErr result ((self.new.records ≡ self.old.records) × (self.new.count ≡ self.old.count) × (self.new.held ≡ self.old.held)) }
+        ensures kept { OnErr result ((self.new.records ≡ self.old.records) × (self.new.sizes ≡ self.old.sizes)) }
         ensures limit { self.new.limit ≡ self.old.limit }
         ensures later { D.fault_count self.old.disk ≤ D.fault_count self.new.disk }
 
@@ -192,12 +192,12 @@ impl<D: Disk> Journal<D> {
         requires room { length payload.now < self.old.room }
         requires place { HasPlace self.old (length payload.now + 9) }
         ensures appended { OnOk result (self.new.records ≡ option_map (λ all. all ++ payload.now ∷ []) self.old.records) }
-        ensures bytes { OnOk result (D.content self.new.disk ≡ option_map (stored self.old.held (entry_bytes payload.now)) (D.content self.old.disk)) }
-        ensures counted { OnOk result ((self.new.count ≡ self.old.count + 1) × (self.new.held ≡ self.old.held + (length payload.now + 9))) }
+        ensures bytes { OnOk result (D.content self.new.disk ≡ option_map (stored (held_for self.old.sizes) (entry_bytes payload.now)) (D.content self.old.disk)) }
+        ensures sizes { OnOk result (self.new.sizes ≡ self.old.sizes ++ length payload.now ∷ []) }
         ensures open { OnOk result (self.new.shut ≡ None) }
         ensures durable { OnOk result ((c : List ℕ) → D.may_leave self.new.disk c → StandsFor self.new.limit self.new.records c) }
         ensures rose { IfErr result (λ rose. IsFaultAnswer D.fault_count rose payload.now self.old self.new) }
-        ensures kept { OnErr result ((self.new.records ≡ self.old.records) × (self.new.count ≡ self.old.count) × (self.new.held ≡ self.old.held)) }
+        ensures kept { OnErr result ((self.new.records ≡ self.old.records) × (self.new.sizes ≡ self.old.sizes)) }
         ensures limit { self.new.limit ≡ self.old.limit }
         ensures later { D.fault_count self.old.disk ≤ D.fault_count self.new.disk }
         ensures safe { IsSafe D.content D.may_leave self.new }
@@ -228,9 +228,10 @@ impl<D: Disk> Journal<D> {
     /// The payload of a record, read from the disk. A fault of the disk shuts the journal. It never
     /// answers `Damaged`: a file that somebody has cut short is answered as want of memory.
     pub fn record(&mut self, alloc: Global, index: u64) -> Result<Vec<u8>, JournalFault>
-        requires { index < self.old.count }
+        requires { index < length self.old.sizes }
 
         ensures payload { IfOk result (λ payload. IfSome self.old.records (λ all. slice_get all index ≡ Some payload.items)) }
+        ensures size { IfOk result (λ payload. slice_get self.old.sizes index ≡ Some (length payload.items)) }
         ensures fault { IfErr result (λ fault. IsReadFault D.fault_count fault self.old self.new) }
         ensures open { OnOk result (self.new.shut ≡ self.old.shut) }
         ensures same { IsSameButDisk self.old self.new }

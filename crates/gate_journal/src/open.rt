@@ -7,6 +7,7 @@ ghost use Rattle.disk_api.specs.Faults.{CountsFaults, CountsStops};
 ghost use Rattle.fault_count.specs.Rise.{HasRisen};
 ghost use Rattle.gate_journal.specs.Format.{header, has_header, stands_for, damaged_at, opened, IsUnopened};
 ghost use Rattle.gate_journal.specs.Reading.{Rests, Fills, IsHead, StandsAt, IsHarmed, Finds, Opens};
+ghost use Rattle.gate_journal.specs.Kept.{IsMeasured};
 ghost use Rattle.gate_journal.specs.View.{StandsFor};
 
 use crate::JournalFault;
@@ -117,8 +118,8 @@ fn read_heads<D: Disk>(
 ) -> Result<Layout, JournalFault>
     requires long { 17 < len }
     requires told { IfSome (D.content disk.old) (λ bytes. (len ≡ length bytes) × (has_header bytes ≡ true)) }
-    ensures held { IfOk result (λ layout. 17 ≤ layout.held) }
-    ensures found { IfOk result (λ layout. IfSome (D.content disk.old) (λ bytes. Finds limit layout.held layout.places.items bytes)) }
+    ensures measured { IfOk result (λ layout. IsMeasured (length layout.places.items) layout.held layout.places.items) }
+    ensures found { IfOk result (λ layout. IfSome (D.content disk.old) (λ bytes. Finds limit layout.places.items bytes)) }
     ensures harmed { IfErr result (λ fault. (at : ℕ) → fault ≡ JournalFault.Damaged at → IfSome (D.content disk.old) (λ bytes. damaged_at limit bytes ≡ Some at)) }
     ensures rests { Rests D.content D.may_leave D.moment D.left_since disk.old disk.new }
     ensures later { D.fault_count disk.old ≤ D.fault_count disk.new }
@@ -163,8 +164,8 @@ fn begin<D: Disk>(alloc: Global, disk: &mut D) -> Result<(), DiskStop>
 
 /// Syncs, and finds the records of the file, or makes it a new journal.
 pub(crate) fn find<D: Disk>(alloc: Global, disk: &mut D, limit: u64) -> Result<Layout, JournalFault>
-    ensures held { IfOk result (λ layout. 17 ≤ layout.held) }
-    ensures found { IfOk result (λ layout. IfSome (D.content disk.old) (λ bytes. Opens limit layout.held layout.places.items bytes (D.content disk.new))) }
+    ensures measured { IfOk result (λ layout. IsMeasured (length layout.places.items) layout.held layout.places.items) }
+    ensures found { IfOk result (λ layout. IfSome (D.content disk.old) (λ bytes. Opens limit layout.places.items bytes (D.content disk.new))) }
     ensures opened { OnOk result (D.content disk.new ≡ option_map opened (D.content disk.old)) }
     ensures durable { OnOk result (IsOnly (D.content disk.new) (D.may_leave disk.new)) }
     ensures harmed { IfErr result (λ fault. (at : ℕ) → fault ≡ JournalFault.Damaged at
@@ -196,6 +197,7 @@ pub(crate) fn read_payload<D: Disk>(
     disk: &mut D,
     place: Place,
 ) -> Result<Vec<u8>, DiskStop>
+    ensures size { IfOk result (λ payload. length payload.items ≡ place.size) }
     ensures payload { IfOk result (λ payload. IfSome (D.content disk.old) (λ bytes. payload.items ≡ take place.size (drop place.at bytes))) }
     ensures rests { Rests D.content D.may_leave D.moment D.left_since disk.old disk.new }
     ensures faults { CountsFaults (D.fault_count disk.old) (D.fault_count disk.new) result }

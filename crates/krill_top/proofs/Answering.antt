@@ -12,6 +12,7 @@ use Rattle.authority_book.specs.Settings.{Settings}
 use Rattle.authority_book.specs.Verdict.{verdict_of, refused_or_ok, IsAccepted}
 use Rattle.authority_book.specs.Fold.{after, after_all, empty_settings, fold_of, AcceptedInTurn, IsFoldOf}
 use Rattle.cmd_codec.specs.Spelling.{spelling, IsRecordable}
+use Rattle.gate_journal.specs.Format.{held_by}
 use Rattle.gate_journal.specs.Storing.{stored, entry_bytes}
 use Rattle.desk_core.specs.View.{View, journal_limit}
 use Rattle.desk_core.specs.Commands.{Records, HasCommands}
@@ -27,7 +28,7 @@ use Rattle.std.proofs.lemmas.List.Sums.{AllPass-from_list_all}
 use Rattle.json_api.specs.Line.{IsLine}
 use Rattle.json_api.specs.Reply.{accepted_spelling, refused_spelling}
 use Rattle.krill_top.specs.declared.anchor.Anchor.{Anchor}
-use Rattle.krill_top.specs.Replies.{State, anchor_desk, signers_at_hand, memory_text, bad_line_text, VerdictText, DeskText, IsRefusedAs, IsText, IsBlank, IsReply, IsInDoubt}
+use Rattle.krill_top.specs.Replies.{State, held_in, anchor_desk, signers_at_hand, memory_text, bad_line_text, VerdictText, DeskText, IsRefusedAs, IsText, IsBlank, IsReply, IsInDoubt}
 use Rattle.krill_top.specs.Faults.{FaultText}
 use Rattle.krill_top.specs.Stands.{IsIn, Goes, NamesOne, MayAnswer, MaySay, MayText, MayReply}
 
@@ -103,7 +104,6 @@ module _ {D : Type 0} (content : D → Option (List ℕ)) (fault_count : D → �
   in_doubt law old new rose command before fault stands = record {
     number = ap (λ (d : View D). d.number) fault.same ∙ stands.number;
     commands = subst (λ (d : View D). HasCommands d before.commands) (sym fault.same) (record { recorded = stands.commands.recorded; fold = stands.commands.fold });
-    held = ap (λ (d : View D). d.held) fault.same ∙ stands.held;
     doubt = ap (λ (d : View D). d.doubt) fault.same;
     shut = (λ none. absurd (none-some rose.1 (sym none ∙ ap (λ (d : View D). d.shut) fault.same)), λ none. absurd (none-some command (sym none)));
     faults = refl;
@@ -130,14 +130,14 @@ module _ {D : Type 0} (content : D → Option (List ℕ)) (fault_count : D → �
     stands = unchanged old new before why.same stands;
   }
   fault_answers law old new name command (JournalFull held needed) text why said before stands =
-      let held_is : held ≡ before.held = why.held_is ∙ stands.held in
+      let held_is : held ≡ held_in before = why.held_is ∙ ap held_by stands.commands.recorded.spelled in
       record {
         after = before;
         step = inl (by_verdict law old before before name command (Ok tt) text false stands why.may_come.is_open why.may_come.verdict
             (inr (inr (record {
               no_place = subst (λ (n : ℕ). journal_limit < n + needed_for command) held_is (subst (λ (n : ℕ). journal_limit < held + n) why.needed_is why.past);
               refused = record {
-                text_is = said ∙ ap (λ (n : ℕ). journal_refusal_spelling (journal.JournalFull n needed)) held_is ∙ ap (λ (n : ℕ). journal_refusal_spelling (journal.JournalFull before.held n)) why.needed_is;
+                text_is = said ∙ ap (λ (n : ℕ). journal_refusal_spelling (journal.JournalFull n needed)) held_is ∙ ap (λ (n : ℕ). journal_refusal_spelling (journal.JournalFull (held_in before) n)) why.needed_is;
                 not_accepted = refl;
                 same = refl;
               };
@@ -148,11 +148,10 @@ module _ {D : Type 0} (content : D → Option (List ℕ)) (fault_count : D → �
     after = record before { doubt = Some command; faults = fault_count new.disk; content = content new.disk };
     step = inl (by_verdict law old before (record before { doubt = Some command; faults = fault_count new.disk; content = content new.disk }) name command (Ok tt) text false stands why.place.may_come.is_open why.place.may_come.verdict
         (inr (inl (record {
-          fits = subst (λ (n : ℕ). n + needed_for command ≤ journal_limit) stands.held why.place.fits;
+          fits = subst (λ (n : ℕ). n + needed_for command ≤ journal_limit) (ap held_by stands.commands.recorded.spelled) why.place.fits;
           text_is = said ∙ ap (λ (n : ℕ). journal_refusal_spelling (journal.DiskFault n)) (why.desk ∙ stands.number);
           not_accepted = refl;
           commands = refl;
-          held = refl;
           doubt = refl;
           risen = subst (λ (n : ℕ). HasRisen n (fault_count new.disk)) (why.before ∙ stands.faults) (subst (λ (n : ℕ). HasRisen rose.1.0 n) why.after why.risen);
         }))));
@@ -169,12 +168,11 @@ module _ {D : Type 0} (content : D → Option (List ℕ)) (fault_count : D → �
     pub place : HasPlace old command signers_at_hand
     pub commands : (commands : List Command) → HasCommands old commands → HasCommands new (commands ++ command ∷ [])
     pub counted : count ≡ new.settings.count
-    pub held : new.held ≡ old.held + needed_for command
     pub is_open : new.shut ≡ None
     pub settled : new.doubt ≡ None
     pub number : new.number ≡ old.number
     pub later : fault_count old.disk ≤ fault_count new.disk
-    pub bytes : content new.disk ≡ option_map (stored old.held (entry_bytes (spelling command))) (content old.disk)
+    pub bytes : content new.disk ≡ option_map (stored (held_by old.records) (entry_bytes (spelling command))) (content old.disk)
 
   pub accepted_answers : (law : VerdictLaw) (old new : View D) (name : List ℕ) (command : Command) (count : ℕ) (text : List ℕ)
       → IsTaken old new command count → text ≡ accepted_spelling name count
@@ -185,25 +183,23 @@ module _ {D : Type 0} (content : D → Option (List ℕ)) (fault_count : D → �
       let number : new.number ≡ anchor_desk = taken.number ∙ stands.number in
       let count_is : count ≡ (fold_of anchor_desk commands).count =
       taken.counted ∙ has.fold.same_count ∙ ap (λ (n : ℕ). (fold_of n commands).count) number in
-      let after : State = record { commands = commands; held = before.held + needed_for command; doubt = None; faults = fault_count new.disk; content = content new.disk } in
+      let after : State = record { commands = commands; doubt = None; faults = fault_count new.disk; content = content new.disk } in
       record {
         after = after;
         step = inl (by_verdict law old before after name command (Ok tt) text true stands taken.place.may_come.is_open taken.place.may_come.verdict
             (inl (record {
-              fits = subst (λ (n : ℕ). n + needed_for command ≤ journal_limit) stands.held taken.place.fits;
+              fits = subst (λ (n : ℕ). n + needed_for command ≤ journal_limit) (ap held_by stands.commands.recorded.spelled) taken.place.fits;
               text_is = said ∙ ap (λ (n : ℕ). accepted_spelling name n) count_is;
               is_accepted = refl;
               commands = refl;
-              held = refl;
               is_open = refl;
               later = subst (λ (n : ℕ). n ≤ fault_count new.disk) stands.faults taken.later;
-              bytes = taken.bytes ∙ ap (λ (n : ℕ). option_map (stored n (entry_bytes (spelling command))) (content old.disk)) stands.held
-                  ∙ ap (λ (o : Option (List ℕ)). option_map (stored before.held (entry_bytes (spelling command))) o) stands.bytes;
+              bytes = taken.bytes ∙ ap (λ (n : ℕ). option_map (stored n (entry_bytes (spelling command))) (content old.disk)) (ap held_by stands.commands.recorded.spelled)
+                  ∙ ap (λ (o : Option (List ℕ)). option_map (stored (held_in before) (entry_bytes (spelling command))) o) stands.bytes;
             })));
         stands = record {
           number = number;
           commands = has;
-          held = taken.held ∙ ap (λ (n : ℕ). n + needed_for command) stands.held;
           doubt = taken.settled;
           shut = (λ is. refl, λ is. taken.is_open);
           faults = refl;

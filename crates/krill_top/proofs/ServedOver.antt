@@ -27,13 +27,12 @@ recorded_in content fault_count desk state is =
 
 -- the state of the anchor's desk as it was opened
 abbrev opened_state : {D : Type 0} (content : D → Option (List ℕ)) (fault_count : D → ℕ) (disk : D) (desk : View D) → IsOpened content fault_count anchor_desk disk desk → State
-opened_state content fault_count disk desk is = record { commands = is.commands.0; held = desk.held; doubt = None; faults = fault_count desk.disk; content = content desk.disk }
+opened_state content fault_count disk desk is = record { commands = is.commands.0; doubt = None; faults = fault_count desk.disk; content = content desk.disk }
 
 opened_in : {D : Type 0} (content : D → Option (List ℕ)) (fault_count : D → ℕ) (disk : D) (desk : View D) (is : IsOpened content fault_count anchor_desk disk desk) → IsIn content fault_count desk (opened_state content fault_count disk desk is)
 opened_in content fault_count disk desk is = record {
   number = is.number_is;
   commands = is.commands.1;
-  held = refl;
   doubt = is.settled;
   shut = (λ none. refl, λ none. is.is_open);
   faults = refl;
@@ -45,7 +44,6 @@ opened_on : {D : Type 0} (content : D → Option (List ℕ)) (may_leave : D → 
 opened_on content may_leave fault_count disk desk is = record {
   found = opened_stood_for content may_leave fault_count anchor_desk disk desk is.commands.0 is is.commands.1;
   recorded = recorded_in content fault_count desk (opened_state content fault_count disk desk is) (opened_in content fault_count disk desk is);
-  held = is.held;
   bytes = is.bytes;
   is_open = refl;
   later = is.later;

@@ -1,7 +1,7 @@
 -- Desks that were opened from disks, and disks of desks that were closed, place by place.
 use Rattle.std.specs.Prelude.{◌≡◌, ℕ, ◌+◌, ◌≤◌, suc, None, List, [], ◌∷◌, Option, length, vec_capacity, IfSome, ⊤}
 use Rattle.std.specs.Option.{option_map}
-use Rattle.gate_journal.specs.Format.{stands_for, damaged_at, held_by, opened}
+use Rattle.gate_journal.specs.Format.{stands_for, damaged_at, opened}
 use Rattle.authority_book.specs.declared.commands.Command.{Command}
 use Rattle.desk_core.specs.View.{View, journal_limit}
 use Rattle.desk_core.specs.Commands.{HasCommands}
@@ -17,7 +17,6 @@ pub record IsOpened {D : Type 0} (content : D → Option (List ℕ)) (fault_coun
   pub bytes : content desk.disk ≡ option_map opened (content disk)
   pub records : IfSome (content disk) (λ bytes. desk.records ≡ stands_for bytes)
   pub whole : IfSome (content disk) (λ bytes. damaged_at journal_limit bytes ≡ None)
-  pub held : IfSome (content disk) (λ bytes. desk.held ≡ held_by (stands_for bytes))
   pub commands : (commands : List Command) × HasCommands desk commands
   pub is_open : desk.shut ≡ None
   pub settled : desk.doubt ≡ None

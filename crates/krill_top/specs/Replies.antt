@@ -1,5 +1,5 @@
 -- What a session of the anchor is answered, line by line, over its desk.
-use Rattle.std.specs.Prelude.{◌≡◌, ◌⊎◌, ℕ, ◌+◌, ◌<◌, ◌≤◌, ◌||◌, ◌==◌, Bool, true, false, List, [], ◌∷◌, ◌++◌, length, IsTrue, Option, None, Some, Result, Ok, Err, codes, string_bytes}
+use Rattle.std.specs.Prelude.{◌≡◌, ◌⊎◌, ℕ, ◌+◌, ◌<◌, ◌≤◌, ◌||◌, ◌==◌, Bool, true, false, List, [], ◌∷◌, ◌++◌, length, map, IsTrue, Option, None, Some, Result, Ok, Err, codes, string_bytes}
 use Rattle.std.specs.List.{list_all}
 use Rattle.std.specs.Option.{option_map}
 use Rattle.fault_count.specs.Rise.{HasRisen}
@@ -8,6 +8,7 @@ use Rattle.authority_book.specs.declared.refusals.Refusal.{Refusal}
 use Rattle.authority_book.specs.Verdict.{verdict_of}
 use Rattle.authority_book.specs.Fold.{fold_of}
 use Rattle.cmd_codec.specs.Spelling.{spelling}
+use Rattle.gate_journal.specs.Format.{held_by}
 use Rattle.gate_journal.specs.Storing.{stored, entry_bytes}
 use Rattle.desk_core.specs.View.{journal_limit}
 use Rattle.desk_core.specs.Answers.{needed_for}
@@ -30,8 +31,6 @@ signers_at_hand = 1
 pub record State : Type 0 where
   -- the commands accepted so far
   pub commands : List Command
-  -- how many bytes the journal takes
-  pub held : ℕ
   -- where a fault of the disk shut the journal, the command whose record may stand on the disk, or not
   pub doubt : Option Command
   -- how often the disk has failed
@@ -61,9 +60,13 @@ pub record IsRefusedAs (refusal : List ℕ) (before : State) (text : List ℕ) (
   pub not_accepted : accepted ≡ false
   pub same : after ≡ before
 
+-- How many bytes the journal of the accepted commands takes.
+abbrev pub held_in : State → ℕ
+held_in state = held_by (map spelling state.commands)
+
 -- The command's record fits into the journal.
 abbrev pub Fits : State → Command → Type 0
-Fits before command = before.held + needed_for command ≤ journal_limit
+Fits before command = held_in before + needed_for command ≤ journal_limit
 
 -- The command is accepted: its record is kept, it stands at the end, and its reply counts it.
 pub record IsAcceptedAs (before : State) (name : List ℕ) (command : Command) (text : List ℕ) (accepted : Bool) (after : State) : Type 0 where
@@ -71,10 +74,9 @@ pub record IsAcceptedAs (before : State) (name : List ℕ) (command : Command) (
   pub text_is : text ≡ accepted_spelling name (fold_of anchor_desk after.commands).count
   pub is_accepted : accepted ≡ true
   pub commands : after.commands ≡ before.commands ++ command ∷ []
-  pub held : after.held ≡ before.held + needed_for command
   pub is_open : after.doubt ≡ None
   pub later : before.faults ≤ after.faults
-  pub bytes : after.content ≡ option_map (stored before.held (entry_bytes (spelling command))) before.content
+  pub bytes : after.content ≡ option_map (stored (held_in before) (entry_bytes (spelling command))) before.content
 
 -- The disk failed while the command's record was stored. It may stand there, and no more are stored.
 pub record IsInDoubt (before : State) (command : Command) (text : List ℕ) (accepted : Bool) (after : State) : Type 0 where
@@ -82,14 +84,13 @@ pub record IsInDoubt (before : State) (command : Command) (text : List ℕ) (acc
   pub text_is : text ≡ journal_refusal_spelling (DiskFault anchor_desk)
   pub not_accepted : accepted ≡ false
   pub commands : after.commands ≡ before.commands
-  pub held : after.held ≡ before.held
   pub doubt : after.doubt ≡ Some command
   pub risen : HasRisen before.faults after.faults
 
 -- There is no place for the command's record.
 pub record IsWithoutPlace (before : State) (command : Command) (text : List ℕ) (accepted : Bool) (after : State) : Type 0 where
-  pub no_place : journal_limit < before.held + needed_for command
-  pub refused : IsRefusedAs (journal_refusal_spelling (JournalFull before.held (needed_for command))) before text accepted after
+  pub no_place : journal_limit < held_in before + needed_for command
+  pub refused : IsRefusedAs (journal_refusal_spelling (JournalFull (held_in before) (needed_for command))) before text accepted after
 
 -- What a command gets by its verdict, where the journal is open.
 abbrev pub VerdictText : State → List ℕ → Command → Result (Unit {0}) Refusal → List ℕ → Bool → State → Type 0

@@ -1,7 +1,7 @@
 -- What a whole run leaves.
 use Rattle.std.specs.Prelude.{◌≡◌, ℕ, ◌≤◌, List, [], ◌∷◌, ◌++◌, Option, None, Some, IfSome, map}
 use Rattle.std.specs.Option.{option_map}
-use Rattle.gate_journal.specs.Format.{stands_for, held_by, opened}
+use Rattle.gate_journal.specs.Format.{opened}
 use Rattle.fault_count.specs.Rise.{HasRisen}
 use Rattle.line_loop.specs.declared.session.SessionEnd.{SessionEnd}
 use Rattle.line_loop.specs.declared.session.SessionEnd.TheVariants.{SourceFault, SinkFault}
@@ -36,7 +36,6 @@ pub record IsRefusedAtOpening {D S K C : Type 0} (content : D → Option (List �
 pub record IsOpenedOn {D : Type 0} (content : D → Option (List ℕ)) (fault_count : D → ℕ) (disk : D) (begun : State) : Type 0 where
   pub found : StoodFor (content disk) anchor_desk begun.commands
   pub recorded : Records anchor_desk (map spelling begun.commands) begun.commands
-  pub held : IfSome (content disk) (λ bytes. begun.held ≡ held_by (stands_for bytes))
   pub bytes : begun.content ≡ option_map opened (content disk)
   pub is_open : begun.doubt ≡ None
   pub later : fault_count disk ≤ begun.faults

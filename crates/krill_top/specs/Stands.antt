@@ -17,7 +17,6 @@ use Rattle.krill_top.specs.Replies.{State, anchor_desk, signers_at_hand, memory_
 pub record IsIn {D : Type 0} (content : D → Option (List ℕ)) (fault_count : D → ℕ) (desk : View D) (state : State) : Type 0 where
   pub number : desk.number ≡ anchor_desk
   pub commands : HasCommands desk state.commands
-  pub held : desk.held ≡ state.held
   pub doubt : desk.doubt ≡ option_map spelling state.doubt
   pub shut : (desk.shut ≡ None) ↔ (state.doubt ≡ None)
   pub faults : fault_count desk.disk ≡ state.faults

@@ -1,9 +1,9 @@
-use Rattle.std.proofs.Common.{◌≡◌, ℕ, Option, List, Some, true, false, map, ap, subst, ◌∙◌, arith, rules}
+use Rattle.std.proofs.Common.{◌≡◌, ℕ, Option, List, Some, true, false, length, map, ap, subst, ◌∙◌, arith, rules}
 use Rattle.std.specs.Prelude.{IfSome}
 use Rattle.std.specs.List.{slice_get}
 use Rattle.gate_journal.specs.View.{View}
 use Rattle.desk_core.specs.Commands.{IsFirstBad}
-use Rattle.desk_core.proofs.Loading.{first_bad, told_push, same_far}
+use Rattle.desk_core.proofs.Loading.{first_bad, told_push, sizes_push, same_far}
 use Rattle.desk_core.proofs.Moments.{rests_far}
 use Rattle.desk_core.proofs.opening.load.Goals as goal
 
@@ -26,6 +26,8 @@ loop-index-preserved g c =
     record {
       loaded = c.in_ok-add.ensures.loaded yes c.args.number i.loaded;
       told = told_push c.args.journal.now.records (map (λ payload. payload.items) c.loop-index.loaded.records.items) (map (λ payload. payload.items) c.add.new.self.records.items) c.in_ok-payload.payload.items c.loop-index.index i.told there (c.in_ok-add.ensures.pushed yes);
+      sizes = sizes_push c.args.journal.now.sizes (map (λ payload. payload.items) c.loop-index.loaded.records.items) (map (λ payload. payload.items) c.add.new.self.records.items) c.in_ok-payload.payload.items c.loop-index.index i.sizes
+          (subst (λ (l : List ℕ). slice_get l c.loop-index.index ≡ Some (length c.in_ok-payload.payload.items)) (ap (λ (v : View _). v.sizes) i.same) c.in_ok-payload.ensures.size) (c.in_ok-add.ensures.pushed yes);
       open_still = c.in_ok-payload.ensures.open ∙ i.open_still;
       same = same_far c.args.journal.now c.loop-index.journal c.record.new.self i.same c.record.ensures.same;
       disk = rests_far g.D.Disk.content g.D.Disk.may_leave g.D.Disk.moment g.D.Disk.left_since c.args.journal.now.disk c.loop-index.journal.disk c.record.new.self.disk i.disk c.record.ensures.disk;

@@ -9,12 +9,14 @@ use Rattle.gate_journal.specs.declared.fault.JournalFault.TheVariants.{Damaged}
 use Rattle.gate_journal.proofs.Moments.{rests_started, rests_far}
 use Rattle.gate_journal.proofs.Opened.{read_none_told, read_more_told, read_all_told, closed_only}
 use Rattle.gate_journal.proofs.Damage.{damaged_told}
+use Rattle.gate_journal.proofs.Sizes.{none_in_turn, more_in_turn, all_measured}
 use Rattle.gate_journal.proofs.open.read_heads.Goals as goal
 
 pub loop-places-init : goal.loop-places-init
 loop-places-init g c = record {
   above = omega arith;
   within = omega (arith, c.requires.long);
+  turn = none_in_turn c.new-places.result.items c.new-places.ensures.items;
   told = read_none_told (g.D.Disk.content c.args.disk.now) c.args.limit c.args.len c.new-places.result.items c.new-places.ensures.items c.requires.long c.requires.told;
   rests = rests_started g.D.Disk.content g.D.Disk.may_leave g.D.Disk.moment g.D.Disk.left_since c.args.disk.now g.met.D.Disk.only_now;
   later = omega arith;
@@ -33,10 +35,14 @@ loop-places-preserved g c =
     record {
       above = omega (arith, so_far.above);
       within = omega (arith, so_far.within, head.0);
+      turn = more_in_turn at _ c.loop-places.places.items c.push.new.self.items _ so_far.turn c.in_ok-push.ensures.items refl refl;
       told = read_more_told content c.args.limit c.args.len at size c.loop-places.places.items c.push.new.self.items _ so_far.told stands c.requires.told (omega (arith, so_far.within, head.0)) head.1 (omega (arith, head.1, c.ranges.limit.fits)) refl c.in_ok-push.ensures.items;
       rests = rests_far g.D.Disk.content g.D.Disk.may_leave g.D.Disk.moment g.D.Disk.left_since c.args.disk.now c.loop-places.disk c.read_head.new.disk so_far.rests c.in_ok-size.ensures.rests;
       later = omega (arith, so_far.later, c.in_ok-size.ensures.later);
     }
+
+pub returns-clause-measured : goal.returns-clause-measured
+returns-clause-measured g c = all_measured c.loop-places.at c.loop-places.places.items c.loop-places.invariant.turn
 
 pub returns-clause-found : goal.returns-clause-found
 returns-clause-found g c =

@@ -48,7 +48,6 @@ loop-number-preserved g c =
       bytes = is.bytes;
       records = is.records;
       whole = is.whole;
-      held = is.held;
       commands = is.commands;
       is_open = is.open.0;
       settled = is.open.1;

@@ -29,7 +29,7 @@ invariant_of-self-in-Ok-append g c =
     (λ desk commands is. c.apply.ensures.fold desk commands (subst (λ (s : Settings). IsFoldOf s desk commands) (sym was) is))
     (λ desk commands is taken. c.apply.ensures.taken desk commands (subst (λ (s : Settings). IsFoldOf s desk commands) (sym was) is) taken) c.self.invariant.loaded in
     kept_push g.D.Disk.content g.D.Disk.may_leave inside.number inside.config.settings c.apply.new.self.settings records (map (λ (p : Vec ℕ Global). p.items) c.push_reserved.new.self.items) payload
-    inside.journal c.prepare.new.journal c.append.new.self c.self.invariant c.prepare.ensures.journal c.in-Ok-append.ensures.appended c.append.ensures.limit c.append.ensures.safe pushed loaded
+    inside.journal c.prepare.new.journal c.append.new.self c.self.invariant c.prepare.ensures.journal c.in-Ok-append.ensures.appended c.append.ensures.limit c.in-Ok-append.ensures.sizes c.append.ensures.safe pushed loaded
 
 pub returns-in-Ok-append-clause-commands : goal.returns-in-Ok-append-clause-commands
 returns-in-Ok-append-clause-commands g c =
@@ -74,8 +74,8 @@ returns-in-Err-clause-refused g c =
     let same : c.match-command-6.self ≡ new = elim c.match-command-6.branch [ in-Some-6 w ↦ w.self-is | in-None-6 w ↦ w.self-is ] in
     let place : HasPlace old c.args.command c.args.signers = subst (λ (v : View _). HasPlace v c.args.command c.args.signers) (sym c.self.view_is) c.in_default.ensures.answer in
     let refused = refused_of g.D.Disk.fault_count c.in-Err.fault c.as_slice.result.now c.args.command c.args.signers inside.number inside.config.settings c.prepare.new.config.settings records more
-    inside.journal c.prepare.new.journal c.append.new.self c.self.invariant.limit c.prepare.ensures.journal c.prepare.ensures.config (ap (λ (l : List (Vec ℕ Global)). map (λ (p : Vec ℕ Global). p.items) l) c.prepare.ensures.records)
-    (c.as_slice.ensures.value ∙ c.in-Ok.ensures.payload.0) place c.in-Err.ensures.refused c.in-Err.ensures.kept.2 c.in-Ok.ensures.recordable in
+    inside.journal c.prepare.new.journal c.append.new.self c.self.invariant.limit c.self.invariant.sizes c.prepare.ensures.journal c.prepare.ensures.config (ap (λ (l : List (Vec ℕ Global)). map (λ (p : Vec ℕ Global). p.items) l) c.prepare.ensures.records)
+    (c.as_slice.ensures.value ∙ c.in-Ok.ensures.payload.0) place c.in-Err.ensures.refused c.in-Ok.ensures.recordable in
     let mine = subst (λ (v : View _). IsDeskFault g.D.Disk.fault_count (fault_of inside.number c.in-Err.fault) c.args.command c.args.signers v new) c.self.view_is refused in
     let there = subst (λ (v : View _). IsDeskFault g.D.Disk.fault_count (fault_of inside.number c.in-Err.fault) c.args.command c.args.signers c.args.self.now v) (sym same) mine in
     subst (λ (f : DeskFault _). IsDeskFault g.D.Disk.fault_count f c.args.command c.args.signers c.args.self.now c.match-command-6.self) (sym c.fault_of.ensures) there

@@ -110,8 +110,7 @@ returns-in-Err-clause-kept g c =
     let opened : j.shut ≡ None = ap (λ (v : View _). v.shut) c.self.view_is ∙ c.requires.place.is_open in
     let few : length payload < 2 ^ 64 = search rules in (
       open_failed_shows payload few c.deref.result.now entry content may_leave j.count j.held j.places.items j.shut opened c.self.invariant.0 (g.D.Disk.content c.store.new.disk) c.in-Err.ensures.within ∙ ap (λ (v : View _). v.records) c.self.view_is,
-      ap (λ (v : View _). v.count) c.self.view_is,
-      ap (λ (v : View _). v.held) c.self.view_is,
+      ap (λ (v : View _). v.sizes) c.self.view_is,
     )
 
 pub returns-in-Err-clause-any_moment : goal.returns-in-Err-clause-any_moment

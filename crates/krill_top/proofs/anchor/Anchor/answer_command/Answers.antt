@@ -14,7 +14,6 @@ returns-in-Ok-clause-ok g c =
             place = took.place;
             commands = took.commands;
             counted = took.counted.1;
-            held = took.held;
             is_open = took.open.0;
             settled = took.open.1;
             number = took.number;
