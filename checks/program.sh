@@ -102,5 +102,73 @@ exec 3>&- 4<&-
 wait
 expect 0 '' '' run
 
+# Standard streams that are closed at the start: nothing that is meant for one lands in the store.
+printf '%s\n' '{"command":"roas update","ca":"ta","add":["10.0.0.0/16 => 1"]}' >input
+rm -r krill-data
+expect 0 '{"authority":"ta","count":1,"reply":"accepted"}
+' '' run
+cp -r krill-data store
+cp -r krill-data damaged
+printf '\037' | dd of=damaged/desk-00 bs=1 seek=24 conv=notrunc 2>dd-said
+printf '%s\n' '{"command":"roas update","ca":"ta","add":["10.0.0.0/16 => 1"]}' >refused
+printf '%s\n' '{"command":"roas update","ca":"ta","add":["10.1.0.0/16 => 1"]}' >accepted
+printf 'no command\n' >bad
+: >empty
+
+# over_closed CLOSED STATUS STORE AFTER INPUT WORDS..: runs the program over a copy of the store with these streams
+# closed. Each file of the store has to be as in AFTER.
+over_closed() {
+    closed=$1 status=$2 store=$3 kept=$4 lines=$5
+    shift 5
+    rm -rf krill-data
+    cp -r "$store" krill-data
+    got=0
+    case $closed in
+    0) "$krillc" "$@" <&- >output 2>error || got=$? ;;
+    1) "$krillc" "$@" <"$lines" >&- 2>error || got=$? ;;
+    2) "$krillc" "$@" <"$lines" >output 2>&- || got=$? ;;
+    01) "$krillc" "$@" <&- >&- 2>error || got=$? ;;
+    02) "$krillc" "$@" <&- >output 2>&- || got=$? ;;
+    12) "$krillc" "$@" <"$lines" >&- 2>&- || got=$? ;;
+    012) "$krillc" "$@" <&- >&- 2>&- || got=$? ;;
+    esac
+    if [ "$got" != "$status" ] || ! diff -r krill-data "$kept" >differs; then
+        echo "checks/program: krillc $* over $lines with $closed closed: status $got, expected $status"
+        cat differs
+        failed=1
+    fi
+}
+
+rm -rf krill-data
+cp -r store krill-data
+"$krillc" run <accepted >output
+cp -r krill-data grown
+for closed in 0 1 2 01 02 12 012; do
+    # A closed input fails at once, and a closed output at the first reply.
+    case $closed in
+    0*) read_fails=4 reply_fails=4 after=store ;;
+    1*) read_fails=0 reply_fails=4 after=grown ;;
+    *) read_fails=0 reply_fails=0 after=grown ;;
+    esac
+    case $closed in
+    *1*) text_fails=4 ;;
+    *) text_fails=0 ;;
+    esac
+    over_closed "$closed" "$read_fails" store store empty run
+    over_closed "$closed" "$reply_fails" store store bad run
+    over_closed "$closed" "$reply_fails" store store refused run
+    over_closed "$closed" "$reply_fails" store "$after" accepted run
+    over_closed "$closed" 2 store store empty runs
+    over_closed "$closed" 3 damaged damaged accepted run
+    over_closed "$closed" "$text_fails" store store empty --help
+    over_closed "$closed" "$text_fails" store store empty --version
+done
+# What is there is found again.
+rm -r krill-data
+cp -r grown krill-data
+printf '%s\n' '{"command":"roas update","ca":"ta","remove":["10.1.0.0/16 => 1"]}' >input
+expect 0 '{"authority":"ta","count":3,"reply":"accepted"}
+' '' run
+
 [ "$failed" = 0 ] && echo "checks/program: ok"
 exit "$failed"

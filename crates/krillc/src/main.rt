@@ -8,6 +8,7 @@ use krill_top::{
     RunFault, SessionEnds, StreamSink, StreamSource, SystemClock, fault_text, run_krill,
 };
 use std::io::{ErrorKind, Write};
+use std::os::fd::{AsRawFd, IntoRawFd};
 use std::process::ExitCode;
 use std::{env, fs, io};
 
@@ -15,6 +16,9 @@ use std::{env, fs, io};
 const FOLDER: &str = "krill-data";
 
 const DESKS: u32 = 64;
+
+/// The standard streams have the descriptors below this one.
+const STANDARD_STREAMS: i32 = 3;
 
 const HELP: &str = "krillc: a delegated RPKI certificate authority daemon
 
@@ -91,9 +95,11 @@ struct Store {
     desks: Vec<FileDisk>,
 }
 
-/// Makes the folder, locks it, and opens the desks' files in it.
+/// Makes the folder, locks it, and opens the desks' files in it, none of them in the place of a standard
+/// stream that was closed.
 fn open_store(rt: &HostRuntime) -> Result<Store, DiskStop> {
-    let folder = lock_folder(rt)?;
+    hold_closed_streams(rt).map_err(stop_of)?;
+    let folder = make_folder_locked(rt).map_err(stop_of)?;
     let mut desks = Vec::with_capacity(rt.alloc(), DESKS as usize)?;
     for number in 0..DESKS {
         let path = format!(in rt.alloc(); "{FOLDER}/desk-{number:02}")?;
@@ -102,17 +108,32 @@ fn open_store(rt: &HostRuntime) -> Result<Store, DiskStop> {
     Ok(Store { folder, desks })
 }
 
-/// The folder, locked. It fails at once where another program has it open.
-fn lock_folder(rt: &HostRuntime) -> Result<fs::File, DiskStop> {
-    match make_folder_locked(rt) {
-        Ok(folder) => Ok(folder),
-        Err(error) if error.kind() == ErrorKind::OutOfMemory => Err(DiskStop::Memory),
-        Err(_) => Err(DiskStop::Fault),
+fn stop_of(error: io::Error) -> DiskStop {
+    if error.kind() == ErrorKind::OutOfMemory {
+        DiskStop::Memory
+    } else {
+        DiskStop::Fault
     }
 }
 
+/// Puts the working directory in the place of each standard stream that is closed, for as long as the
+/// program runs. Otherwise a desk's file would get that place, and what is meant for the stream would
+/// be written over it. A directory can be neither read nor written, so that the stream fails as a closed
+/// one does.
+fn hold_closed_streams(rt: &HostRuntime) -> io::Result<()> {
+    for _ in 0..STANDARD_STREAMS {
+        let directory = fs::File::open(rt, ".")?;
+        if directory.as_raw_fd() >= STANDARD_STREAMS {
+            return Ok(());
+        }
+        let _held = directory.into_raw_fd();
+    }
+    Ok(())
+}
+
 /// Makes the folder where it is missing, and syncs its own name: without it, a crash could leave the
-/// working directory without the folder.
+/// working directory without the folder. The folder comes locked, and it fails at once where another
+/// program has it locked.
 fn make_folder_locked(rt: &HostRuntime) -> Result<fs::File, io::Error> {
     fs::create_dir_all(rt, FOLDER)?;
     fs::File::open(rt, ".")?.sync_all()?;
