@@ -38,6 +38,3 @@ pub struct Origin {
     pub asn: u32,
     ghost maximum: { IsMaximum prefix.v6 prefix.length max },
 }
-
-#[cfg(test)]
-mod tests;

@@ -20,6 +20,3 @@ pub use prefixes::prefix_length;
 pub use printing::reads_own_texts;
 pub use sets::{Ranges, same_members_same_set};
 pub use texts::{TextFault, reads_texts_once};
-
-#[cfg(test)]
-mod tests;
