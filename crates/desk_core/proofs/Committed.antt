@@ -1,5 +1,5 @@
 -- What a commit does to a desk, by what its parts do.
-use Rattle.std.proofs.Common.{◌≡◌, ◌⊎◌, ◌≤◌, ◌<◌, ◌+◌, ◌-◌, ◌^◌, ℕ, Option, Some, None, List, [], ◌∷◌, ◌++◌, map, length, refl, sym, ◌∙◌, ap, subst, arith}
+use Rattle.std.proofs.Common.{◌≡◌, ◌⊎◌, ◌≤◌, ◌<◌, ◌+◌, ◌-◌, ◌^◌, ℕ, inl, Option, Some, None, List, [], ◌∷◌, ◌++◌, map, length, refl, sym, ◌∙◌, ap, subst, arith}
 use Rattle.std.specs.Prelude.{IfSome, IsSome, min}
 use Rattle.std.specs.Option.{option_map}
 use Rattle.std.proofs.lemmas.List.{length-map, map-append}
@@ -9,7 +9,8 @@ use Rattle.authority_book.specs.declared.commands.Command.{Command}
 use Rattle.authority_book.specs.Settings.{Settings}
 use Rattle.authority_book.specs.Fold.{after, after_all, fold_of, empty_settings, IsFoldOf, Taken}
 use Rattle.cmd_codec.specs.Spelling.{spelling, IsRecordable}
-use Rattle.gate_journal.specs.View.{View, Holds, StandsForOrWith, IsSafe, IsSameButRoom}
+use Rattle.gate_journal.specs.View.{View, StandsForOrDoubt, stake_of, IsSameButRoom}
+use Rattle.gate_journal.specs.View.{IsSafe as IsSafeJournal}
 use Rattle.gate_journal.specs.Answers.{IsAppendFault}
 use Rattle.gate_journal.specs.declared.fault.AppendFault.{AppendFault}
 use Rattle.gate_journal.specs.declared.fault.AppendFault.TheVariants.{Shut, JournalFull, DiskFault}
@@ -17,7 +18,7 @@ use Rattle.desk_core.specs.View.{journal_limit}
 use Rattle.desk_core.specs.View as desk
 use Rattle.desk_core.specs.Answers.{HasPlace, IsDeskFault, fault_of}
 use Rattle.desk_core.specs.Commands.{Records, HasCommands}
-use Rattle.desk_core.specs.Images.{HoldsTold}
+use Rattle.desk_core.specs.Images.{Holds, HoldsTold, IsSafe}
 use Rattle.desk_core.specs.Kept.{IsKept, IsLoaded}
 use Rattle.desk_core.proofs.Moments.{weaker}
 use Rattle.desk_core.proofs.Recorded.{records_push}
@@ -26,25 +27,44 @@ use Rattle.desk_core.proofs.Recorded.{records_push}
 abbrev pub desk_of : {D : Type 0} → ℕ → Settings → List (List ℕ) → View D → desk.View D
 desk_of number settings records j = record { disk = j.disk; number = number; settings = settings; records = records; shut = j.shut; doubt = j.doubt }
 
--- an image of the journal's is one of the desk's
-told_with : (content : Option (List ℕ)) (limit : ℕ) (shown : Option (List (List ℕ))) (records : List (List ℕ)) (payload file : List ℕ) → limit ≡ journal_limit →
-    IfSome content (λ _. IsSome shown) → IfSome shown (λ all. all ≡ records) → StandsForOrWith limit shown payload file → HoldsTold content records (Some payload) file
-told_with None limit shown records payload file is known same stands = tt
-told_with (Some bytes) limit None records payload file is known same stands = cc
-told_with (Some bytes) limit (Some all) records payload file is known same stands =
-    let here = subst (λ (r : List (List ℕ)). Holds limit r file ⊎ Holds limit (r ++ payload ∷ []) file) same stands in
-    subst (λ (n : ℕ). Holds n records file ⊎ Holds n (records ++ payload ∷ []) file) is here
+-- what the journal's disk holds, the desk's does
+told_doubt : (content : Option (List ℕ)) (limit : ℕ) (shown : Option (List (List ℕ))) (records : List (List ℕ)) (doubt : Option (List ℕ)) (file : List ℕ) → limit ≡ journal_limit →
+    IfSome content (λ _. IsSome shown) → IfSome shown (λ all. all ≡ records) → StandsForOrDoubt limit shown doubt file → HoldsTold content records doubt file
+told_doubt None limit shown records doubt file is known same stands = tt
+told_doubt (Some bytes) limit None records doubt file is known same stands = cc
+told_doubt (Some bytes) limit (Some all) records doubt file is known same stands =
+    subst (λ (n : ℕ). StandsForOrDoubt n (Some records) doubt file) is (subst (λ (r : List (List ℕ)). StandsForOrDoubt limit (Some r) doubt file) same stands)
+
+told_bytes : (content : Option (List ℕ)) (limit : ℕ) (shown : Option (List (List ℕ))) (records : List (List ℕ)) (doubt : Option (List ℕ)) → limit ≡ journal_limit →
+    IfSome content (λ _. IsSome shown) → IfSome shown (λ all. all ≡ records) → IfSome content (λ bytes. StandsForOrDoubt limit shown doubt bytes) → IfSome content (Holds records doubt)
+told_bytes None limit shown records doubt is known same stands = tt
+told_bytes (Some bytes) limit shown records doubt is known same stands = told_doubt (Some bytes) limit shown records doubt bytes is known same stands
+
+pub safe_of : {D : Type 0} (content : D → Option (List ℕ)) (may_leave : D → List ℕ → Type 0) (number : ℕ) (settings : Settings) (records : List (List ℕ)) (journal : View D) → IsKept content may_leave number settings records journal →
+    IsSafe content may_leave (desk_of number settings records journal)
+safe_of content may_leave number settings records journal kept = record {
+  bytes = told_bytes (content journal.disk) journal.limit journal.records records journal.doubt kept.limit kept.safe.told kept.told kept.safe.bytes;
+  images = λ c left. told_doubt (content journal.disk) journal.limit journal.records records journal.doubt c kept.limit kept.safe.told kept.told (kept.safe.images c left);
+  settled = kept.safe.settled;
+}
+
+-- what is left between commits may be left during one
+pub stake_holds : (content : Option (List ℕ)) (records : List (List ℕ)) (shut : Option (ℕ × ℕ)) (doubt : Option (List ℕ)) (payload file : List ℕ) → (shut ≡ None → doubt ≡ None) → HoldsTold content records doubt file →
+    HoldsTold content records (stake_of shut doubt payload) file
+stake_holds None records shut doubt payload file settled holds = tt
+stake_holds (Some bytes) records None doubt payload file settled holds = inl (subst (λ (o : Option (List ℕ)). Holds records o file) (settled refl) holds)
+stake_holds (Some bytes) records (Some rose) doubt payload file settled holds = holds
 
 -- each moment of an append is one of the desk's
 pub moments : {D : Type 0} (content : D → Option (List ℕ)) (may_leave : D → List ℕ → Type 0) (moment : D → ℕ) (left_since : D → ℕ → List ℕ → Type 0)
     (number : ℕ) (settings : Settings) (records : List (List ℕ)) (command : Command) (payload : List ℕ) (old mid new : View D) → IsKept content may_leave number settings records old →
     IsSameButRoom old mid → payload ≡ spelling command →
-    (mid.shut ≡ None → LeavesOnly moment left_since mid.disk new.disk (StandsForOrWith mid.limit mid.records payload)) →
-    old.shut ≡ None → LeavesOnly moment left_since old.disk new.disk (HoldsTold (content old.disk) records (Some (spelling command)))
-moments content may_leave moment left_since number settings records command payload old mid new kept same spelled any is_open =
-    let mine = subst (λ (j : View _). j.shut ≡ None → LeavesOnly moment left_since j.disk new.disk (StandsForOrWith j.limit j.records payload)) same any is_open in
-    weaker content may_leave moment left_since old.disk new.disk (StandsForOrWith old.limit old.records payload) (HoldsTold (content old.disk) records (Some (spelling command))) mine
-    (λ c stands. told_with (content old.disk) old.limit old.records records (spelling command) c kept.limit kept.safe.told kept.told (subst (λ (p : List ℕ). StandsForOrWith old.limit old.records p c) spelled stands))
+    LeavesOnly moment left_since mid.disk new.disk (StandsForOrDoubt mid.limit mid.records (stake_of mid.shut mid.doubt payload)) →
+    LeavesOnly moment left_since old.disk new.disk (HoldsTold (content old.disk) records (stake_of old.shut old.doubt (spelling command)))
+moments content may_leave moment left_since number settings records command payload old mid new kept same spelled any =
+    let mine = subst (λ (j : View _). LeavesOnly moment left_since j.disk new.disk (StandsForOrDoubt j.limit j.records (stake_of j.shut j.doubt payload))) same any in
+    weaker content may_leave moment left_since old.disk new.disk (StandsForOrDoubt old.limit old.records (stake_of old.shut old.doubt payload)) (HoldsTold (content old.disk) records (stake_of old.shut old.doubt (spelling command))) mine
+    (λ c stands. told_doubt (content old.disk) old.limit old.records records (stake_of old.shut old.doubt (spelling command)) c kept.limit kept.safe.told kept.told (subst (λ (p : List ℕ). StandsForOrDoubt old.limit old.records (stake_of old.shut old.doubt p) c) spelled stands))
 
 told_push : (old new : Option (List (List ℕ))) (records : List (List ℕ)) (payload : List ℕ) → IfSome old (λ all. all ≡ records) →
     new ≡ option_map (λ all. all ++ payload ∷ []) old → IfSome new (λ all. all ≡ records ++ payload ∷ [])
@@ -54,7 +74,7 @@ told_push (Some all) new records payload same is = subst (λ (o : Option (List (
 -- a desk with one record more
 pub kept_push : {D : Type 0} (content : D → Option (List ℕ)) (may_leave : D → List ℕ → Type 0) (number : ℕ) (settings next : Settings) (records more : List (List ℕ)) (payload : List ℕ) (old mid new : View D) →
     IsKept content may_leave number settings records old → IsSameButRoom old mid → new.records ≡ option_map (λ all. all ++ payload ∷ []) mid.records → new.limit ≡ mid.limit → new.sizes ≡ mid.sizes ++ length payload ∷ [] →
-    IsSafe content may_leave new → more ≡ records ++ payload ∷ [] → IsLoaded number next (records ++ payload ∷ []) → IsKept content may_leave number next more new
+    IsSafeJournal content may_leave new → more ≡ records ++ payload ∷ [] → IsLoaded number next (records ++ payload ∷ []) → IsKept content may_leave number next more new
 kept_push content may_leave number settings next records more payload old mid new kept same appended limit sizes safe pushed loaded = record {
   loaded = subst (λ (r : List (List ℕ)). IsLoaded number next r) (sym pushed) loaded;
   told = subst (λ (r : List (List ℕ)). IfSome new.records (λ all. all ≡ r)) (sym pushed)

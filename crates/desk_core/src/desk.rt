@@ -48,7 +48,8 @@ impl<D: Disk> Model for Desk<D> {
 impl<D: Disk> Desk<D> {
     ghost use Rattle.desk_core.specs.Commands.{IsFirstBad};
     ghost use Rattle.desk_core.specs.Answers.{HasPlace, needed_for, IsDeskFault, disk_after};
-    ghost use Rattle.desk_core.specs.Images.{Holds, HoldsTold};
+    ghost use Rattle.gate_journal.specs.View.{stake_of};
+    ghost use Rattle.desk_core.specs.Images.{Holds, HoldsTold, IsSafe};
 
     /// Opens the desk of that number on a disk. A file of at most 17 bytes is made a new journal; in a
     /// longer one the bytes stay as they are. It takes time linear in the records.
@@ -116,6 +117,8 @@ impl<D: Disk> Desk<D> {
     pub fn len(&self) -> u64
         ensures records { result ≡ length self.now.records }
         ensures commands { (commands : List Command) → HasCommands self.now commands → result ≡ length commands }
+        // Between calls, too, what a crash may leave holds them.
+        ensures safe { IsSafe D.content D.may_leave self.now }
     {
         self.records.len() as u64
     }
@@ -162,9 +165,11 @@ impl<D: Disk> Desk<D> {
         ensures number { self.new.number ≡ self.old.number }
 
         // A crash at any moment of the call leaves the records from before it, with the new one or
-        // without; after Ok, with it.
-        ensures any_moment { self.old.shut ≡ None → LeavesOnly D.moment D.left_since self.old.disk self.new.disk (HoldsTold (D.content self.old.disk) self.old.records (Some (spelling command))) }
+        // without; a shut desk's with the one that was in doubt or without. After Ok, with it.
+        ensures any_moment { LeavesOnly D.moment D.left_since self.old.disk self.new.disk (HoldsTold (D.content self.old.disk) self.old.records (stake_of self.old.shut self.old.doubt (spelling command))) }
         ensures durable { OnOk result ((c : List ℕ) → D.may_leave self.new.disk c → HoldsTold (D.content self.old.disk) self.new.records None c) }
+        // After every answer.
+        ensures safe { IsSafe D.content D.may_leave self.new }
         ensures later { D.fault_count self.old.disk ≤ D.fault_count self.new.disk }
     {
         if let Some(fault) = self.refusal(&command, signers) {
@@ -192,7 +197,7 @@ impl<D: Disk> Desk<D> {
     // Why the command isn't taken, before anything is done.
     fn refusal(&self, command: &Command, signers: u32) -> Option<DeskFault<D>>
         ensures answer { MatchOption result (HasPlace self.now command.now signers) (λ fault. IsDeskFault D.fault_count fault command.now signers self.now self.now) }
-        ensures images { self.now.shut ≡ None → (c : List ℕ) → D.may_leave self.now.disk c → HoldsTold (D.content self.now.disk) self.now.records None c }
+        ensures safe { IsSafe D.content D.may_leave self.now }
     {
         if let Some(rose) = self.journal.shut_by() {
             let rose = DeskRose::new(self.number, rose);

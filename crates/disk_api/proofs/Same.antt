@@ -55,7 +55,7 @@ pub torn_same : (at n : ℕ) (c : List ℕ) → Torn at n c c
 torn_same at n c = record { before = refl; after = refl; no_shorter = omega arith; no_longer = omega arith }
 
 pub cut_same : (len : ℕ) (c : List ℕ) → IsCut len c c
-cut_same len c = record { front = sym (take_all (length c) c (omega arith)); no_shorter = omega arith }
+cut_same len c = record { front = refl; no_shorter = omega arith; no_longer = omega arith }
 
 pub follows_write : {a b d : MemoryDisk} (at : ℕ) (bytes : List ℕ) → IsSameFile a b → (kept : Vec ℕ Global) × (kept.items ≡ bytes) × TakesStep b d (Write at kept) → Follows (Torn at (length bytes)) (IsImage a) (IsImage d)
 follows_write {a} {b} {d} at bytes same takes c left =

@@ -16,10 +16,11 @@ pub record Torn (at n : ℕ) (old new : List ℕ) : Type 0 where
   pub no_shorter : length old ≤ length new
   pub no_longer : length new ≤ max (length old) (at + n)
 
--- after a cut that a crash cuts short: some length between
+-- after a cut that a crash cuts short: the first bytes stay, and any bytes may follow them up to some length between
 pub record IsCut (len : ℕ) (old new : List ℕ) : Type 0 where
-  pub front : new ≡ take (length new) old
+  pub front : take len new ≡ take len old
   pub no_shorter : min len (length old) ≤ length new
+  pub no_longer : length new ≤ length old
 
 -- where the old content is told, the new one is told too, and they are so related
 abbrev pub BothTold : (List ℕ → List ℕ → Type 0) → Option (List ℕ) → Option (List ℕ) → Type 0

@@ -26,8 +26,9 @@ torn_whole at bytes old le =
 -- and so with a cut
 pub cut_whole : (len : ℕ) (old : List ℕ) → IsCut len old (cut_to len old)
 cut_whole len old = record {
-  front = sym (ap (λ n. take n old) (length-take len old) ∙ take_min len old);
+  front = take_all len (take len old) (omega (arith, length-take len old));
   no_shorter = omega (arith, length-take len old);
+  no_longer = omega (arith, length-take len old);
 }
 
 pub content_is_image : (bytes : List ℕ) (images : List ℕ → Type 0) → images bytes → (steps : List Step) → steps_fit bytes steps ≡ true → IsImageAfter bytes images steps (content_after bytes steps)

@@ -35,8 +35,8 @@ impl<T: Drop> From<AllocFailed<T>> for DiskStop {
 
 /// A file on a disk. Offsets and lengths are in bytes.
 ///
-/// Between two syncs each range that was written, and what lies past the old end, may hold any
-/// bytes after a crash; other bytes stay. After a sync that succeeds, a crash leaves what a read
+/// Between two syncs each range that was written, and what lies past the old end or past a cut, may
+/// hold any bytes after a crash; other bytes stay. After a sync that succeeds, a crash leaves what a read
 /// gives. A disk that doesn't tell what it holds promises nothing of bytes.
 ///
 /// A call that may want memory is handed an allocator for it.
@@ -89,7 +89,8 @@ pub trait Disk: Drop {
         ensures time { Elapses (moment self.old) (moment self.new) (left_since self.old) (left_since self.new) (may_leave self.new) }
         ensures faults { CountsStops (fault_count self.old) (fault_count self.new) result };
 
-    /// Cuts the file to a length. A shorter file stays as it is.
+    /// Cuts the file to a length. A shorter file stays as it is. Until the next sync a crash may leave
+    /// any bytes behind the first `len`, up to some length between the two.
     fn cut(&mut self, alloc: Global, len: u64) -> Result<(), DiskStop>
         ensures cut { OnOk result (content self.new ≡ option_map (cut_to len) (content self.old)) }
         ensures torn { OnErr result (BothTold (IsCut len) (content self.old) (content self.new)) }

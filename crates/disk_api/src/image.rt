@@ -1,7 +1,7 @@
 // Crash images of a disk in memory: its steps are made again, the unsynced ones only in part.
 ghost use Rattle.std.specs.Prelude.{◌≡◌, ◌≢◌, ◌-◌, ◌≤◌, ◌<◌, ◌+◌, ℕ, IsTrue, length, slice_index_or, IfOk, OnOk};
 ghost use Rattle.std.specs.List.{All};
-ghost use Rattle.disk_api.specs.Content.{Torn};
+ghost use Rattle.disk_api.specs.Content.{Torn, IsCut};
 ghost use Rattle.disk_api.specs.Steps.{content_after, after_step, steps_fit, FitsAt, IsImageAfter, IsUnsynced, IsTornBy};
 ghost use Rattle.disk_api.specs.declared.step.Step.{Step};
 ghost use Rattle.disk_api.specs.declared.step.Step.TheVariants.{Sync};
@@ -73,9 +73,7 @@ fn tear(alloc: Global, image: &mut Vec<u8>, step: &Step, way: u64) -> Result<(),
     match step {
         Step::Write { at, bytes: new } => tear_write(alloc, image, *at, new, way),
         Step::Cut(len) => {
-            if way != 0 {
-                image.truncate(*len);
-            }
+            tear_cut(image, *len, way);
             Ok(())
         }
         Step::Sync => unreachable!(),
@@ -106,6 +104,29 @@ fn tear_write(
     }
     let piece = piece_of(alloc, new, way)?;
     overwrite(image, at, &piece)
+}
+
+/// What is left where the file was cut: 0 all that was there, 1 nothing behind the cut, 2 the first half
+/// of that, and from 3 on other bytes in its place, as in a write.
+fn tear_cut(image: &mut Vec<u8>, len: usize, way: u64)
+    ensures { IsCut len image.old.items image.new.items }
+{
+    if len >= image.len() {
+        return;
+    }
+    let behind = image.len() - len;
+    match way {
+        0 => {}
+        1 => image.truncate(len),
+        2 => image.truncate(len + behind / 2),
+        _ => spoil(&mut image[len..], way),
+    }
+}
+
+fn spoil(bytes: &mut [u8], way: u64) {
+    for byte in bytes.iter_mut() {
+        *byte = byte_left(*byte, way);
+    }
 }
 
 /// What is left of a write: 0 none of it, 1 all, 2 its first half, 3 other bytes in its range, 4 other

@@ -78,7 +78,8 @@ impl MemoryDisk {
 
     /// One image that a crash now may leave, the same for the same pick. Of the writes since the last
     /// sync, pick 0 leaves none, 1 all, 2 the first half of each, 3 other bytes in the range of each;
-    /// 4 to 7 leave other bytes in other ways, and from 8 on each write is left in its own.
+    /// 4 to 7 leave other bytes in other ways, and from 8 on each write is left in its own. What a cut
+    /// took off is left in the same ways.
     pub fn image(&self, alloc: Global, pick: u64) -> Result<Vec<u8>, AllocError>
         ensures { IfOk result (λ image. IsImage self.now image.items) }
     {

@@ -9,7 +9,7 @@ use Rattle.gate_journal.specs.Format.{stands_for}
 use Rattle.gate_journal.specs.Storing.{stored, entry_bytes, IsStoringTold}
 use Rattle.gate_journal.specs.Kept.{IsLaidOut, IsKept, IsGuarded, shows, doubt_of, sizes_of, pair_of}
 use Rattle.gate_journal.specs.Reading.{Opens}
-use Rattle.gate_journal.specs.View.{Holds, StandsFor, StandsForOrWith, StandsForOrDoubt}
+use Rattle.gate_journal.specs.View.{Holds, StandsFor, StandsForOrWith, StandsForOrDoubt, stake_of}
 use Rattle.gate_journal.specs.declared.place.Place.{Place}
 use Rattle.gate_journal.proofs.Records.{payload_of-entry}
 use Rattle.gate_journal.proofs.Laid.{shown}
@@ -22,6 +22,12 @@ use Rattle.gate_journal.proofs.Appended.{storing_holds}
 pub with_none : (limit : ℕ) (records : Option (List (List ℕ))) (payload file : List ℕ) → StandsFor limit records file → StandsForOrWith limit records payload file
 with_none limit None payload file stands = tt
 with_none limit (Some all) payload file stands = inl stands
+
+-- what is left between calls may be left during an append
+pub stake_stands : (limit : ℕ) (records : Option (List (List ℕ))) (shut : Option (ℕ × ℕ)) (doubt : Option (List ℕ)) (payload file : List ℕ) → (shut ≡ None → doubt ≡ None) → StandsForOrDoubt limit records doubt file
+    → StandsForOrDoubt limit records (stake_of shut doubt payload) file
+stake_stands limit records None doubt payload file settled stands = with_none limit records payload file (subst (λ (o : Option (List ℕ)). StandsForOrDoubt limit records o file) (settled refl) stands)
+stake_stands limit records (Some rose) doubt payload file settled stands = stands
 
 -- what is in the buffer after a record was put together
 pub in_doubt : (payload : List ℕ) → length payload < 2 ^ 64 → doubt_of (entry_bytes payload) ≡ Some payload

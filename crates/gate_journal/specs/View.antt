@@ -34,6 +34,11 @@ abbrev pub StandsForOrDoubt : ℕ → Option (List (List ℕ)) → Option (List 
 StandsForOrDoubt limit records None file = StandsFor limit records file
 StandsForOrDoubt limit records (Some payload) file = StandsForOrWith limit records payload file
 
+-- what a crash during an append may find as the next record: the payload, and on a shut journal what was in doubt before
+abbrev pub stake_of : Option (ℕ × ℕ) → Option (List ℕ) → List ℕ → Option (List ℕ)
+stake_of None doubt payload = Some payload
+stake_of (Some rose) doubt payload = doubt
+
 -- what the disk holds, and what a crash now may leave, stands for the records, and perhaps the one in doubt
 pub record IsSafe {D : Type 0} (content : D → Option (List ℕ)) (may_leave : D → List ℕ → Type 0) (journal : View D) : Type 0 where
   pub bytes : IfSome (content journal.disk) (λ bytes. StandsForOrDoubt journal.limit journal.records journal.doubt bytes)

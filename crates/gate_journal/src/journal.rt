@@ -7,7 +7,7 @@ ghost use Rattle.fault_count.specs.Rise.{HasRisen};
 ghost use Rattle.gate_journal.specs.Format.{stands_for, damaged_at, held_for, opened, IsUnopened};
 ghost use Rattle.gate_journal.specs.Reading.{Rests};
 ghost use Rattle.gate_journal.specs.Storing.{stored, entry_bytes};
-ghost use Rattle.gate_journal.specs.View.{View, StandsFor, StandsForOrWith, IsSafe, HasSizes, IsSameButRoom};
+ghost use Rattle.gate_journal.specs.View.{View, StandsFor, StandsForOrWith, StandsForOrDoubt, stake_of, IsSafe, HasSizes, IsSameButRoom};
 
 use crate::open::{find, read_payload};
 use crate::place::Place;
@@ -166,8 +166,9 @@ impl<D: Disk> Journal<D> {
         // After a fault the new record is in doubt, for as long as the journal stays shut.
         ensures safe { IsSafe D.content D.may_leave self.new }
 
-        // A crash at any moment of the call leaves the records from before it, with the new one or without.
-        ensures any_moment { self.old.shut ≡ None → LeavesOnly D.moment D.left_since self.old.disk self.new.disk (StandsForOrWith self.old.limit self.old.records payload.now) }
+        // A crash at any moment of the call leaves the records from before it, with the new one or
+        // without; a shut journal's with the one that was in doubt or without.
+        ensures any_moment { LeavesOnly D.moment D.left_since self.old.disk self.new.disk (StandsForOrDoubt self.old.limit self.old.records (stake_of self.old.shut self.old.doubt payload.now)) }
     {
         if let Some((before, after)) = self.shut {
             return Err(AppendFault::Shut {

@@ -5,13 +5,15 @@ use Rattle.authority_book.specs.declared.commands.Command.{Command}
 use Rattle.authority_book.specs.Settings.{Settings}
 use Rattle.authority_book.specs.Fold.{IsFoldOf}
 use Rattle.cmd_codec.specs.Spelling.{spelling}
+use Rattle.gate_journal.specs.View.{stake_of}
 use Rattle.desk_core.specs.View.{View}
 use Rattle.desk_core.specs.Answers.{HasPlace, IsDeskFault, fault_of}
 use Rattle.desk_core.specs.declared.faults.DeskFault.{DeskFault}
 use Rattle.desk_core.specs.Images.{HoldsTold}
 use Rattle.desk_core.specs.Commands.{HasCommands}
 use Rattle.desk_core.proofs.Recorded.{loaded_push}
-use Rattle.desk_core.proofs.Committed.{desk_of, has_push, kept_push, moments, refused_of, counts_records}
+use Rattle.desk_core.proofs.Moments.{started}
+use Rattle.desk_core.proofs.Committed.{desk_of, has_push, kept_push, moments, stake_holds, refused_of, counts_records}
 use Rattle.desk_core.proofs.desk.Desk.commit.Goals.{in-Some-6, in-None-6}
 use Rattle.desk_core.proofs.desk.Desk.commit.Goals as goal
 
@@ -57,12 +59,12 @@ returns-in-Ok-append-clause-counted g c =
     (c.count.ensures ∙ count, c.count.ensures)
 
 pub returns-in-Ok-append-clause-any_moment : goal.returns-in-Ok-append-clause-any_moment
-returns-in-Ok-append-clause-any_moment g c is_open =
+returns-in-Ok-append-clause-any_moment g c =
     let inside = c.self.inside in
-    subst (λ (old : View _). LeavesOnly g.D.Disk.moment g.D.Disk.left_since old.disk c.append.new.self.disk (HoldsTold (g.D.Disk.content old.disk) old.records (Some (spelling c.args.command))))
+    subst (λ (old : View _). LeavesOnly g.D.Disk.moment g.D.Disk.left_since old.disk c.append.new.self.disk (HoldsTold (g.D.Disk.content old.disk) old.records (stake_of old.shut old.doubt (spelling c.args.command))))
     c.self.view_is
     (moments g.D.Disk.content g.D.Disk.may_leave g.D.Disk.moment g.D.Disk.left_since inside.number inside.config.settings (map (λ (p : Vec ℕ Global). p.items) inside.records.items) c.args.command c.as_slice.result.now
-    inside.journal c.prepare.new.journal c.append.new.self c.self.invariant c.prepare.ensures.journal (c.as_slice.ensures.value ∙ c.in-Ok.ensures.payload.0) c.append.ensures.any_moment (ap (λ (v : View _). v.shut) c.self.view_is ∙ is_open))
+    inside.journal c.prepare.new.journal c.append.new.self c.self.invariant c.prepare.ensures.journal (c.as_slice.ensures.value ∙ c.in-Ok.ensures.payload.0) c.append.ensures.any_moment)
 
 pub returns-in-Err-clause-refused : goal.returns-in-Err-clause-refused
 returns-in-Err-clause-refused g c =
@@ -81,12 +83,19 @@ returns-in-Err-clause-refused g c =
     subst (λ (f : DeskFault _). IsDeskFault g.D.Disk.fault_count f c.args.command c.args.signers c.args.self.now c.match-command-6.self) (sym c.fault_of.ensures) there
 
 pub returns-in-Err-clause-any_moment : goal.returns-in-Err-clause-any_moment
-returns-in-Err-clause-any_moment g c is_open =
+returns-in-Err-clause-any_moment g c =
     let inside = c.self.inside in
     let records = map (λ (p : Vec ℕ Global). p.items) inside.records.items in
     let new = desk_of inside.number c.prepare.new.config.settings (map (λ (p : Vec ℕ Global). p.items) c.prepare.new.records.items) c.append.new.self in
     let same : c.match-command-6.self ≡ new = elim c.match-command-6.branch [ in-Some-6 w ↦ w.self-is | in-None-6 w ↦ w.self-is ] in
     let any = moments g.D.Disk.content g.D.Disk.may_leave g.D.Disk.moment g.D.Disk.left_since inside.number inside.config.settings records c.args.command c.as_slice.result.now
-    inside.journal c.prepare.new.journal c.append.new.self c.self.invariant c.prepare.ensures.journal (c.as_slice.ensures.value ∙ c.in-Ok.ensures.payload.0) c.append.ensures.any_moment (ap (λ (v : View _). v.shut) c.self.view_is ∙ is_open) in
-    let mine = subst (λ (old : View _). LeavesOnly g.D.Disk.moment g.D.Disk.left_since old.disk c.append.new.self.disk (HoldsTold (g.D.Disk.content old.disk) old.records (Some (spelling c.args.command)))) c.self.view_is any in
-    subst (λ (v : View _). LeavesOnly g.D.Disk.moment g.D.Disk.left_since c.args.self.now.disk v.disk (HoldsTold (g.D.Disk.content c.args.self.now.disk) c.args.self.now.records (Some (spelling c.args.command)))) (sym same) mine
+    inside.journal c.prepare.new.journal c.append.new.self c.self.invariant c.prepare.ensures.journal (c.as_slice.ensures.value ∙ c.in-Ok.ensures.payload.0) c.append.ensures.any_moment in
+    let mine = subst (λ (old : View _). LeavesOnly g.D.Disk.moment g.D.Disk.left_since old.disk c.append.new.self.disk (HoldsTold (g.D.Disk.content old.disk) old.records (stake_of old.shut old.doubt (spelling c.args.command)))) c.self.view_is any in
+    subst (λ (v : View _). LeavesOnly g.D.Disk.moment g.D.Disk.left_since c.args.self.now.disk v.disk (HoldsTold (g.D.Disk.content c.args.self.now.disk) c.args.self.now.records (stake_of c.args.self.now.shut c.args.self.now.doubt (spelling c.args.command)))) (sym same) mine
+
+pub returns-in-Some-clause-any_moment : goal.returns-in-Some-clause-any_moment
+returns-in-Some-clause-any_moment g c =
+    let desk = c.args.self.now in
+    let safe = c.refusal.ensures.safe in
+    started g.D.Disk.content g.D.Disk.may_leave g.D.Disk.moment g.D.Disk.left_since desk.disk (HoldsTold (g.D.Disk.content desk.disk) desk.records (stake_of desk.shut desk.doubt (spelling c.args.command))) g.met.D.Disk.only_now
+    (λ image left. stake_holds (g.D.Disk.content desk.disk) desk.records desk.shut desk.doubt (spelling c.args.command) image safe.settled (safe.images image left))
