@@ -1,11 +1,18 @@
-# run: build the proved program and run it on the sample session.
+# run: krillc on the sample session, within a minute or two, before its proof.
+# build: prove krillc and all that it stands on, and build it.
 # test: the whole gate.
 # bench: the measurements, each as a ratio to a baseline of the same run.
+# seconds: what the gate costs, crate by crate, from nothing; takes hours.
 # allocations: every test with each of its allocations failing in turn, outside the gate.
-.PHONY: run test bench allocations
+.PHONY: run build test bench seconds allocations
 
 run:
-	sh examples/run-first-session
+	@sh examples/run-first-session
+
+build:
+	@echo "Proving and building krillc (four to eight minutes on four processors where nothing is kept) ..."
+	cd crates/krillc && rt run -- --version </dev/null
+	@echo "Proved. The program is $(CURDIR)/crates/krillc/out/krillc; 'krillc --help' says how it is run."
 
 test:
 	bash .ci/run
@@ -16,6 +23,9 @@ bench:
 	python3 bench/der
 	python3 bench/commits
 	python3 bench/reopen
+
+seconds:
+	python3 bench/gate
 
 allocations:
 	python3 checks/allocations.py
