@@ -16,8 +16,3 @@ pub use laws::membership_is_by_equality;
 pub use origin_lists::OriginList;
 pub use refusals::Refusal;
 pub use verdicts::{verdict, verdict_on_the_fold};
-
-#[cfg(test)]
-mod plain;
-#[cfg(test)]
-mod tests;

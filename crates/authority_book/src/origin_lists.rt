@@ -145,7 +145,7 @@ fn index_many(alloc: Global, items: &[Origin]) -> Result<Index, AllocError>
 }
 
 // Whether the list has the origin, by looking at each.
-pub(crate) fn is_in(list: &[Origin], origin: &Origin) -> bool
+fn is_in(list: &[Origin], origin: &Origin) -> bool
     ensures { result ≡ is_there list.now origin.now }
 {
     list.iter().any(|other| origin.cmp(other).is_eq())

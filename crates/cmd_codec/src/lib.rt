@@ -15,6 +15,3 @@ mod writing;
 pub use faults::RecordFault;
 pub use reading::read;
 pub use writing::{spelled_apart, write};
-
-#[cfg(test)]
-mod tests;

@@ -7,8 +7,6 @@ mod line;
 mod name;
 mod plain;
 mod reply;
-#[cfg(test)]
-mod tests;
 
 pub use journal_reply::{JournalRefusal, journal_refusal_into};
 pub use line::{Line, LineFault, LineReader, MAX_LINE_LEN, means_one_thing, read_line};

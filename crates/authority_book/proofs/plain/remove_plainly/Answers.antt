@@ -1,9 +1,0 @@
-use Rattle.std.proofs.Common.{rules}
-use Rattle.std.specs.Prelude.{not}
-use Rattle.std.proofs.lemmas.Fn.{filter_same}
-use borrow.Author.Tests.{tests}
-use Rattle.authority_book.specs.Origins.{is_there}
-use Rattle.authority_book.proofs.plain.remove_plainly.Goals as goal
-
-pub returns : goal.returns
-returns c = filter_same _ (λ o. not (is_there c.args.removed.now o)) _ (λ x b q k. search (rules, tests)) _ _ c.retain.ensures.filtered

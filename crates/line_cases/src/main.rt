@@ -1,0 +1,50 @@
+//! Cases of commands: as lines, as records, before the verdict, and in replies. Each line of standard
+//! input is one, and its answer is printed behind its name.
+//!
+//! A line has the case's name, the call and its arguments, with tabs between them. Origins stand with
+//! `;` between them, bytes that are no text in hex. The file `stdout` beside `src` has the answers of
+//! other programs and of the rules, never this one's own.
+#![tactic(auto)]
+
+mod books;
+mod lines;
+mod origin_texts;
+mod records;
+mod replies;
+
+use anyhow::{Context, Result, bail};
+use std::alloc::Global;
+
+fn main(rt: HostRuntime) -> Result<()> {
+    for line in rt.lines(rt.alloc()) {
+        print_answer(&rt, line?.as_str())?;
+    }
+    Ok(())
+}
+
+fn print_answer(rt: &HostRuntime, line: &str) -> Result<()> {
+    let (name, rest) = first_field(line)?;
+    let (call, arguments) = first_field(rest)?;
+    let answer = answer(rt.alloc(), call, arguments).context(format_args!("{name}"))?;
+    println!(rt; "{name}\t{answer}")?;
+    Ok(())
+}
+
+/// What stands before the first tab, and what behind it.
+fn first_field(text: &str) -> Result<(&str, &str)> {
+    text.split_once('\t').context("a field is missing")
+}
+
+fn answer(alloc: Global, call: &str, arguments: &str) -> Result<String> {
+    match call {
+        "line" => lines::read(alloc, arguments.as_bytes()),
+        "line in hex" => lines::read(alloc, &hex::decode(alloc, arguments)?),
+        "line filled up" => lines::read_filled(alloc, arguments),
+        "record" => records::read_record(alloc, arguments),
+        "record of" => records::written(alloc, arguments),
+        "fronts" => records::read_fronts(alloc, arguments),
+        "origins" => books::listed(alloc, arguments),
+        "book" => books::taken(alloc, arguments),
+        _ => replies::answer(alloc, call, arguments),
+    }
+}
