@@ -7,8 +7,6 @@ mod fronts;
 mod opening;
 mod running;
 mod serving;
-#[cfg(test)]
-mod tests;
 
 pub use anchor::Anchor;
 pub use faults::{OpenFault, RunFault, fault_text};

@@ -1,0 +1,197 @@
+//! What a run is handed, and what it has left.
+
+use anyhow::{Result, bail};
+use disk_api::{Disk, MemoryDisk};
+use krill_top::{
+    ListClock, MemorySink, MemorySource, RunEnd, RunFault, SessionEnds, fault_text, run_krill,
+};
+use std::alloc::Global;
+
+type Ends = SessionEnds<MemorySource, MemorySink, ListClock>;
+
+type End = RunEnd<MemoryDisk, MemorySource, MemorySink, ListClock>;
+
+/// The ends of the runs to come, and what is told of those that were.
+#[derive(Drop)]
+pub struct Bench {
+    words: Vec<String>,
+    disks: Vec<MemoryDisk>,
+    sessions: u32,
+    input: Vec<u8>,
+    piece: usize,
+    source_fails: Vec<u64>,
+    sink_fails: Vec<u64>,
+    replies: Vec<u8>,
+    told: String,
+}
+
+impl Bench {
+    /// Nothing but one session of whole pieces.
+    pub fn new(alloc: Global) -> Bench {
+        Bench {
+            words: Vec::new(alloc),
+            disks: Vec::new(alloc),
+            sessions: 1,
+            input: Vec::new(alloc),
+            piece: usize::MAX,
+            source_fails: Vec::new(alloc),
+            sink_fails: Vec::new(alloc),
+            replies: Vec::new(alloc),
+            told: String::new(alloc),
+        }
+    }
+
+    pub fn told(&self) -> &str {
+        self.told.as_str()
+    }
+
+    /// Adds the word to those of the command line.
+    pub fn add_word(&mut self, alloc: Global, word: &str) -> Result<()> {
+        self.words.push(String::from_str(alloc, word)?)?;
+        Ok(())
+    }
+
+    /// Hands in so many sessions from now on.
+    pub fn set_sessions(&mut self, count: u32) {
+        self.sessions = count;
+    }
+
+    /// Adds a disk of these bytes, which fails at these of its calls.
+    pub fn add_disk(&mut self, alloc: Global, bytes: Vec<u8>, fails: Vec<u64>) -> Result<()> {
+        self.disks.push(MemoryDisk::new(alloc, bytes, fails))?;
+        Ok(())
+    }
+
+    /// The first disk takes so many calls, and fails from then on.
+    pub fn stop_first(&mut self, calls: u64) -> Result<()> {
+        match self.disks.as_mut_slice() {
+            [first, ..] => first.stop_after(calls),
+            [] => bail!("no disk"),
+        }
+        Ok(())
+    }
+
+    /// A disk with an image that a crash may leave of the first one, in place of all disks.
+    pub fn keep_image(&mut self, alloc: Global, pick: u64) -> Result<()> {
+        let [first, ..] = self.disks.as_slice() else {
+            bail!("no disk");
+        };
+        let image = first.image(alloc, pick)?;
+        self.disks.clear();
+        self.add_disk(alloc, image, Vec::new(alloc))
+    }
+
+    /// The sources fail at these of their calls.
+    pub fn set_source_fails(&mut self, fails: Vec<u64>) {
+        self.source_fails = fails;
+    }
+
+    /// The sinks fail at these of their calls.
+    pub fn set_sink_fails(&mut self, fails: Vec<u64>) {
+        self.sink_fails = fails;
+    }
+
+    /// The sources give at most so many bytes at a time, and the sinks take as many.
+    pub fn set_piece(&mut self, len: usize) {
+        self.piece = len;
+    }
+
+    /// Adds these bytes to what the next run reads.
+    pub fn add_input(&mut self, bytes: &[u8]) -> Result<()> {
+        Ok(self.input.extend_from_slice(bytes)?)
+    }
+
+    /// The ends of a session over the input.
+    fn session(&self, alloc: Global) -> Result<Ends> {
+        if self.piece == 0 {
+            bail!("pieces without a byte");
+        }
+        let input = self.input.as_slice().to_vec(alloc)?;
+        let source_fails = self.source_fails.as_slice().to_vec(alloc)?;
+        let sink_fails = self.sink_fails.as_slice().to_vec(alloc)?;
+        Ok(SessionEnds {
+            source: MemorySource::in_pieces(input, source_fails, self.piece),
+            sink: MemorySink::in_pieces(alloc, sink_fails, self.piece),
+            clock: ListClock::new(Vec::new(alloc)),
+        })
+    }
+
+    /// Runs, and keeps the disks as they are left. The input is used up.
+    pub fn run(&mut self, alloc: Global) -> Result<()> {
+        let mut sessions = Vec::new(alloc);
+        for _ in 0..self.sessions {
+            sessions.push(self.session(alloc)?)?;
+        }
+        self.input.clear();
+        let disks = std::mem::replace(&mut self.disks, Vec::new(alloc));
+        let end = run_krill(alloc, self.words.as_slice(), disks, sessions);
+        self.keep(alloc, end)
+    }
+
+    // Tells the status and the fault's text, and keeps the replies of all sessions and the disks.
+    fn keep(&mut self, alloc: Global, end: End) -> Result<()> {
+        let RunEnd {
+            status,
+            fault,
+            desks,
+            sessions,
+        } = end;
+        self.disks = desks;
+        self.replies.clear();
+        for ends in sessions.as_slice() {
+            self.replies.extend_from_slice(ends.sink.bytes())?;
+        }
+        write!(self.told, "\t{status}")?;
+        match fault {
+            Some(fault) => self.tell_fault(alloc, fault),
+            None => Ok(()),
+        }
+    }
+
+    /// Tells the fault's text.
+    pub fn tell_fault(&mut self, alloc: Global, fault: RunFault) -> Result<()> {
+        let text = fault_text(alloc, &fault)?;
+        write!(self.told, " {text}")?;
+        Ok(())
+    }
+
+    /// Tells the replies to the last run's lines, with `␊` for each line feed.
+    pub fn tell_replies(&mut self, alloc: Global) -> Result<()> {
+        let text = self.reply_text(alloc)?;
+        write!(self.told, "\t{text}")?;
+        Ok(())
+    }
+
+    /// Tells whether those replies are one of the texts, which have `|` between them.
+    pub fn tell_whether_replies(&mut self, alloc: Global, texts: &str) -> Result<()> {
+        let replies = self.reply_text(alloc)?;
+        let is_one = texts.split('|').any(|text| text == replies.as_str());
+        write!(self.told, "\t{is_one}")?;
+        Ok(())
+    }
+
+    fn reply_text(&self, alloc: Global) -> Result<String> {
+        match str::from_utf8(self.replies.as_slice()) {
+            Ok(text) => Ok(text.replace(alloc, "\n", "␊")?),
+            Err(_) => bail!("replies that are no text"),
+        }
+    }
+
+    /// Tells how many disks there are, the first one's faults and bytes, and how many of the others have
+    /// the bytes that the last of them has.
+    pub fn tell_disks(&mut self, alloc: Global) -> Result<()> {
+        let [first, .., last] = self.disks.as_slice() else {
+            bail!("no two disks");
+        };
+        let (count, faults) = (self.disks.len(), first.faults());
+        let (first, last) = (first.bytes(), last.bytes());
+        let like_last = self
+            .disks
+            .iter()
+            .filter(|disk| disk.bytes() == last)
+            .count();
+        let (first, last) = (hex::encode(alloc, first)?, hex::encode(alloc, last)?);
+        write!(self.told, "\t{count} {faults} {first} {like_last} {last}")?;
+        Ok(())
+    }
+}

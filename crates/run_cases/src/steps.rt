@@ -1,0 +1,98 @@
+//! The steps of a case.
+
+use crate::bench::Bench;
+use anyhow::{Context, Result, bail};
+use krill_top::RunFault;
+use std::alloc::Global;
+
+/// Takes a step: a word, and behind a blank what goes with it.
+pub fn take(alloc: Global, bench: &mut Bench, step: &str) -> Result<()> {
+    let (word, text) = step.split_once(' ').unwrap_or((step, ""));
+    match word {
+        // What is handed in.
+        "word" => bench.add_word(alloc, text),
+        "disks" => add_disks(alloc, bench, text.parse::<u32>()?),
+        "disk" => bench.add_disk(alloc, hex::decode(alloc, text)?, Vec::new(alloc)),
+        "failing" => bench.add_disk(alloc, Vec::new(alloc), numbers(alloc, text)?),
+        "stop" => bench.stop_first(text.parse::<u64>()?),
+        "image" => bench.keep_image(alloc, text.parse::<u64>()?),
+        _ => take_session_step(alloc, bench, word, text),
+    }
+}
+
+fn take_session_step(alloc: Global, bench: &mut Bench, word: &str, text: &str) -> Result<()> {
+    match word {
+        "sessions" => bench.set_sessions(text.parse::<u32>()?),
+        "pieces" => bench.set_piece(text.parse::<usize>()?),
+        "source" => bench.set_source_fails(numbers(alloc, text)?),
+        "sink" => bench.set_sink_fails(numbers(alloc, text)?),
+        "line" => add_line(bench, text)?,
+        "text" => bench.add_input(text.as_bytes())?,
+        "bytes" => bench.add_input(&hex::decode(alloc, text)?)?,
+        "blanks" => add_blanks(bench, text.parse::<u32>()?)?,
+        "origins" => add_many(alloc, bench, text.parse::<u32>()?)?,
+        _ => take_run_step(alloc, bench, word, text)?,
+    }
+    Ok(())
+}
+
+fn take_run_step(alloc: Global, bench: &mut Bench, word: &str, text: &str) -> Result<()> {
+    match word {
+        "run" => bench.run(alloc),
+        "replies" => bench.tell_replies(alloc),
+        "among" => bench.tell_whether_replies(alloc, text),
+        "left" => bench.tell_disks(alloc),
+        "fault" => bench.tell_fault(alloc, fault_of(text)?),
+        _ => bail!("an unknown step"),
+    }
+}
+
+// The fault of this name.
+fn fault_of(name: &str) -> Result<RunFault> {
+    match name {
+        "words" => Ok(RunFault::Words),
+        "device" => Ok(RunFault::Device),
+        "spent" => Ok(RunFault::Spent { bytes: 1 << 40 }),
+        "memory" => Ok(RunFault::Memory),
+        _ => bail!("an unknown fault"),
+    }
+}
+
+// So many empty disks.
+fn add_disks(alloc: Global, bench: &mut Bench, count: u32) -> Result<()> {
+    for _ in 0..count {
+        bench.add_disk(alloc, Vec::new(alloc), Vec::new(alloc))?;
+    }
+    Ok(())
+}
+
+fn numbers(alloc: Global, text: &str) -> Result<Vec<u64>> {
+    let mut numbers = Vec::new(alloc);
+    for number in text.split(' ') {
+        numbers.push(number.parse::<u64>().context("no number")?)?;
+    }
+    Ok(numbers)
+}
+
+fn add_line(bench: &mut Bench, line: &str) -> Result<()> {
+    bench.add_input(line.as_bytes())?;
+    bench.add_input(b"\n")
+}
+
+fn add_blanks(bench: &mut Bench, count: u32) -> Result<()> {
+    for _ in 0..count {
+        bench.add_input(b" ")?;
+    }
+    Ok(())
+}
+
+// A line that adds so many origins.
+fn add_many(alloc: Global, bench: &mut Bench, count: u32) -> Result<()> {
+    bench.add_input(b"{\"command\":\"roas update\",\"ca\":\"ta\",\"add\":[")?;
+    for n in 0..count {
+        let comma = if n == 0 { "" } else { "," };
+        let origin = format!(in alloc; "{comma}\"10.{}.{}.0/24 => 1\"", n / 256, n % 256)?;
+        bench.add_input(origin.as_bytes())?;
+    }
+    add_line(bench, "]}")
+}
