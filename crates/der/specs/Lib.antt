@@ -3,3 +3,8 @@ pub mod Place
 pub mod Digits
 pub mod Reading
 pub mod Grammar
+pub mod Tags
+pub mod NumberLaws
+pub mod LengthLaws
+pub mod ElementLaws
+pub mod ContentLaws

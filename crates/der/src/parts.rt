@@ -16,11 +16,11 @@ pub struct Bits<'a> {
 }
 
 /// An element at the front of a slice: all its bytes, its content, and the bytes behind it.
-#[derive(Clone, Copy)]
-pub(crate) struct Element<'a> {
-    pub(crate) whole: &'a [u8],
-    pub(crate) content: &'a [u8],
-    pub(crate) rest: &'a [u8],
+#[derive(Clone, Copy, Debug)]
+pub struct Element<'a> {
+    pub whole: &'a [u8],
+    pub content: &'a [u8],
+    pub rest: &'a [u8],
 }
 
 /// The number in base 256, if it fits.
@@ -66,7 +66,7 @@ fn length(at: u64, bytes: &[u8]) -> Result<(usize, &[u8]), DerFault>
 /// The content of the element of that tag at the front of the bytes, which start at `at`, and the bytes
 /// behind the element.
 #[tactic(auto, unfolding(crate::specs::Reading::element_at))]
-fn content_of(at: u64, tag: u8, bytes: &[u8]) -> Result<(&[u8], &[u8]), DerFault>
+pub fn content_of(at: u64, tag: u8, bytes: &[u8]) -> Result<(&[u8], &[u8]), DerFault>
     ensures { Gives (λ x. (x.0.now, x.1.now)) result (element_at at tag bytes.now) }
 {
     let [first, rest @ ..] = bytes else {
@@ -83,7 +83,7 @@ fn content_of(at: u64, tag: u8, bytes: &[u8]) -> Result<(&[u8], &[u8]), DerFault
 }
 
 /// The element of that tag at the front of the bytes, which start at `at`.
-pub(crate) fn element_of(at: u64, tag: u8, bytes: &[u8]) -> Result<Element<'_>, DerFault>
+pub fn element_of(at: u64, tag: u8, bytes: &[u8]) -> Result<Element<'_>, DerFault>
     ensures read { Gives (λ e. (e.content.now, e.rest.now)) result (element_at at tag bytes.now) }
     ensures parts { IfOk result (λ e. bytes.now ≡ e.whole.now ++ e.rest.now) }
     ensures whole { IfOk result (λ e. e.whole.now ≡ spelled tag e.content.now) }
@@ -100,7 +100,7 @@ pub(crate) fn element_of(at: u64, tag: u8, bytes: &[u8]) -> Result<Element<'_>, 
 }
 
 /// The number that is an INTEGER's content (X.690 section 8.3).
-fn number_of(at: u64, content: &[u8]) -> Result<u64, DerFault>
+pub fn number_of(at: u64, content: &[u8]) -> Result<u64, DerFault>
     ensures { Gives (λ n. n) result (number_of at content.now) }
 {
     match content {
@@ -120,7 +120,7 @@ fn are_bits(unused: u8, bytes: &[u8]) -> bool
 }
 
 /// What the content of a BIT STRING holds (X.690 sections 8.6 and 11.2).
-fn bits_of(at: u64, content: &[u8]) -> Result<Bits<'_>, DerFault>
+pub fn bits_of(at: u64, content: &[u8]) -> Result<Bits<'_>, DerFault>
     ensures { Gives (λ b. (b.unused, b.bytes.now)) result (bits_of at content.now) }
 {
     match content {

@@ -1,6 +1,6 @@
 //! Writers of single elements.
 
-ghost use Rattle.std.specs.Prelude.{◌≡◌, ◌++◌, ◌∷◌, take, length, slice_get, Some, OnOk, OnErr};
+ghost use Rattle.std.specs.Prelude.{◌≡◌, ◌++◌, ◌∷◌, ◌+◌, ◌-◌, ◌≤◌, List, ℕ, take, drop, length, slice_get, Some, OnOk, OnErr};
 ghost use Rattle.der.specs.Spelling.{length_bytes, needs_zero, nonnegative, spelled, unsigned_spelling, bits_spelling, AreBits};
 ghost use Rattle.der.specs.Digits.{without_zeros};
 
@@ -127,4 +127,39 @@ pub fn bits(_alloc: Global, out: &mut Vec<u8>, unused: u8, bytes: &[u8]) -> Resu
     let len = out.len();
     let appended = push_bits(out, unused, bytes);
     or_undo(appended, out, len)
+}
+
+/// Brings the last bytes to an earlier place.
+fn bring(bytes: &mut [u8], from: usize, count: usize)
+    requires { from + count ≤ length bytes.old }
+    ensures { bytes.new ≡ take from bytes.old
+        ++ (drop (length bytes.old - count) bytes.old ++ drop from (take (length bytes.old - count) bytes.old)) }
+{
+    bytes[from..].rotate_right(count);
+}
+
+/// Appends a header, or nothing.
+fn header(out: &mut Vec<u8>, tag: u8, len: usize) -> Result<(), AllocError>
+    ensures ok { OnOk result (out.new.items ≡ out.old.items ++ tag ∷ length_bytes len) }
+    ensures err { OnErr result (out.new.items ≡ out.old.items) }
+{
+    let before = out.len();
+    let pushed = push_header(out, tag, len);
+    or_undo(pushed, out, before)
+}
+
+/// Makes an element of the bytes from that place on, which are shifted once.
+pub fn enclose(_alloc: Global, out: &mut Vec<u8>, from: usize, tag: u8) -> Result<(), AllocError>
+    requires { from ≤ length out.old.items }
+    ensures ok { OnOk result (out.new.items ≡ take from out.old.items ++ spelled tag (drop from out.old.items)) }
+    // The same of what was appended to a front.
+    ensures behind { OnOk result ((front content : List ℕ) → out.old.items ≡ front ++ content → length front ≡ from
+        → out.new.items ≡ front ++ spelled tag content) }
+    ensures err { OnErr result (out.new.items ≡ out.old.items) }
+{
+    let len = out.len();
+    header(out, tag, len - from)?;
+    let count = out.len() - len;
+    bring(out, from, count);
+    Ok(())
 }

@@ -16,6 +16,3 @@ pub use laws::{civil_time, one_time, spelled_is_read, text_length};
 pub use reading::read;
 pub use text::TimeText;
 pub use writing::{cert_time, general};
-
-#[cfg(test)]
-mod tests;

@@ -3,7 +3,7 @@ use Rattle.std.proofs.Common.{◌≡◌, ℕ, ◌+◌, ◌-◌, ◌*◌, ◌/◌
 use Rattle.std.specs.Int.{bytes_high_first}
 use Rattle.std.proofs.lemmas.Nat.{div-mul-add, div-add-mod'}
 use Rattle.der.specs.Spelling.{spelled, bits_spelling}
-use Rattle.der.proofs.Elements.{one_element}
+use Rattle.der.specs.ElementLaws.{one_element}
 use Rattle.res_sets.specs.declared.numbers.Range.{Range}
 use Rattle.res_sets.specs.Prefixes.{IsPrefixRange}
 use Rattle.res_sets.proofs.Canonical.{same_range}

@@ -3,8 +3,8 @@ use Rattle.std.proofs.Common.{◌≡◌, ℕ, ◌<◌, ◌≤◌, ◌+◌, ◌-�
 use Rattle.std.proofs.lemmas.Bool.{false≢true}
 use Rattle.std.proofs.lemmas.List.{append-nil, length-append}
 use Rattle.der.specs.Spelling.{length_bytes, spelled, unsigned_spelling, bits_spelling}
-use Rattle.der.proofs.Elements.{longer, one_element}
-use Rattle.der.proofs.Contents.{one_bits, one_unsigned}
+use Rattle.der.specs.ElementLaws.{longer, one_element}
+use Rattle.der.specs.ContentLaws.{one_bits, one_unsigned}
 use Rattle.res_sets.specs.declared.numbers.Family.{Family}
 use Rattle.res_sets.specs.declared.numbers.Family.TheVariants.{Asn, V4, V6}
 use Rattle.res_sets.specs.declared.numbers.Range.{Range}

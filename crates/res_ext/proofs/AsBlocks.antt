@@ -3,7 +3,7 @@ use Rattle.std.proofs.Common.{◌≡◌, ℕ, ◌+◌, ◌<◌, ◌≤◌, ◌^�
 use Rattle.std.proofs.lemmas.Bool.{cases_Bool, eqb-true, eqb-false, eq-eqb}
 use Rattle.std.proofs.lemmas.List.{length-append}
 use Rattle.der.specs.Spelling.{spelled, unsigned_spelling, unsigned_content}
-use Rattle.der.proofs.Elements.{longer, one_element}
+use Rattle.der.specs.ElementLaws.{longer, one_element}
 use Rattle.res_sets.specs.declared.numbers.Range.{Range}
 use Rattle.res_ext.specs.Blocks.{as_ends, as_block}
 

@@ -3,7 +3,7 @@ use Rattle.std.specs.Int.Digits.{digits_of}
 use Rattle.std.proofs.lemmas.Bool.{lt-ltb, le-ltb}
 use Rattle.der.specs.Digits.{without_zeros}
 use Rattle.der.specs.Spelling.{length_bytes}
-use Rattle.der.proofs.Numbers.{digits-be_bytes}
+use Rattle.der.specs.NumberLaws.{digits-be_bytes}
 use Rattle.der.proofs.Appends.{appended}
 use Rattle.der.proofs.writer.push_header.Goals as goal
 

@@ -4,7 +4,7 @@ use Rattle.std.proofs.lemmas.List.{append-nil}
 use Rattle.std.proofs.lemmas.Result.{IfOk-equal}
 use Rattle.der.specs.Digits.{without_zeros}
 use Rattle.der.specs.Spelling.{spelled, unsigned_content, unsigned_spelling, nonnegative}
-use Rattle.der.proofs.Numbers.{digits-be_bytes}
+use Rattle.der.specs.NumberLaws.{digits-be_bytes}
 use Rattle.der.proofs.writer.unsigned.Goals as goal
 
 pub returns-clause-ok : goal.returns-clause-ok

@@ -1,7 +1,7 @@
 use Rattle.std.proofs.Common.{◌≡◌, ◌∙◌, ◌<◌, ◌≤◌, ◌^◌, List, ℕ, Ok, length, ap, sym, subst, arith}
 use Rattle.std.proofs.lemmas.Result.{err_from_is_err_and}
 use Rattle.der.specs.Spelling.{spelled}
-use Rattle.der.proofs.Elements.{longer}
+use Rattle.der.specs.ElementLaws.{longer}
 use Rattle.res_sets.specs.declared.numbers.Family.TheVariants.{Asn}
 use Rattle.res_sets.specs.Sets.{IsCanonical}
 use Rattle.res_ext.specs.declared.choices.Choice.{Choice}

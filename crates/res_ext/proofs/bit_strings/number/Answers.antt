@@ -2,7 +2,7 @@ use Rattle.std.proofs.Common.{◌≡◌, ◌∙◌, ◌+◌, ◌*◌, ◌<◌, �
 use Rattle.std.proofs.Math.Nat.{pow-le-pow_right}
 use Rattle.std.proofs.lemmas.List.{length-take}
 use Rattle.std.proofs.lemmas.Int.Digits.{number_lt, number_more}
-use Rattle.der.proofs.Numbers.{AreBytes-take}
+use Rattle.der.specs.NumberLaws.{AreBytes-take}
 use Rattle.der.specs.Grammar.{AreBytes}
 use Rattle.res_ext.proofs.Bytes.{number, below}
 use Rattle.res_ext.proofs.bit_strings.number.Goals as goal

@@ -1,6 +1,6 @@
 use Rattle.std.proofs.Common.{◌∙◌, ap}
 use Rattle.der.specs.Place.{Place}
-use Rattle.der.proofs.Contents.{bits-not_refused, bits-same}
+use Rattle.der.specs.ContentLaws.{bits-not_refused, bits-same}
 use Rattle.std.proofs.lemmas.Result.{err_from_is_err_and}
 use Rattle.der.proofs.Found.{bits_refused, bits_read}
 use Rattle.der.proofs.reader.Reader.bits.Goals as goal

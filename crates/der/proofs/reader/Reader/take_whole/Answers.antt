@@ -1,7 +1,7 @@
 use Rattle.std.proofs.Common.{◌∙◌, ap}
 use Rattle.der.specs.Place.{Place}
 use Rattle.der.specs.Spelling.{spelled}
-use Rattle.der.proofs.Elements.{element-not_refused, element-same}
+use Rattle.der.specs.ElementLaws.{element-not_refused, element-same}
 use Rattle.std.proofs.lemmas.Result.{err_from_is_err_and}
 use Rattle.der.proofs.Found.{whole_refused, whole_read}
 use Rattle.der.proofs.reader.Reader.take_whole.Goals as goal

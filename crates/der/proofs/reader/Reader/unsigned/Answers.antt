@@ -1,6 +1,6 @@
 use Rattle.std.proofs.Common.{◌∙◌, ℕ, Ok, ap}
 use Rattle.der.specs.Place.{Place}
-use Rattle.der.proofs.Contents.{unsigned-not_refused, unsigned-same}
+use Rattle.der.specs.ContentLaws.{unsigned-not_refused, unsigned-same}
 use Rattle.std.proofs.lemmas.Result.{err_from_is_err_and}
 use Rattle.der.proofs.Found.{unsigned_refused, unsigned_read}
 use Rattle.der.proofs.reader.Reader.unsigned.Goals as goal

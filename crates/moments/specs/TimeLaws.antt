@@ -12,8 +12,8 @@ use Rattle.moments.specs.Civil.{IsCivil, IsAt, IsMoment, second_of_day}
 use Rattle.moments.specs.Days.{civil_of}
 use Rattle.moments.specs.Text.{civil_text, time_text, HasText}
 use Rattle.moments.specs.Reading.{civil_at, is_civil, seconds_at, moment_in}
-use Rattle.moments.proofs.Calendar.{civil_of-civil, civil_of-at, at-civil_of, moment-year, moment-2050, year-2050, at-moment, year-small, civil_of-date, same_date, count-from_year, count-before_year, count-2000, days_from_civil-count, count-days_from_civil}
-use Rattle.moments.proofs.Digits.{IsShown, civil-again, one_civil, bind_some, guard_some, civil-taken}
+use Rattle.moments.specs.CalendarLaws.{civil_of-civil, civil_of-at, at-civil_of, moment-year, moment-2050, year-2050, at-moment, year-small, civil_of-date, same_date, count-from_year, count-before_year, count-2000, days_from_civil-count, count-days_from_civil}
+use Rattle.moments.specs.DigitLaws.{IsShown, civil-again, one_civil, bind_some, guard_some, civil-taken}
 
 pub shown : (general : Bool) (c : Civil) → HasText general c → IsShown general c
 shown general c has =

@@ -10,7 +10,7 @@ use Rattle.der.specs.declared.fault.DerFault.TheVariants.{Truncated, BadLength, 
 use Rattle.der.specs.Spelling.{length_bytes}
 use Rattle.der.specs.Reading.{◌>>=◌, number, is_longer_than_needed, length_at}
 use Rattle.der.specs.Grammar.{AreBytes}
-use Rattle.der.proofs.Numbers.{AreBytes-take, below, digits-number, without_zeros-same}
+use Rattle.der.specs.NumberLaws.{AreBytes-take, below, digits-number, without_zeros-same}
 
 -- which way a choice went
 pub chosen : {A : Type 0} (b : Bool) (x y z : A) → cond b x y ≡ z → ((b ≡ true) × (x ≡ z)) ⊎ ((b ≡ false) × (y ≡ z))

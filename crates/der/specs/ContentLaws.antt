@@ -10,9 +10,9 @@ use Rattle.der.specs.Digits.{without_zeros}
 use Rattle.der.specs.Spelling.{length_bytes, spelled, needs_zero, nonnegative, unsigned_content, unsigned_spelling, bits_spelling, AreBits}
 use Rattle.der.specs.Reading.{◌>>=◌, number, element_at, is_shortest_unsigned, number_of, unsigned_at, are_bits, bits_of, bits_at}
 use Rattle.der.specs.Grammar.{AreBytes}
-use Rattle.der.proofs.Numbers.{below, digits-number}
-use Rattle.der.proofs.Lengths.{bind_ok, not_refused, same_ok}
-use Rattle.der.proofs.Elements.{refused, element-taken, element-again, one_element}
+use Rattle.der.specs.NumberLaws.{below, digits-number}
+use Rattle.der.specs.LengthLaws.{bind_ok, not_refused, same_ok}
+use Rattle.der.specs.ElementLaws.{refused, element-taken, element-again, one_element}
 
 number-nonnegative : (ds : List ℕ) → number (nonnegative ds) ≡ number ds
 number-nonnegative ds = elim (cases_Bool (needs_zero ds)) [ inl has ↦ rw has refl | inr lacks ↦ rw lacks refl ]
@@ -193,3 +193,12 @@ bits-taken at bytes x fits e =
     let c = content-bits at a.0.0 b.0 b.1 in
     let whole : bytes ≡ bits_spelling b.0.0 b.0.1 ++ a.0.1 = taken.0 ∙ ap (λ (t : List ℕ). spelled 3 t ++ a.0.1) c.0 in
     subst (λ (y : (ℕ × List ℕ) × List ℕ). (bytes ≡ bits_spelling y.0.0 y.0.1 ++ y.1) × AreBits y.0.0 y.0.1) (same_ok (b.0, a.0.1) x b.2) (whole, c.1)
+
+pub number-again : (at n : ℕ) → n < 2 ^ 64 → number_of at (unsigned_content n) ≡ Ok n
+number-again at n small = rw (shortest-content n, number-content n, lt-ltb n (2 ^ 64) small) refl
+
+pub number-taken : (at : ℕ) (content : List ℕ) (n : ℕ) → AreBytes content → number_of at content ≡ Ok n → (n < 2 ^ 64) × (content ≡ unsigned_content n)
+number-taken at content n fits e = (number-fits at content n e, sym (content-read at content n fits e))
+
+pub bits_of-again : (at unused : ℕ) (bytes : List ℕ) → AreBits unused bytes → bits_of at (unused ∷ bytes) ≡ Ok (unused, bytes)
+bits_of-again at unused bytes bits = rw (bits-test unused bytes bits) refl

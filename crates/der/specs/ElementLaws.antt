@@ -8,7 +8,7 @@ use Rattle.der.specs.declared.fault.DerFault.TheVariants.{Truncated, BadTag}
 use Rattle.der.specs.Spelling.{length_bytes, spelled}
 use Rattle.der.specs.Reading.{◌>>=◌, length_at, content_at, element_at}
 use Rattle.der.specs.Grammar.{AreBytes}
-use Rattle.der.proofs.Lengths.{not_refused, bind_ok, same_ok, length-taken, length-again, one_length, one_front}
+use Rattle.der.specs.LengthLaws.{not_refused, bind_ok, same_ok, length-taken, length-again, one_length, one_front}
 
 -- what a call that failed would have answered
 pub refused : {A : Type 0} (b : Bool) (r : Result A DerFault) (d : DerFault) (y : A) → cond b r (Err d) ≡ Ok y → (b ≡ true) × (r ≡ Ok y)

@@ -1,0 +1,47 @@
+-- A loop over the values of a list.
+use Rattle.std.proofs.Common.{◌≡◌, ◌<◌, true, false, List, [], ◌∷◌, ◌++◌, length, Result, Ok, Err, refl, sym, ap, ◌∙◌, append_assoc, arith}
+use Rattle.std.proofs.lemmas.List.{length-append, append-nil}
+use Rattle.der_forms.specs.declared.fault.ShapeFault.{ShapeFault}
+use Rattle.der_forms.specs.declared.part.Part.{Part}
+use Rattle.der_forms.specs.Place.{Place, IsPlace, ◌>>=◌, place, is_empty}
+use Rattle.der_forms.specs.Form.{Front, IsFront}
+use Rattle.der_forms.specs.Forms.{many}
+use Rattle.der_forms.specs.ListLaws.{many-read, many-none}
+
+-- A part's place is one.
+pub part-place : (part : Part) → IsPlace (place part)
+part-place part = record { input = record { bytes = part.are_bytes; short = part.short }; ends = part.ends }
+
+-- The values so far, and then those of the place that was come to.
+abbrev pub GoesOn : {A : Type 0} → Front A → Place → List A → Place → Type 0
+GoesOn f p xs q = (many f).read p ≡ ((many f).read q >>= (λ ys. Ok (xs ++ ys)))
+
+pub at-first : {A : Type 0} (f : Front A) (p : Place) → GoesOn f p [] p
+at-first {A = A} f p = same ((many f).read p)
+  where
+    same : (r : Result (List A) ShapeFault) → r ≡ (r >>= (λ ys. Ok ys))
+    same (Ok xs) = refl
+    same (Err e) = refl
+
+pub one-more : {A : Type 0} (f : Front A) → IsFront f → (p : Place) (xs : List A) (q t : Place) (x : A) → GoesOn f p xs q → IsPlace q → is_empty q.left ≡ false → f.read q ≡ Ok (x, t) → GoesOn f p (xs ++ (x ∷ [])) t
+one-more {A = A} f law p xs q t x on is some e =
+    let step : (many f).read q ≡ ((many f).read t >>= (λ ys. Ok (x ∷ ys))) = many-read f law q is some ∙ ap (λ (r : Result (A × Place) ShapeFault). r >>= (λ x. (many f).read x.1 >>= (λ ys. Ok (x.0 ∷ ys)))) e in
+    on ∙ ap (λ (r : Result (List A) ShapeFault). r >>= (λ ys. Ok (xs ++ ys))) step ∙ grouped ((many f).read t)
+  where
+    grouped : (r : Result (List A) ShapeFault) → ((r >>= (λ ys. Ok (x ∷ ys))) >>= (λ ys. Ok (xs ++ ys))) ≡ (r >>= (λ ys. Ok ((xs ++ (x ∷ [])) ++ ys)))
+    grouped (Ok ys) = ap (λ (l : List A). Ok l) (sym (append_assoc xs (x ∷ []) ys))
+    grouped (Err e) = refl
+
+pub at-last : {A : Type 0} (f : Front A) (p : Place) (xs : List A) (q : Place) → GoesOn f p xs q → is_empty q.left ≡ true → (many f).read p ≡ Ok xs
+at-last {A = A} f p xs q on none =
+    on ∙ ap (λ (r : Result (List A) ShapeFault). r >>= (λ ys. Ok (xs ++ ys))) (many-none f (length q.left) q none) ∙ ap (λ (l : List A). Ok l) (append-nil xs)
+
+pub stopped : {A : Type 0} (f : Front A) → IsFront f → (p : Place) (xs : List A) (q : Place) (e : ShapeFault) → GoesOn f p xs q → IsPlace q → is_empty q.left ≡ false → f.read q ≡ Err e → (many f).read p ≡ Err e
+stopped {A = A} f law p xs q e on is some h =
+    let step : (many f).read q ≡ Err e = many-read f law q is some ∙ ap (λ (r : Result (A × Place) ShapeFault). r >>= (λ x. (many f).read x.1 >>= (λ ys. Ok (x.0 ∷ ys)))) h in
+    on ∙ ap (λ (r : Result (List A) ShapeFault). r >>= (λ ys. Ok (xs ++ ys))) step
+
+pub fewer-left : {A : Type 0} (f : Front A) → IsFront f → (q t : Place) (x : A) → IsPlace q → f.read q ≡ Ok (x, t) → length t.left < length q.left
+fewer-left f law q t x is e =
+    let b = law.taken x q t is e in
+    omega (arith, law.some x b.0, ap length b.1.left, length-append (f.spelling x) t.left)

@@ -1,0 +1,16 @@
+pub mod Place
+pub mod Form
+pub mod Forms
+pub mod Outcome
+pub mod PlaceLaws
+pub mod FormLaws
+pub mod SequenceLaws
+pub mod ValueLaws
+pub mod ChoiceLaws
+pub mod KindLaws
+pub mod ListLaws
+pub mod Leaves
+pub mod LeafLaws
+pub mod Object
+pub mod ObjectLaws
+pub mod FrameLaws

@@ -1,0 +1,35 @@
+//! Why bytes are no object.
+
+ghost use Rattle.std.specs.Prelude.{◌≡◌};
+ghost use Rattle.der_forms.specs.declared.fault.ShapeFault.TheVariants.{Memory};
+
+use std::alloc::{AllocError, AllocFailed};
+use thiserror::Error;
+
+/// Why bytes could not be read.
+#[derive(Clone, Copy, Debug, PartialEq, Eq, Error)]
+pub enum ShapeFault {
+    /// The bytes aren't in the grammar. `at` is at most their length, and below it no spelling begins
+    /// with the first `at` + 1 bytes.
+    #[error("the bytes aren't in the grammar: see the byte at {at}")]
+    Shape { at: u64 },
+    /// Memory ran out.
+    #[error("out of memory")]
+    Memory,
+}
+
+impl From<AllocError> for ShapeFault {
+    ghost from_gives = { λ _ fault. fault ≡ Memory };
+
+    fn from(_: AllocError) -> Self {
+        ShapeFault::Memory
+    }
+}
+
+impl<T: Drop> From<AllocFailed<T>> for ShapeFault {
+    ghost from_gives = { λ _ fault. fault ≡ Memory };
+
+    fn from(_: AllocFailed<T>) -> Self {
+        ShapeFault::Memory
+    }
+}

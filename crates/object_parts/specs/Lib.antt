@@ -1,0 +1,4 @@
+pub mod TimeFormats
+pub mod TimeLaws
+pub mod FrameFormats
+pub mod FrameLaws

@@ -1,0 +1,123 @@
+//! Readers of what the objects have in common.
+
+ghost use Rattle.std.specs.Prelude.{[], ◌∷◌};
+ghost use Rattle.der_forms.specs.Place.{place};
+ghost use Rattle.der_forms.specs.Outcome.{Gives};
+ghost use Rattle.object_parts.specs.FrameFormats.{identifier, signature_algorithm, key_algorithm, digest_algorithm, extension_at, critical_extension_at, signature, signed_at, key_identifier, issuer_key_identifier, key_info};
+
+use crate::identifiers::{DIGEST_ALGORITHM, KEY_ALGORITHM, SIGNATURE_ALGORITHM};
+use der_forms::tags::{
+    BIT_STRING, BOOLEAN, OBJECT_IDENTIFIER, OCTET_STRING, PRIMITIVE_0, SEQUENCE,
+};
+use der_forms::{Part, ShapeFault, constant, fixed, octet_bits};
+
+/// An OBJECT IDENTIFIER; what stands behind it.
+pub fn identifier<'a>(part: Part<'a>, oid: &[u8]) -> Result<Part<'a>, ShapeFault>
+    ensures { Gives (λ q. (tt, place q)) result ((identifier oid.now).read (place part.entry)) }
+{
+    constant(part, OBJECT_IDENTIFIER, oid)
+}
+
+/// The algorithm of a signature; what stands behind it.
+pub fn signature_algorithm(part: Part<'_>) -> Result<Part<'_>, ShapeFault>
+    ensures { Gives (λ q. (tt, place q)) result (signature_algorithm.read (place part.entry)) }
+{
+    constant(part, SEQUENCE, &SIGNATURE_ALGORITHM)
+}
+
+/// The algorithm of a key; what stands behind it.
+pub fn key_algorithm(part: Part<'_>) -> Result<Part<'_>, ShapeFault>
+    ensures { Gives (λ q. (tt, place q)) result (key_algorithm.read (place part.entry)) }
+{
+    constant(part, SEQUENCE, &KEY_ALGORITHM)
+}
+
+/// The algorithm of a digest; what stands behind it.
+pub fn digest_algorithm(part: Part<'_>) -> Result<Part<'_>, ShapeFault>
+    ensures { Gives (λ q. (tt, place q)) result (digest_algorithm.read (place part.entry)) }
+{
+    constant(part, SEQUENCE, &DIGEST_ALGORITHM)
+}
+
+/// An extension that isn't critical: its value, and what stands behind it.
+#[tactic(auto, unfolding(crate::specs::FrameFormats::extension_at))]
+pub fn extension<'a>(part: Part<'a>, oid: &[u8]) -> Result<(Part<'a>, Part<'a>), ShapeFault>
+    ensures { Gives (λ x. (place x.0, place x.1)) result (extension_at oid.now (place part.entry)) }
+{
+    let (content, rest) = part.open(SEQUENCE)?;
+    let content = identifier(content, oid)?;
+    let value = content.sole(OCTET_STRING)?;
+    Ok((value, rest))
+}
+
+/// A critical extension: its value, and what stands behind it.
+#[tactic(auto, unfolding(crate::specs::FrameFormats::critical_extension_at))]
+pub fn critical_extension<'a>(
+    part: Part<'a>,
+    oid: &[u8],
+) -> Result<(Part<'a>, Part<'a>), ShapeFault>
+    ensures { Gives (λ x. (place x.0, place x.1)) result (critical_extension_at oid.now (place part.entry)) }
+{
+    let (content, rest) = part.open(SEQUENCE)?;
+    let content = identifier(content, oid)?;
+    let content = constant(content, BOOLEAN, &[255])?;
+    let value = content.sole(OCTET_STRING)?;
+    Ok((value, rest))
+}
+
+/// What is signed, and its signature.
+#[derive(Clone, Copy, Debug)]
+pub struct SignedParts<'a> {
+    /// The content of the element that is signed.
+    pub content: Part<'a>,
+    /// The element, which the signature is of.
+    pub whole: &'a [u8],
+    pub signature: [u8; 256],
+}
+
+/// The algorithm and the bytes of a signature.
+fn signature(part: Part<'_>) -> Result<[u8; 256], ShapeFault>
+    ensures { Gives (λ b. b) result (signature.read (place part.entry)) }
+{
+    let rest = signature_algorithm(part)?;
+    octet_bits(rest.sole(BIT_STRING)?)
+}
+
+/// An object that is signed: one element, its algorithm and its signature.
+#[tactic(auto, unfolding(crate::specs::FrameFormats::signed_at))]
+pub fn signed(part: Part<'_>) -> Result<SignedParts<'_>, ShapeFault>
+    ensures { Gives (λ s. (place s.content, s.whole.now, s.signature)) result (signed_at (place part.entry)) }
+{
+    let inner = part.sole(SEQUENCE)?;
+    let (content, rest) = inner.open(SEQUENCE)?;
+    let signature = signature(rest)?;
+    Ok(SignedParts {
+        content,
+        whole: inner.before(rest),
+        signature,
+    })
+}
+
+/// The bytes of a key's identifier.
+pub fn key_identifier(part: Part<'_>) -> Result<[u8; 20], ShapeFault>
+    ensures { Gives (λ b. b) result (key_identifier.read (place part.entry)) }
+{
+    fixed(part.sole(OCTET_STRING)?)
+}
+
+/// The bytes of the identifier of the issuer's key.
+pub fn issuer_key_identifier(part: Part<'_>) -> Result<[u8; 20], ShapeFault>
+    ensures { Gives (λ b. b) result (issuer_key_identifier.read (place part.entry)) }
+{
+    fixed(part.sole(SEQUENCE)?.sole(PRIMITIVE_0)?)
+}
+
+/// A key with its algorithm.
+pub fn key_info(part: Part<'_>) -> Result<([u8; 270], Part<'_>), ShapeFault>
+    ensures { Gives (λ x. (x.0, place x.1)) result (key_info.read (place part.entry)) }
+{
+    let (content, rest) = part.open(SEQUENCE)?;
+    let content = key_algorithm(content)?;
+    let key = octet_bits(content.sole(BIT_STRING)?)?;
+    Ok((key, rest))
+}

@@ -1,0 +1,13 @@
+//! What the objects of the repository share: identifiers, times, algorithms, names, extensions and
+//! signed frames.
+#![tactic(auto)]
+
+mod frames;
+pub mod identifiers;
+mod times;
+
+pub use frames::{
+    SignedParts, critical_extension, digest_algorithm, extension, identifier,
+    issuer_key_identifier, key_algorithm, key_identifier, key_info, signature_algorithm, signed,
+};
+pub use times::{general_time, time};

@@ -1,0 +1,58 @@
+//! Times of certificates (RFC 5280 section 4.1.2.5).
+
+ghost use Rattle.der_forms.specs.Place.{place};
+ghost use Rattle.der_forms.specs.Outcome.{Gives};
+ghost use Rattle.object_parts.specs.TimeFormats.{utc_content, general_content, general_time, time};
+
+use der_forms::tags::{GENERALIZED_TIME, UTC_TIME};
+use der_forms::{Part, ShapeFault};
+
+/// 2050-01-01T00:00:00Z.
+const FROM_2050: u64 = 2_524_608_000;
+
+/// The moment of a UTCTime.
+fn utc_content(part: Part<'_>) -> Result<u64, ShapeFault>
+    ensures { Gives (λ n. n) result (utc_content.read (place part.entry)) }
+{
+    match moments::read(false, part.bytes) {
+        Ok(seconds) => Ok(seconds),
+        Err(_) => Err(part.fault()),
+    }
+}
+
+/// The moment of a GeneralizedTime.
+fn general_content(part: Part<'_>) -> Result<u64, ShapeFault>
+    ensures { Gives (λ n. n) result (general_content.read (place part.entry)) }
+{
+    match moments::read(true, part.bytes) {
+        Ok(seconds) => Ok(seconds),
+        Err(_) => Err(part.fault()),
+    }
+}
+
+/// A GeneralizedTime.
+pub fn general_time(part: Part<'_>) -> Result<(u64, Part<'_>), ShapeFault>
+    ensures { Gives (λ x. (x.0, place x.1)) result (general_time.read (place part.entry)) }
+{
+    let (content, rest) = part.open(GENERALIZED_TIME)?;
+    let seconds = general_content(content)?;
+    Ok((seconds, rest))
+}
+
+/// A UTCTime through 2049, and a GeneralizedTime from 2050 on.
+pub fn time(part: Part<'_>) -> Result<(u64, Part<'_>), ShapeFault>
+    ensures { Gives (λ x. (x.0, place x.1)) result (time.read (place part.entry)) }
+{
+    if part.begins(UTC_TIME) {
+        let (content, rest) = part.open(UTC_TIME)?;
+        let seconds = utc_content(content)?;
+        return Ok((seconds, rest));
+    }
+    let (content, rest) = part.open(GENERALIZED_TIME)?;
+    let seconds = general_content(content)?;
+    if seconds >= FROM_2050 {
+        Ok((seconds, rest))
+    } else {
+        Err(content.fault())
+    }
+}
