@@ -3,7 +3,7 @@
 ghost use Rattle.std.specs.Prelude.{◌≡◌, length};
 ghost use Rattle.der_forms.specs.Place.{place};
 ghost use Rattle.der_forms.specs.Outcome.{Gives};
-ghost use Rattle.der_forms.specs.Leaves.{number_in, number_content, number, short_number, bits_in, bits_content, bits, octets, fixed, exactly, constant, octet_bits};
+ghost use Rattle.der_forms.specs.Leaves.{number_in, number_content, number, short_number, bits_in, bits_content, bits, octets, fixed, exactly, constant, octet_bits, are_same};
 
 use crate::fault::ShapeFault;
 use crate::part::Part;
@@ -80,11 +80,18 @@ pub fn fixed<const N: usize>(part: Part<'_>) -> Result<[u8; N], ShapeFault>
     }
 }
 
+/// Whether two lists of bytes are the same.
+pub fn are_same(a: &[u8], b: &[u8]) -> bool
+    ensures { result ≡ are_same a.now b.now }
+{
+    a == b
+}
+
 /// Just these bytes.
 pub fn exactly(part: Part<'_>, bytes: &[u8]) -> Result<(), ShapeFault>
     ensures { Gives (λ x. x) result ((exactly bytes.now).read (place part.entry)) }
 {
-    if part.bytes == bytes {
+    if are_same(part.bytes, bytes) {
         Ok(())
     } else {
         Err(part.fault())

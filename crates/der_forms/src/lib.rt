@@ -10,7 +10,7 @@ pub mod tags;
 
 pub use fault::ShapeFault;
 pub use leaves::{
-    bits, bits_content, constant, exactly, fixed, number, number_content, octet_bits, octets,
+    are_same, bits, bits_content, constant, exactly, fixed, number, number_content, octet_bits, octets,
     short_number,
 };
 pub use part::Part;

@@ -6,7 +6,7 @@ use Rattle.moments.specs.Civil.{IsMoment}
 use Rattle.moments.specs.Text.{time_text, is_general}
 use Rattle.moments.specs.Reading.{moment_in}
 use Rattle.der_forms.specs.Form.{Whole, Front}
-use Rattle.der_forms.specs.Forms.{leaf, within, tested, either, left_right, mapped_front}
+use Rattle.der_forms.specs.Forms.{leaf, within, both, only, tested, either, left_right, mapped_front}
 use Rattle.std.specs.Prelude.{true, false}
 
 -- A UTCTime: a moment through 2049.
@@ -31,3 +31,7 @@ abbrev pub time : Front ℕ
 time = mapped_front
     (either tag.utc_time (within tag.utc_time utc_content) (within tag.generalized_time (tested general_content is_general)))
     time_of time_kind IsMoment
+
+-- From a time to another.
+unfoldable pub period : Front (ℕ × ℕ)
+period = within tag.sequence (both time (only time))

@@ -7,11 +7,12 @@ use Rattle.moments.specs.Text.{time_text, is_general}
 use Rattle.moments.specs.Reading.{moment_in}
 use Rattle.moments.specs.TimeLaws.{moment_in-again, moment_in-taken}
 use Rattle.der_forms.specs.Form.{IsWhole, IsFront}
-use Rattle.der_forms.specs.Forms.{within, tested, either, EitherOf}
+use Rattle.der_forms.specs.Forms.{within, tested, either, EitherOf, both, only}
 use Rattle.der_forms.specs.FormLaws.{leaf-law, within-law}
 use Rattle.der_forms.specs.ValueLaws.{tested-law, mapped_front-law}
 use Rattle.der_forms.specs.ChoiceLaws.{either-law, within-begun, within-not-begun}
-use Rattle.object_parts.specs.TimeFormats.{utc_content, general_content, general_time, time_of, time_kind, time}
+use Rattle.der_forms.specs.SequenceLaws.{both-law, only-law}
+use Rattle.object_parts.specs.TimeFormats.{utc_content, general_content, general_time, time_of, time_kind, time, period}
 
 pub utc_content-law : IsWhole utc_content
 utc_content-law = leaf-law (λ n. IsMoment n × (n < 2_524_608_000)) (time_text false) (moment_in false) (record {
@@ -50,3 +51,7 @@ time-law =
     there : (x : ℕ ⊎ ℕ) → EitherOf (λ n. IsMoment n × (n < 2_524_608_000)) (λ n. IsMoment n × (is_general n ≡ true)) x → IsMoment (time_of x) × (time_kind (time_of x) ≡ x)
     there (inl n) good = (good.0, rw (lt-leb 2_524_608_000 n good.1) refl)
     there (inr n) good = (good.0, rw good.1 refl)
+
+pub period-law : IsFront period
+unfolding period
+period-law = within-law tag.sequence (both time (only time)) (both-law time (only time) time-law (only-law time time-law))

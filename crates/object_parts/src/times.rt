@@ -2,9 +2,9 @@
 
 ghost use Rattle.der_forms.specs.Place.{place};
 ghost use Rattle.der_forms.specs.Outcome.{Gives};
-ghost use Rattle.object_parts.specs.TimeFormats.{utc_content, general_content, general_time, time};
+ghost use Rattle.object_parts.specs.TimeFormats.{utc_content, general_content, general_time, time, period};
 
-use der_forms::tags::{GENERALIZED_TIME, UTC_TIME};
+use der_forms::tags::{GENERALIZED_TIME, SEQUENCE, UTC_TIME};
 use der_forms::{Part, ShapeFault};
 
 /// 2050-01-01T00:00:00Z.
@@ -55,4 +55,16 @@ pub fn time(part: Part<'_>) -> Result<(u64, Part<'_>), ShapeFault>
     } else {
         Err(content.fault())
     }
+}
+
+/// From a time to another.
+#[tactic(auto, unfolding(crate::specs::TimeFormats::period))]
+pub fn period(part: Part<'_>) -> Result<((u64, u64), Part<'_>), ShapeFault>
+    ensures { Gives (λ x. (x.0, place x.1)) result (period.read (place part.entry)) }
+{
+    let (content, rest) = part.open(SEQUENCE)?;
+    let (from, content) = time(content)?;
+    let (to, end) = time(content)?;
+    end.end()?;
+    Ok(((from, to), rest))
 }
