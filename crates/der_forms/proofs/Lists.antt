@@ -4,9 +4,9 @@ use Rattle.std.proofs.lemmas.List.{length-append, append-nil}
 use Rattle.der_forms.specs.declared.fault.ShapeFault.{ShapeFault}
 use Rattle.der_forms.specs.declared.part.Part.{Part}
 use Rattle.der_forms.specs.Place.{Place, IsPlace, ◌>>=◌, place, is_empty}
-use Rattle.der_forms.specs.Form.{Front, IsFront}
+use Rattle.der_forms.specs.Form.{Front}
 use Rattle.der_forms.specs.Forms.{many}
-use Rattle.der_forms.specs.ListLaws.{many-read, many-none}
+use Rattle.der_forms.specs.ListLaws.{IsMoving, many-read, many-none}
 
 -- A part's place is one.
 pub part-place : (part : Part) → IsPlace (place part)
@@ -23,7 +23,7 @@ at-first {A = A} f p = same ((many f).read p)
     same (Ok xs) = refl
     same (Err e) = refl
 
-pub one-more : {A : Type 0} (f : Front A) → IsFront f → (p : Place) (xs : List A) (q t : Place) (x : A) → GoesOn f p xs q → IsPlace q → is_empty q.left ≡ false → f.read q ≡ Ok (x, t) → GoesOn f p (xs ++ (x ∷ [])) t
+pub one-more : {A : Type 0} (f : Front A) → IsMoving f → (p : Place) (xs : List A) (q t : Place) (x : A) → GoesOn f p xs q → IsPlace q → is_empty q.left ≡ false → f.read q ≡ Ok (x, t) → GoesOn f p (xs ++ (x ∷ [])) t
 one-more {A = A} f law p xs q t x on is some e =
     let step : (many f).read q ≡ ((many f).read t >>= (λ ys. Ok (x ∷ ys))) = many-read f law q is some ∙ ap (λ (r : Result (A × Place) ShapeFault). r >>= (λ x. (many f).read x.1 >>= (λ ys. Ok (x.0 ∷ ys)))) e in
     on ∙ ap (λ (r : Result (List A) ShapeFault). r >>= (λ ys. Ok (xs ++ ys))) step ∙ grouped ((many f).read t)
@@ -36,12 +36,10 @@ pub at-last : {A : Type 0} (f : Front A) (p : Place) (xs : List A) (q : Place) �
 at-last {A = A} f p xs q on none =
     on ∙ ap (λ (r : Result (List A) ShapeFault). r >>= (λ ys. Ok (xs ++ ys))) (many-none f (length q.left) q none) ∙ ap (λ (l : List A). Ok l) (append-nil xs)
 
-pub stopped : {A : Type 0} (f : Front A) → IsFront f → (p : Place) (xs : List A) (q : Place) (e : ShapeFault) → GoesOn f p xs q → IsPlace q → is_empty q.left ≡ false → f.read q ≡ Err e → (many f).read p ≡ Err e
+pub stopped : {A : Type 0} (f : Front A) → IsMoving f → (p : Place) (xs : List A) (q : Place) (e : ShapeFault) → GoesOn f p xs q → IsPlace q → is_empty q.left ≡ false → f.read q ≡ Err e → (many f).read p ≡ Err e
 stopped {A = A} f law p xs q e on is some h =
     let step : (many f).read q ≡ Err e = many-read f law q is some ∙ ap (λ (r : Result (A × Place) ShapeFault). r >>= (λ x. (many f).read x.1 >>= (λ ys. Ok (x.0 ∷ ys)))) h in
     on ∙ ap (λ (r : Result (List A) ShapeFault). r >>= (λ ys. Ok (xs ++ ys))) step
 
-pub fewer-left : {A : Type 0} (f : Front A) → IsFront f → (q t : Place) (x : A) → IsPlace q → f.read q ≡ Ok (x, t) → length t.left < length q.left
-fewer-left f law q t x is e =
-    let b = law.taken x q t is e in
-    omega (arith, law.some x b.0, ap length b.1.left, length-append (f.spelling x) t.left)
+pub fewer-left : {A : Type 0} (f : Front A) → IsMoving f → (q t : Place) (x : A) → IsPlace q → f.read q ≡ Ok (x, t) → length t.left < length q.left
+fewer-left f law q t x is e = law.fewer x q t is e

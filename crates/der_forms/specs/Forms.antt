@@ -234,3 +234,12 @@ read_by f read = record { good = f.good; spelling = f.spelling; read = read }
 
 abbrev pub read_front_by : {A : Type 0} → Front A → (Place → Result (A × Place) ShapeFault) → Front A
 read_front_by f read = record { good = f.good; spelling = f.spelling; read = read }
+
+-- A reading that gives with each value the place at which it starts. It is no format: where a value
+-- stands, its spelling doesn't say.
+abbrev pub placed : {A : Type 0} → Front A → Front (ℕ × A)
+placed f = record {
+  good = λ x. f.good x.1;
+  spelling = λ x. f.spelling x.1;
+  read = λ p. f.read p >>= (λ x. Ok ((p.at, x.0), x.1));
+}

@@ -1,12 +1,12 @@
 -- The law of lists.
-use Rattle.std.proofs.Common.{◌≡◌, ℕ, zero, suc, ◌+◌, ◌≤◌, true, false, List, [], ◌∷◌, ◌++◌, length, Result, Ok, Err, refl, sym, ap, subst, ◌∙◌, arith, ◌⊎◌, inl, inr}
+use Rattle.std.proofs.Common.{◌<◌, ◌≡◌, ℕ, zero, suc, ◌+◌, ◌≤◌, true, false, List, [], ◌∷◌, ◌++◌, length, Result, Ok, Err, refl, sym, ap, subst, ◌∙◌, arith, ◌⊎◌, inl, inr}
 use Rattle.std.specs.List.{flat_map}
 use Rattle.std.proofs.lemmas.List.{length-append}
 use Rattle.der_forms.specs.declared.fault.ShapeFault.{ShapeFault}
 use Rattle.der_forms.specs.declared.fault.ShapeFault.TheVariants.{Shape}
 use Rattle.der_forms.specs.Place.{Place, IsInput, IsPlace, ◌>>=◌, is_empty}
 use Rattle.der_forms.specs.Form.{Front, Takes, Begins, IsTold, IsWhole, IsBehind, IsFront}
-use Rattle.der_forms.specs.Forms.{AreAll, many_at, many}
+use Rattle.der_forms.specs.Forms.{AreAll, many_at, many, placed}
 use Rattle.der_forms.specs.PlaceLaws.{behind-place, next, is-next}
 use Rattle.der_forms.specs.FormLaws.{same-ok, not-both, not-err, not-nil, bind-ok, bind-err, told-behind, one-front-value}
 use Rattle.der_forms.specs.FormLaws.{told-first}
@@ -109,8 +109,21 @@ many-law f law = record {
   fault = λ e p is h. many-fault f law (length p.left) e p is (omega arith) h;
 }
 
+-- A reading in front moves on.
+pub record IsMoving {A : Type 0} (f : Front A) : Type 0 where
+  pub place : (x : A) (p q : Place) → IsPlace p → f.read p ≡ Ok (x, q) → IsPlace q
+  pub fewer : (x : A) (p q : Place) → IsPlace p → f.read p ≡ Ok (x, q) → length q.left < length p.left
+
+pub front-moves : {A : Type 0} (f : Front A) → IsFront f → IsMoving f
+front-moves f law = record {
+  place = λ x p q is e. let t = law.taken x p q is e in behind-place (f.spelling x) p q is t.1;
+  fewer = λ x p q is e.
+      let t = law.taken x p q is e in
+      omega (arith, law.some x t.0, ap length t.1.left, length-append (f.spelling x) q.left);
+}
+
 -- So many values at most are as many as there are, once there are enough.
-pub many-enough : {A : Type 0} (f : Front A) → IsFront f → (m n : ℕ) (p : Place) → IsPlace p → length p.left ≤ m → length p.left ≤ n → many_at f m p ≡ many_at f n p
+pub many-enough : {A : Type 0} (f : Front A) → IsMoving f → (m n : ℕ) (p : Place) → IsPlace p → length p.left ≤ m → length p.left ≤ n → many_at f m p ≡ many_at f n p
 many-enough f law zero n p is enough also =
     let test : is_empty p.left ≡ true = ap is_empty (none-left p.left enough) in
     many-none f zero p test ∙ sym (many-none f n p test)
@@ -125,15 +138,13 @@ many-enough {A = A} f law (suc m) (suc n) p is enough also =
   where
     alike : ((q : Place) → IsPlace q → length q.left ≤ m → length q.left ≤ n → many_at f m q ≡ many_at f n q) → (r : Result (A × Place) ShapeFault) → f.read p ≡ r → (r >>= (λ x. many_at f m x.1 >>= (λ xs. Ok (x.0 ∷ xs)))) ≡ (r >>= (λ x. many_at f n x.1 >>= (λ xs. Ok (x.0 ∷ xs))))
     alike shorter (Ok x) e =
-        let t = law.taken x.0 p x.1 is e in
-        let total : length p.left ≡ length (f.spelling x.0) + length x.1.left = ap length t.1.left ∙ length-append (f.spelling x.0) x.1.left in
-        let some = law.some x.0 t.0 in
-        let same = shorter x.1 (behind-place (f.spelling x.0) p x.1 is t.1) (omega arith) (omega arith) in
+        let less = law.fewer x.0 p x.1 is e in
+        let same = shorter x.1 (law.place x.0 p x.1 is e) (omega arith) (omega arith) in
         ap (λ (r : Result (List A) ShapeFault). r >>= (λ xs. Ok (x.0 ∷ xs))) same
     alike shorter (Err d) e = refl
 
 -- One value and the others.
-pub many-read : {A : Type 0} (f : Front A) → IsFront f → (p : Place) → IsPlace p → is_empty p.left ≡ false → (many f).read p ≡ (f.read p >>= (λ x. (many f).read x.1 >>= (λ xs. Ok (x.0 ∷ xs))))
+pub many-read : {A : Type 0} (f : Front A) → IsMoving f → (p : Place) → IsPlace p → is_empty p.left ≡ false → (many f).read p ≡ (f.read p >>= (λ x. (many f).read x.1 >>= (λ xs. Ok (x.0 ∷ xs))))
 many-read {A = A} f law p is test = go (length p.left) refl
   where
     not-none : (bytes : List ℕ) → bytes ≡ [] → is_empty bytes ≡ false → ⊥
@@ -142,13 +153,25 @@ many-read {A = A} f law p is test = go (length p.left) refl
 
     alike : (n : ℕ) → length p.left ≡ suc n → (r : Result (A × Place) ShapeFault) → f.read p ≡ r → (r >>= (λ x. many_at f n x.1 >>= (λ xs. Ok (x.0 ∷ xs)))) ≡ (r >>= (λ x. (many f).read x.1 >>= (λ xs. Ok (x.0 ∷ xs))))
     alike n count (Ok x) e =
-        let t = law.taken x.0 p x.1 is e in
-        let total : length p.left ≡ length (f.spelling x.0) + length x.1.left = ap length t.1.left ∙ length-append (f.spelling x.0) x.1.left in
-        let some = law.some x.0 t.0 in
-        let same = many-enough f law n (length x.1.left) x.1 (behind-place (f.spelling x.0) p x.1 is t.1) (omega arith) (omega arith) in
+        let less = law.fewer x.0 p x.1 is e in
+        let same = many-enough f law n (length x.1.left) x.1 (law.place x.0 p x.1 is e) (omega arith) (omega arith) in
         ap (λ (r : Result (List A) ShapeFault). r >>= (λ xs. Ok (x.0 ∷ xs))) same
     alike n count (Err d) e = refl
 
     go : (n : ℕ) → length p.left ≡ n → many_at f (length p.left) p ≡ (f.read p >>= (λ x. (many f).read x.1 >>= (λ xs. Ok (x.0 ∷ xs))))
     go zero count = absurd (not-none p.left (none-left p.left (omega arith)) test)
     go (suc n) count = ap (λ (k : ℕ). many_at f k p) count ∙ many-step f n p test ∙ alike n count (f.read p) refl
+
+-- ---- values with their places
+
+pub placed-moves : {A : Type 0} (f : Front A) → IsMoving f → IsMoving (placed f)
+placed-moves {A = A} f law = record {
+  place = λ x p q is e. let t = split x p q e in law.place x.1 p q is t;
+  fewer = λ x p q is e. let t = split x p q e in law.fewer x.1 p q is t;
+}
+  where
+    split : (x : ℕ × A) (p q : Place) → (placed f).read p ≡ Ok (x, q) → f.read p ≡ Ok (x.1, q)
+    split x p q e =
+        let a = bind-ok (f.read p) (λ x. Ok ((p.at, x.0), x.1)) (x, q) e in
+        let same : ((p.at, a.0.0), a.0.1) ≡ (x, q) = same-ok {A = (ℕ × A) × Place} _ _ a.2 in
+        a.1 ∙ ap (λ (y : (ℕ × A) × Place). Ok (y.0.1, y.1)) same

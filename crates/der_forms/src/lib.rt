@@ -14,4 +14,4 @@ pub use leaves::{
     short_number,
 };
 pub use part::Part;
-pub use readers::{FrontReader, WholeReader, many, object};
+pub use readers::{FrontReader, Placed, WholeReader, many, object};

@@ -2,8 +2,9 @@
 
 ghost use Rattle.std.specs.Prelude.{◌≡◌, map, ℕ, List, length, IfOk, IfErr};
 ghost use Rattle.der_forms.specs.Place.{place};
-ghost use Rattle.der_forms.specs.Form.{Whole, Front, IsWhole, IsFront};
-ghost use Rattle.der_forms.specs.Forms.{many};
+ghost use Rattle.der_forms.specs.Form.{Whole, Front, IsWhole};
+ghost use Rattle.der_forms.specs.ListLaws.{IsMoving, placed-moves};
+ghost use Rattle.der_forms.specs.Forms.{many, placed};
 ghost use Rattle.der_forms.specs.Outcome.{GivesUnlessMemory, UnlessMemory};
 ghost use Rattle.der_forms.specs.Object.{Spells, read_object, IsTrueFault};
 
@@ -30,7 +31,32 @@ pub trait FrontReader {
     ) -> Result<(Self::Item, Part<'a>), ShapeFault>
         ensures { GivesUnlessMemory (λ x. (view x.0, place x.1)) result ((format self.now).read (place part.entry)) };
 
-    ghost is_front: { (reader : Self) → IsFront (format reader) };
+    ghost moves: { (reader : Self) → IsMoving (format reader) };
+}
+
+/// Reads each value with the place at which it starts.
+#[derive(Clone, Copy, Debug)]
+pub struct Placed<R>(pub R);
+
+impl<R: FrontReader> FrontReader for Placed<R> {
+    type Item = (u64, R::Item);
+
+    ghost Meaning = { ℕ × R.Meaning };
+
+    ghost view = { λ x. (x.0, R.view x.1) };
+
+    ghost format = { λ reader. placed (R.format reader.0) };
+
+    fn read_front<'a>(
+        &self,
+        alloc: Global,
+        part: Part<'a>,
+    ) -> Result<((u64, R::Item), Part<'a>), ShapeFault> {
+        let (item, rest) = self.0.read_front(alloc, part)?;
+        Ok(((part.at, item), rest))
+    }
+
+    ghost moves = { λ reader. placed-moves (R.format reader.0) (R.moves reader.0) };
 }
 
 /// All values that the part has, in order.
