@@ -1,0 +1,3 @@
+mod Uris
+mod Lookups
+mod Places
