@@ -1,3 +1,9 @@
 mod Uris
 mod Lookups
 mod Places
+mod Contents
+mod Drafting
+mod Splits
+mod Differences
+mod Determined
+mod Carried

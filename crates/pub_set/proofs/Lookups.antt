@@ -1,99 +1,117 @@
--- What a list of objects has at a URI.
+-- Lists of things that each have a URI: their order, and what is found at a URI.
 use Rattle.std.proofs.Common.{◌≡◌, ℕ, ◌<◌, zero, suc, true, false, cond, refl, arith, length, get_or, List, [], ◌∷◌, ◌++◌, Some, None}
+use Rattle.std.specs.Option.{option_or}
 use Rattle.std.specs.List.{AllByRecursion}
 use Rattle.std.specs.List.Sorted.{IsStrictlySortedBy}
 use Rattle.std.specs.Ordering.{on}
 use Rattle.std.specs.declared.cmp.Ordering.TheVariants.{Less}
 use Rattle.std.proofs.lemmas.Map.Keys.{sorted_head, sorted_tail}
-use Rattle.pub_set.specs.declared.objects.Object.{Object}
-use Rattle.pub_set.specs.Objects.{uri_cmp, is_same, content_at, IsAscending, IsBehind, IsBefore}
+use Rattle.pub_set.specs.Objects.{uri_cmp, is_same, found_at, Rise, AllBelow, AllAbove}
 use Rattle.pub_set.proofs.Uris.{uri_total, same_self, other_below, other_above}
 
--- What holds of each element, and follows from it, holds of each.
-pub all_weaken : (P Q : Object → Type 0) → ((o : Object) → P o → Q o) → (os : List Object) → AllByRecursion P os → AllByRecursion Q os
-all_weaken P Q step [] all = tt
-all_weaken P Q step (o ∷ os) all = (step o all.0, all_weaken P Q step os all.1)
+module _ {X : Type 0} where
+  -- What holds of each element, and follows from it, holds of each.
+  pub all_weaken : (P Q : X → Type 0) → ((x : X) → P x → Q x) → (xs : List X) → AllByRecursion P xs → AllByRecursion Q xs
+  all_weaken P Q step [] all = tt
+  all_weaken P Q step (x ∷ xs) all = (step x all.0, all_weaken P Q step xs all.1)
 
-pub all_append : (P : Object → Type 0) (xs ys : List Object) → AllByRecursion P xs → AllByRecursion P ys → AllByRecursion P (xs ++ ys)
-all_append P [] ys first second = second
-all_append P (x ∷ xs) ys first second = (first.0, all_append P xs ys first.1 second)
+  pub all_append : (P : X → Type 0) (xs ys : List X) → AllByRecursion P xs → AllByRecursion P ys → AllByRecursion P (xs ++ ys)
+  all_append P [] ys first second = second
+  all_append P (x ∷ xs) ys first second = (first.0, all_append P xs ys first.1 second)
 
-pub all_left : (P : Object → Type 0) (xs ys : List Object) → AllByRecursion P (xs ++ ys) → AllByRecursion P xs
-all_left P [] ys all = tt
-all_left P (x ∷ xs) ys all = (all.0, all_left P xs ys all.1)
+  pub all_left : (P : X → Type 0) (xs ys : List X) → AllByRecursion P (xs ++ ys) → AllByRecursion P xs
+  all_left P [] ys all = tt
+  all_left P (x ∷ xs) ys all = (all.0, all_left P xs ys all.1)
 
-pub all_right : (P : Object → Type 0) (xs ys : List Object) → AllByRecursion P (xs ++ ys) → AllByRecursion P ys
-all_right P [] ys all = all
-all_right P (x ∷ xs) ys all = all_right P xs ys all.1
+  pub all_right : (P : X → Type 0) (xs ys : List X) → AllByRecursion P (xs ++ ys) → AllByRecursion P ys
+  all_right P [] ys all = all
+  all_right P (x ∷ xs) ys all = all_right P xs ys all.1
 
-pub all_at : (P : Object → Type 0) (xs : List Object) (i : ℕ) (d : Object) → AllByRecursion P xs → i < length xs → P (get_or xs i d)
-all_at P [] i d all within = absurd (omega arith)
-all_at P (x ∷ xs) zero d all within = all.0
-all_at P (x ∷ xs) (suc i) d all within = all_at P xs i d all.1 (omega arith)
+  pub all_at : (P : X → Type 0) (xs : List X) (i : ℕ) (d : X) → AllByRecursion P xs → i < length xs → P (get_or xs i d)
+  all_at P [] i d all within = absurd (omega arith)
+  all_at P (x ∷ xs) zero d all within = all.0
+  all_at P (x ∷ xs) (suc i) d all within = all_at P xs i d all.1 (omega arith)
 
-pub ascending-nil : IsAscending []
-unfolding IsStrictlySortedBy
-ascending-nil = tt
+module _ {X : Type 0} (key : X → List ℕ) where
+  pub rise-nil : Rise key []
+  unfolding IsStrictlySortedBy
+  rise-nil = tt
 
-pub ascending-cons : (o : Object) (os : List Object) → IsBefore os o.uri → IsAscending os → IsAscending (o ∷ os)
-unfolding IsStrictlySortedBy
-ascending-cons o os before up = (before, up)
+  pub rise-cons : (x : X) (xs : List X) → AllAbove key xs (key x) → Rise key xs → Rise key (x ∷ xs)
+  unfolding IsStrictlySortedBy
+  rise-cons x xs above up = (above, up)
 
-pub ascending-head : (o : Object) (os : List Object) → IsAscending (o ∷ os) → IsBefore os o.uri
-ascending-head o os up = sorted_head (on (λ o. o.uri) uri_cmp) o os up
+  pub rise-one : (x : X) → Rise key (x ∷ [])
+  rise-one x = rise-cons x [] tt rise-nil
 
-pub ascending-tail : (o : Object) (os : List Object) → IsAscending (o ∷ os) → IsAscending os
-ascending-tail o os up = sorted_tail (on (λ o. o.uri) uri_cmp) o os up
+  pub rise-head : (x : X) (xs : List X) → Rise key (x ∷ xs) → AllAbove key xs (key x)
+  rise-head x xs up = sorted_head (on key uri_cmp) x xs up
 
-pub before_further : (a b : List ℕ) (os : List Object) → uri_cmp a b ≡ Less → IsBefore os b → IsBefore os a
-before_further a b os less = all_weaken (λ o. uri_cmp b o.uri ≡ Less) (λ o. uri_cmp a o.uri ≡ Less) (λ o h. uri_total.trans a b o.uri less h) os
+  pub rise-tail : (x : X) (xs : List X) → Rise key (x ∷ xs) → Rise key xs
+  rise-tail x xs up = sorted_tail (on key uri_cmp) x xs up
 
-pub behind_further : (a b : List ℕ) (os : List Object) → uri_cmp a b ≡ Less → IsBehind os a → IsBehind os b
-behind_further a b os less = all_weaken (λ o. uri_cmp o.uri a ≡ Less) (λ o. uri_cmp o.uri b ≡ Less) (λ o h. uri_total.trans o.uri a b h less) os
+  pub above_further : (a b : List ℕ) (xs : List X) → uri_cmp a b ≡ Less → AllAbove key xs b → AllAbove key xs a
+  above_further a b xs less = all_weaken (λ x. uri_cmp b (key x) ≡ Less) (λ x. uri_cmp a (key x) ≡ Less) (λ x h. uri_total.trans a b (key x) less h) xs
 
--- Two ascending lists, with a URI that is behind the one and from which the other goes on.
-pub ascending-append : (xs ys : List Object) → IsAscending xs → IsAscending ys → AllByRecursion (λ x. IsBefore ys x.uri) xs → IsAscending (xs ++ ys)
-ascending-append [] ys first second apart = second
-ascending-append (x ∷ xs) ys first second apart =
-    ascending-cons x (xs ++ ys) (all_append (λ o. uri_cmp x.uri o.uri ≡ Less) xs ys (ascending-head x xs first) apart.0)
-    (ascending-append xs ys (ascending-tail x xs first) second apart.1)
+  pub below_further : (a b : List ℕ) (xs : List X) → uri_cmp a b ≡ Less → AllBelow key xs a → AllBelow key xs b
+  below_further a b xs less = all_weaken (λ x. uri_cmp (key x) a ≡ Less) (λ x. uri_cmp (key x) b ≡ Less) (λ x h. uri_total.trans (key x) a b h less) xs
 
-pub ascending-left : (xs ys : List Object) → IsAscending (xs ++ ys) → IsAscending xs
-ascending-left [] ys up = ascending-nil
-ascending-left (x ∷ xs) ys up =
-    ascending-cons x xs (all_left (λ o. uri_cmp x.uri o.uri ≡ Less) xs ys (ascending-head x (xs ++ ys) up)) (ascending-left xs ys (ascending-tail x (xs ++ ys) up))
+  -- Two rising lists, the first below the second.
+  pub rise-append : (xs ys : List X) → Rise key xs → Rise key ys → AllByRecursion (λ x. AllAbove key ys (key x)) xs → Rise key (xs ++ ys)
+  rise-append [] ys first second apart = second
+  rise-append (x ∷ xs) ys first second apart =
+      rise-cons x (xs ++ ys) (all_append (λ y. uri_cmp (key x) (key y) ≡ Less) xs ys (rise-head x xs first) apart.0)
+      (rise-append xs ys (rise-tail x xs first) second apart.1)
 
-pub ascending-right : (xs ys : List Object) → IsAscending (xs ++ ys) → IsAscending ys
-ascending-right [] ys up = up
-ascending-right (x ∷ xs) ys up = ascending-right xs ys (ascending-tail x (xs ++ ys) up)
+  -- The same, with a URI between them.
+  pub rise-between : (xs ys : List X) (uri : List ℕ) → Rise key xs → Rise key ys → AllBelow key xs uri → AllAbove key ys uri → Rise key (xs ++ ys)
+  rise-between xs ys uri first second below above =
+      rise-append xs ys first second
+      (all_weaken (λ x. uri_cmp (key x) uri ≡ Less) (λ x. AllAbove key ys (key x)) (λ x h. above_further (key x) uri ys h above) xs below)
 
--- One object more behind all others.
-pub ascending-push : (xs : List Object) (o : Object) → IsAscending xs → IsBehind xs o.uri → IsAscending (xs ++ o ∷ [])
-ascending-push xs o up behind =
-    ascending-append xs (o ∷ []) up (ascending-cons o [] tt ascending-nil)
-    (all_weaken (λ x. uri_cmp x.uri o.uri ≡ Less) (λ x. IsBefore (o ∷ []) x.uri) (λ x h. (h, tt)) xs behind)
+  pub rise-left : (xs ys : List X) → Rise key (xs ++ ys) → Rise key xs
+  rise-left [] ys up = rise-nil
+  rise-left (x ∷ xs) ys up =
+      rise-cons x xs (all_left (λ y. uri_cmp (key x) (key y) ≡ Less) xs ys (rise-head x (xs ++ ys) up)) (rise-left xs ys (rise-tail x (xs ++ ys) up))
 
-pub none_before : (os : List Object) (uri : List ℕ) → IsBefore os uri → content_at os uri ≡ None
-none_before [] uri before = refl
-none_before (o ∷ os) uri before = rw (other_above o.uri uri before.0) (none_before os uri before.1)
+  pub rise-right : (xs ys : List X) → Rise key (xs ++ ys) → Rise key ys
+  rise-right [] ys up = up
+  rise-right (x ∷ xs) ys up = rise-right xs ys (rise-tail x (xs ++ ys) up)
 
-pub none_behind : (os : List Object) (uri : List ℕ) → IsBehind os uri → content_at os uri ≡ None
-none_behind [] uri behind = refl
-none_behind (o ∷ os) uri behind = rw (other_below o.uri uri behind.0) (none_behind os uri behind.1)
+  -- What stands before another in a rising list is below it.
+  pub below-middle : (xs : List X) (x : X) (ys : List X) → Rise key (xs ++ x ∷ ys) → AllBelow key xs (key x)
+  below-middle [] x ys up = tt
+  below-middle (y ∷ xs) x ys up =
+      ((all_right (λ z. uri_cmp (key y) (key z) ≡ Less) xs (x ∷ ys) (rise-head y (xs ++ x ∷ ys) up)).0, below-middle xs x ys (rise-tail y (xs ++ x ∷ ys) up))
 
--- What isn't in the front is looked for behind it.
-pub content-past : (xs ys : List Object) (uri : List ℕ) → content_at xs uri ≡ None → content_at (xs ++ ys) uri ≡ content_at ys uri
-content-past [] ys uri none = refl
-content-past (x ∷ xs) ys uri none =
-    elim (is_same x.uri uri) as (λ b. cond b (Some x.bytes) (content_at xs uri) ≡ None → cond b (Some x.bytes) (content_at (xs ++ ys) uri) ≡ content_at ys uri) [
-      | true ↦ λ h. cc
-      | false ↦ λ h. content-past xs ys uri h
-    ] none
+  -- One more behind all others.
+  pub rise-push : (xs : List X) (x : X) → Rise key xs → AllBelow key xs (key x) → Rise key (xs ++ x ∷ [])
+  rise-push xs x up below =
+      rise-append xs (x ∷ []) up (rise-one x)
+      (all_weaken (λ y. uri_cmp (key y) (key x) ≡ Less) (λ y. AllAbove key (x ∷ []) (key y)) (λ y h. (h, tt)) xs below)
 
--- The object at a place is what is found at its URI.
-pub content-place : (os : List Object) (i : ℕ) (d : Object) → IsAscending os → i < length os → content_at os (get_or os i d).uri ≡ Some (get_or os i d).bytes
-content-place [] i d up within = absurd (omega arith)
-content-place (o ∷ os) zero d up within = rw (same_self o.uri) refl
-content-place (o ∷ os) (suc i) d up within =
-    let after : uri_cmp o.uri (get_or os i d).uri ≡ Less = all_at (λ y. uri_cmp o.uri y.uri ≡ Less) os i d (ascending-head o os up) (omega arith) in
-    rw (other_below o.uri (get_or os i d).uri after) (content-place os i d (ascending-tail o os up) (omega arith))
+module _ {X V : Type 0} (key : X → List ℕ) (told : X → V) where
+  pub none_above : (xs : List X) (uri : List ℕ) → AllAbove key xs uri → found_at key told xs uri ≡ None
+  none_above [] uri above = refl
+  none_above (x ∷ xs) uri above = rw (other_above (key x) uri above.0) (none_above xs uri above.1)
+
+  pub none_below : (xs : List X) (uri : List ℕ) → AllBelow key xs uri → found_at key told xs uri ≡ None
+  none_below [] uri below = refl
+  none_below (x ∷ xs) uri below = rw (other_below (key x) uri below.0) (none_below xs uri below.1)
+
+  -- What isn't in the front is looked for behind it.
+  pub found_at-append : (xs ys : List X) (uri : List ℕ) → found_at key told (xs ++ ys) uri ≡ option_or (found_at key told xs uri) (found_at key told ys uri)
+  found_at-append [] ys uri = refl
+  found_at-append (x ∷ xs) ys uri =
+      elim (is_same (key x) uri) as (λ b. cond b (Some (told x)) (found_at key told (xs ++ ys) uri) ≡ option_or (cond b (Some (told x)) (found_at key told xs uri)) (found_at key told ys uri)) [
+        | true ↦ refl
+        | false ↦ found_at-append xs ys uri
+      ]
+
+  -- What is at a place is found at its URI.
+  pub found_at-place : (xs : List X) (i : ℕ) (d : X) → Rise key xs → i < length xs → found_at key told xs (key (get_or xs i d)) ≡ Some (told (get_or xs i d))
+  found_at-place [] i d up within = absurd (omega arith)
+  found_at-place (x ∷ xs) zero d up within = rw (same_self (key x)) refl
+  found_at-place (x ∷ xs) (suc i) d up within =
+      let after : uri_cmp (key x) (key (get_or xs i d)) ≡ Less = all_at (λ y. uri_cmp (key x) (key y) ≡ Less) xs i d (rise-head key x xs up) (omega arith) in
+      rw (other_below (key x) (key (get_or xs i d)) after) (found_at-place xs i d (rise-tail key x xs up) (omega arith))

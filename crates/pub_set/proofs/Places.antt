@@ -11,15 +11,15 @@ use Rattle.std.proofs.lemmas.Bool.{cases_lt}
 use Rattle.std.proofs.lemmas.List.Sorted.{searchable_from_sorted}
 use Rattle.std.proofs.lemmas.Map.Keys.{Less-from_sorted}
 use Rattle.pub_set.specs.declared.objects.Object.{Object}
-use Rattle.pub_set.specs.Objects.{uri_cmp, content_at, IsAscending, IsBehind, IsPlace}
+use Rattle.pub_set.specs.Objects.{uri_cmp, uri_at, content_at, IsAscending, IsBehind, IsPlace}
 use Rattle.pub_set.proofs.Uris.{uri_total, tied_is, below_from_above}
-use Rattle.pub_set.proofs.Lookups.{none_before, none_behind, content-past, content-place, all_at}
+use Rattle.pub_set.proofs.Lookups.{none_above, none_below, found_at-append, found_at-place, all_at}
 
 -- An ascending list is sorted by its URIs.
 sorted_from_ascending : (os : List Object) → IsAscending os → (k : ℕ) (d : Object) → 0 ≤ k → k + 1 < length os →
     is_lt (uri_cmp (get_or os (k + 1) d).uri (get_or os k d).uri) ≡ false
 sorted_from_ascending os up k d low high =
-    let less = Less-from_sorted (on (λ o. o.uri) uri_cmp) os k (k + 1) d up (omega arith) high in
+    let less = Less-from_sorted (on uri_at uri_cmp) os k (k + 1) d up (omega arith) high in
     ap is_lt (uri_total.antisymm (get_or os (k + 1) d).uri (get_or os k d).uri ∙ ap ordering_reverse less)
 
 all_from_within : (P : Object → Type 0) (os : List Object) (n : ℕ) → n ≤ length os → AllWithin P os 0 n → AllByRecursion P (take n os)
@@ -51,12 +51,13 @@ pub content-found : (os : List Object) (uri : List ℕ) (i : ℕ) (d : Object) �
     content_at os uri ≡ Some (get_or os i d).bytes
 content-found os uri i d up at =
     let same = at.1 d in
-    rw (← same) (content-place os i d up at.0)
+    rw (← same) (found_at-place uri_at (λ o. o.bytes) os i d up at.0)
 
 pub content-missing : (os : List Object) (uri : List ℕ) (i : ℕ) → IsPlace os uri (Err i) → content_at os uri ≡ None
 content-missing os uri i at =
     ap (λ l. content_at l uri) (sym (take-append-drop i os))
-    ∙ (content-past (take i os) (drop i os) uri (none_behind (take i os) uri at.1) ∙ none_before (drop i os) uri at.2)
+    ∙ (found_at-append uri_at (λ o. o.bytes) (take i os) (drop i os) uri
+    ∙ rw (none_below uri_at (λ o. o.bytes) (take i os) uri at.1) (none_above uri_at (λ o. o.bytes) (drop i os) uri at.2))
 
 -- The last object decides whether a URI comes behind all.
 pub behind_last : (os : List Object) (uri : List ℕ) (d : Object) → IsAscending os → 0 < length os →
@@ -66,7 +67,7 @@ behind_last os uri d up some less =
     let last : get_or os (length os - 1) e ≡ get_or os (length os - 1) d = get_or_default os (length os - 1) e d (omega arith) in
     elim (cases_lt k (length os - 1)) [
       | inl below ↦ uri_total.trans (get_or os k e).uri (get_or os (length os - 1) e).uri uri
-          (Less-from_sorted (on (λ o. o.uri) uri_cmp) os k (length os - 1) e up below (omega arith)) (rw last less)
+          (Less-from_sorted (on uri_at uri_cmp) os k (length os - 1) e up below (omega arith)) (rw last less)
       | inr at ↦ let here : k ≡ length os - 1 = omega arith in rw (here, last) less
     ])
 

@@ -1,20 +1,16 @@
 -- The order of URIs is total, and URIs that tie are one and the same.
 use Rattle.std.proofs.Common.{◌≡◌, ℕ, true, false, ◌∙◌, ap, List}
-use Rattle.std.specs.Cmp.{IsTotalOrder, on_total}
+use Rattle.std.specs.Cmp.{IsTotalOrder}
 use Rattle.std.specs.Cmp.Lexicographic.{nat_list_cmp_total}
 use Rattle.std.specs.FinMap.{slice_cmp-IsAntisymmetric, nat_cmp-IsAntisymmetric}
-use Rattle.std.specs.Ordering.{is_eq, on, ordering_reverse}
+use Rattle.std.specs.Ordering.{is_eq, ordering_reverse}
 use Rattle.std.specs.declared.cmp.Ordering.{Ordering}
 use Rattle.std.specs.declared.cmp.Ordering.TheVariants.{Less, Equal, Greater}
 use Rattle.std.proofs.lemmas.Cmp.{tied_itself}
-use Rattle.pub_set.specs.declared.objects.Object.{Object}
 use Rattle.pub_set.specs.Objects.{uri_cmp, is_same}
 
 pub uri_total : IsTotalOrder uri_cmp
 uri_total = nat_list_cmp_total
-
-pub object_total : IsTotalOrder (on (λ (o : Object). o.uri) uri_cmp)
-object_total = on_total (λ o. o.uri) uri_total
 
 -- URIs that tie are equal.
 pub tied_is : (a b : List ℕ) → uri_cmp a b ≡ Equal → a ≡ b

@@ -1,9 +1,15 @@
 //! Sets of objects by URI.
 
-ghost use Rattle.std.specs.Prelude.{◌≡◌, ◌↔◌, ◌++◌, ◌∷◌, [], length, option_copied, IsTrue, IfOk, OnOk, OnErr};
+ghost use Rattle.std.specs.Prelude.{◌≡◌, ◌↔◌, ◌++◌, ◌∷◌, [], length, option_copied, None, IsTrue, IfOk, IfErr, OnOk, OnErr};
 ghost use Rattle.pub_set.specs.Objects.{content_at, uri_cmp, IsAscending, IsBehind, IsPlace};
+ghost use Rattle.pub_set.specs.Changes.{IsApplied};
+ghost use Rattle.pub_set.specs.Queries.{first_refusal, IsRefusal};
 
+use crate::drafts::draft_query;
+use crate::merging::carry_out;
 use crate::parts::{Content, Uri};
+use crate::refusals::QueryRefused;
+use crate::steps::Change;
 use std::alloc::{AllocError, Global};
 use std::cmp::Ordering;
 use std::marker::Model;
@@ -84,10 +90,7 @@ impl ObjectSet {
     pub fn get(&self, uri: &str) -> Option<&[u8]>
         ensures { option_copied result ≡ content_at self.now uri.now }
     {
-        match place_of(&self.objects, uri) {
-            Ok(place) => Some(self.objects[place].bytes.as_slice()),
-            Err(_) => None,
-        }
+        content_of(&self.objects, uri)
     }
 
     /// Whether the URI comes after those of all objects, so that an object can be pushed there.
@@ -107,6 +110,26 @@ impl ObjectSet {
         ensures err { OnErr result (self.new ≡ self.old) }
     {
         self.objects.push(object)?;
+        Ok(())
+    }
+
+    /// Carries the changes out one after another, or none of them.
+    ///
+    /// The first change that is faulty after those before it refuses the query (RFC 8181,
+    /// section 2.2): its URI has to begin with the base.
+    pub fn query(
+        &mut self,
+        alloc: Global,
+        base: &str,
+        changes: Vec<Change>,
+    ) -> Result<(), QueryRefused>
+        ensures sound { OnOk result (first_refusal base.now (content_at self.old) changes.items ≡ None) }
+        ensures applied { OnOk result (IsApplied self.old changes.items self.new) }
+        ensures refused { IfErr result (IsRefusal base.now (content_at self.old) changes.items) }
+        ensures kept { OnErr result (self.new ≡ self.old) }
+    {
+        let draft = draft_query(alloc, &self.objects, base, changes)?;
+        carry_out(alloc, &mut self.objects, draft)?;
         Ok(())
     }
 
@@ -131,15 +154,27 @@ fn copy_all(alloc: Global, objects: &[Object]) -> Result<Vec<Object>, AllocError
     Ok(copies)
 }
 
-// The place of the object at the URI, or the place where it would stand.
-fn place_of(objects: &[Object], uri: &str) -> Result<usize, usize>
+/// The bytes at the URI, found in logarithmic time.
+pub fn content_of<'a>(objects: &'a [Object], uri: &str) -> Option<&'a [u8]>
+    requires { IsAscending objects.now }
+    ensures { option_copied result ≡ content_at objects.now uri.now }
+{
+    match place_of(objects, uri) {
+        Ok(place) => Some(objects[place].bytes.as_slice()),
+        Err(_) => None,
+    }
+}
+
+/// The place of the object at the URI, or the place where it would stand.
+pub fn place_of(objects: &[Object], uri: &str) -> Result<usize, usize>
     requires { IsAscending objects.now }
     ensures { IsPlace objects.now uri.now result }
 {
     objects.binary_search_by(|object: &Object| compare(object, uri))
 }
 
-fn compare(object: &Object, uri: &str) -> Ordering
+/// How the object's URI compares to another.
+pub fn compare(object: &Object, uri: &str) -> Ordering
     ensures { result ≡ uri_cmp object.now.uri uri.now }
 {
     object.uri.as_str().cmp(uri)

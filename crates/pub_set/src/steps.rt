@@ -1,7 +1,7 @@
 //! Changes of a set.
 
 ghost use Rattle.std.specs.Prelude.{◌≡◌, IfOk};
-ghost use Rattle.pub_set.specs.Changes.{uri_of};
+ghost use Rattle.pub_set.specs.Changes.{uri_of, left_by};
 
 use crate::parts::{Content, Uri};
 use std::alloc::{AllocError, Global};
@@ -30,6 +30,17 @@ impl Change {
         match self {
             Change::Put { uri, .. } => uri,
             Change::Withdraw { uri, .. } => uri,
+        }
+    }
+
+    /// The URI whose object is changed, and what stands there after it.
+    pub fn into_end(self) -> (Uri, Option<Content>)
+        ensures uri { result.0 ≡ uri_of self }
+        ensures left { result.1 ≡ left_by self }
+    {
+        match self {
+            Change::Put { uri, bytes, .. } => (uri, Some(bytes)),
+            Change::Withdraw { uri, .. } => (uri, None),
         }
     }
 

@@ -1,0 +1,66 @@
+//! What a query comes to at each URI that it changes.
+
+ghost use Rattle.std.specs.Prelude.{◌≡◌, None, option_copied, OnOk, IfOk, IfErr};
+ghost use Rattle.pub_set.specs.Objects.{content_at, IsAscending};
+ghost use Rattle.pub_set.specs.Changes.{after_all};
+ghost use Rattle.pub_set.specs.Queries.{first_refusal, IsRefusal};
+ghost use Rattle.pub_set.specs.Drafts.{drafted, Drafts, IsNoted};
+ghost use Rattle.pub_set.specs.declared.refusals.QueryRefused.TheVariants.{Memory};
+
+use crate::objects::{Object, content_of};
+use crate::parts::{Content, Uri};
+use crate::refusals::{QueryRefused, refusal_code};
+use crate::steps::Change;
+use std::alloc::Global;
+use std::collections::BTreeMap;
+
+/// At each URI that is changed, what stands there in the end: bytes, or nothing.
+pub type Draft = BTreeMap<String, Option<Content>>;
+
+/// The draft of a query over these objects, or the refusal of its first faulty change.
+pub fn draft_query(
+    alloc: Global,
+    objects: &[Object],
+    base: &str,
+    changes: Vec<Change>,
+) -> Result<Draft, QueryRefused>
+    requires { IsAscending objects.now }
+    ensures sound { IfOk result (λ _. first_refusal base.now (content_at objects.now) changes.items ≡ None) }
+    ensures draft { IfOk result (Drafts (content_at objects.now) changes.items) }
+    ensures refused { IfErr result (IsRefusal base.now (content_at objects.now) changes.items) }
+{
+    let mut draft = BTreeMap::new(alloc);
+    for change in changes {
+        let held = drafted_at(objects, &draft, change.uri().as_str());
+        if let Some(code) = refusal_code(base, &change, held) {
+            let (uri, _) = change.into_end();
+            return Err(QueryRefused::Query { code, uri });
+        }
+        let (uri, left) = change.into_end();
+        note(&mut draft, uri, left)?;
+    }
+    Ok(draft)
+}
+
+// Notes what stands at the URI in the end.
+fn note(draft: &mut Draft, uri: Uri, left: Option<Content>) -> Result<(), QueryRefused>
+    ensures noted { OnOk result (IsNoted draft.old.entries uri left draft.new.entries) }
+    ensures memory { IfErr result (λ refused. refused ≡ Memory) }
+{
+    match draft.insert(uri.into_string(), left) {
+        Ok(_) => Ok(()),
+        Err(_) => Err(QueryRefused::Memory),
+    }
+}
+
+// What stands at the URI once the draft is carried out.
+fn drafted_at<'a>(objects: &'a [Object], draft: &'a Draft, uri: &str) -> Option<&'a [u8]>
+    requires { IsAscending objects.now }
+    ensures { option_copied result ≡ drafted (content_at objects.now) draft.now.entries uri.now }
+{
+    match draft.get(uri) {
+        Some(Some(content)) => Some(content.as_slice()),
+        Some(None) => None,
+        None => content_of(objects, uri),
+    }
+}
