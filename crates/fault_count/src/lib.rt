@@ -13,21 +13,3 @@ pub fn raised(count: u64) -> u64
 {
     count.saturating_add(1)
 }
-
-#[cfg(test)]
-mod tests {
-    use super::raised;
-
-    #[test]
-    fn a_count_goes_up_by_one_and_stops_at_its_end(rt: HostRuntime) {
-        let table = [
-            (0, 1),
-            (7, 8),
-            (u64::MAX - 1, u64::MAX),
-            (u64::MAX, u64::MAX),
-        ];
-        for (count, after) in table {
-            assert_eq!(rt; raised(count), after);
-        }
-    }
-}
