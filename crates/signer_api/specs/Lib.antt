@@ -1,1 +1,5 @@
+pub mod Hashed
+pub mod Memory
 pub mod PublicKey
+pub mod Rehearsal
+pub mod State

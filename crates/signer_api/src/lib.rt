@@ -1,6 +1,15 @@
 //! What signs for the authorities, and the keys, digests and signatures that it deals in.
+//!
+//! The signers here are for tests and rehearsals: their keys and signatures are made of hashes.
 #![tactic(auto)]
 
+mod hashed;
+mod memory;
+mod rehearsal;
+mod signer;
 mod values;
 
+pub use memory::MemorySigner;
+pub use rehearsal::Rehearsal;
+pub use signer::{Signer, SignerStop};
 pub use values::{Digest, OneUse, PublicKey, Signature};

@@ -3,10 +3,10 @@ ghost use Rattle.std.specs.Prelude.{◌≡◌, ◌↔◌, IsSome, IfSome, length
 ghost use Rattle.signer_api.specs.PublicKey.{IsPublicKey};
 
 // A SEQUENCE of 266 bytes, an INTEGER of 257 bytes, and the zero in front of the modulus.
-const HEADER: [u8; 9] = [0x30, 0x82, 0x01, 0x0a, 0x02, 0x82, 0x01, 0x01, 0x00];
+pub(crate) const HEADER: [u8; 9] = [0x30, 0x82, 0x01, 0x0a, 0x02, 0x82, 0x01, 0x01, 0x00];
 
 // The INTEGER 65,537.
-const EXPONENT: [u8; 5] = [0x02, 0x03, 0x01, 0x00, 0x01];
+pub(crate) const EXPONENT: [u8; 5] = [0x02, 0x03, 0x01, 0x00, 0x01];
 
 /// An RSA public key with a modulus of 2,048 bits and the exponent 65,537, spelled as RFC 8017,
 /// appendix A.1.1, says and RFC 7935, section 3, allows.
