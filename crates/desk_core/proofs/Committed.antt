@@ -1,9 +1,10 @@
 -- What a commit does to a desk, by what its parts do.
-use Rattle.std.proofs.Common.{◌≡◌, ◌⊎◌, ◌≤◌, ◌<◌, ◌+◌, ◌-◌, ◌^◌, ℕ, inl, Option, Some, None, List, [], ◌∷◌, ◌++◌, map, length, refl, sym, ◌∙◌, ap, subst, arith}
+use Rattle.std.proofs.Common.{◌≡◌, ◌≤◌, ◌<◌, ◌+◌, ◌-◌, ◌^◌, ℕ, inl, Option, Some, None, List, [], ◌∷◌, ◌++◌, map, length, refl, sym, ◌∙◌, ap, subst, arith, length-append}
 use Rattle.std.specs.Prelude.{IfSome, IsSome, min}
 use Rattle.std.specs.Option.{option_map}
-use Rattle.std.proofs.lemmas.List.{length-map, map-append}
-use Rattle.gate_journal.specs.Format.{held_for, held_by}
+use Rattle.std.proofs.lemmas.List.{length-map}
+use Rattle.gate_journal.specs.Format.{spelled, taken_by, held_for, held_by, payloads}
+use Rattle.gate_journal.specs.BodyLaws.{sizes-payloads, taken-push, length-one, payloads-push}
 use Rattle.disk_api.specs.Images.{LeavesOnly}
 use Rattle.authority_book.specs.declared.commands.Command.{Command}
 use Rattle.authority_book.specs.Settings.{Settings}
@@ -40,9 +41,9 @@ told_bytes : (content : Option (List ℕ)) (limit : ℕ) (shown : Option (List (
 told_bytes None limit shown records doubt is known same stands = tt
 told_bytes (Some bytes) limit shown records doubt is known same stands = told_doubt (Some bytes) limit shown records doubt bytes is known same stands
 
-pub safe_of : {D : Type 0} (content : D → Option (List ℕ)) (may_leave : D → List ℕ → Type 0) (number : ℕ) (settings : Settings) (records : List (List ℕ)) (journal : View D) → IsKept content may_leave number settings records journal →
-    IsSafe content may_leave (desk_of number settings records journal)
-safe_of content may_leave number settings records journal kept = record {
+pub safe_of : {D : Type 0} (content : D → Option (List ℕ)) (may_leave : D → List ℕ → Type 0) (number : ℕ) (settings : Settings) (body : List ℕ) (journal : View D) → IsKept content may_leave number settings body journal →
+    IsSafe content may_leave (desk_of number settings (payloads journal.sizes body) journal)
+safe_of content may_leave number settings body journal kept = let records = payloads journal.sizes body in record {
   bytes = told_bytes (content journal.disk) journal.limit journal.records records journal.doubt kept.limit kept.safe.told kept.told kept.safe.bytes;
   images = λ c left. told_doubt (content journal.disk) journal.limit journal.records records journal.doubt c kept.limit kept.safe.told kept.told (kept.safe.images c left);
   settled = kept.safe.settled;
@@ -57,11 +58,12 @@ stake_holds (Some bytes) records (Some rose) doubt payload file settled holds = 
 
 -- each moment of an append is one of the desk's
 pub moments : {D : Type 0} (content : D → Option (List ℕ)) (may_leave : D → List ℕ → Type 0) (moment : D → ℕ) (left_since : D → ℕ → List ℕ → Type 0)
-    (number : ℕ) (settings : Settings) (records : List (List ℕ)) (command : Command) (payload : List ℕ) (old mid new : View D) → IsKept content may_leave number settings records old →
+    (number : ℕ) (settings : Settings) (body : List ℕ) (command : Command) (payload : List ℕ) (old mid new : View D) → IsKept content may_leave number settings body old →
     IsSameButRoom old mid → payload ≡ spelling command →
     LeavesOnly moment left_since mid.disk new.disk (StandsForOrDoubt mid.limit mid.records (stake_of mid.shut mid.doubt payload)) →
-    LeavesOnly moment left_since old.disk new.disk (HoldsTold (content old.disk) records (stake_of old.shut old.doubt (spelling command)))
-moments content may_leave moment left_since number settings records command payload old mid new kept same spelled any =
+    LeavesOnly moment left_since old.disk new.disk (HoldsTold (content old.disk) (payloads old.sizes body) (stake_of old.shut old.doubt (spelling command)))
+moments content may_leave moment left_since number settings body command payload old mid new kept same spelled any =
+    let records = payloads old.sizes body in
     let mine = subst (λ (j : View _). LeavesOnly moment left_since j.disk new.disk (StandsForOrDoubt j.limit j.records (stake_of j.shut j.doubt payload))) same any in
     weaker content may_leave moment left_since old.disk new.disk (StandsForOrDoubt old.limit old.records (stake_of old.shut old.doubt payload)) (HoldsTold (content old.disk) records (stake_of old.shut old.doubt (spelling command))) mine
     (λ c stands. told_doubt (content old.disk) old.limit old.records records (stake_of old.shut old.doubt (spelling command)) c kept.limit kept.safe.told kept.told (subst (λ (p : List ℕ). StandsForOrDoubt old.limit old.records (stake_of old.shut old.doubt p) c) spelled stands))
@@ -71,19 +73,48 @@ told_push : (old new : Option (List (List ℕ))) (records : List (List ℕ)) (pa
 told_push None new records payload same is = subst (λ (o : Option (List (List ℕ))). IfSome o (λ all. all ≡ records ++ payload ∷ [])) (sym is) tt
 told_push (Some all) new records payload same is = subst (λ (o : Option (List (List ℕ))). IfSome o (λ all. all ≡ records ++ payload ∷ [])) (sym is) (ap (λ (r : List (List ℕ)). r ++ payload ∷ []) same)
 
+-- the records with one more
+pub records_more : {D : Type 0} (body more payload : List ℕ) (old mid new : View D) → length body ≡ taken_by old.sizes → IsSameButRoom old mid → new.sizes ≡ mid.sizes ++ length payload ∷ [] → more ≡ body ++ spelled (payload ∷ []) →
+    payloads new.sizes more ≡ payloads old.sizes body ++ payload ∷ []
+records_more body more payload old mid new size same sizes pushed =
+    ap (λ (l : List ℕ). payloads l more) (sizes ∙ ap (λ (j : View _). j.sizes ++ length payload ∷ []) same)
+    ∙ ap (λ (l : List ℕ). payloads (old.sizes ++ length payload ∷ []) l) pushed
+    ∙ payloads-push old.sizes body payload size
+
 -- a desk with one record more
-pub kept_push : {D : Type 0} (content : D → Option (List ℕ)) (may_leave : D → List ℕ → Type 0) (number : ℕ) (settings next : Settings) (records more : List (List ℕ)) (payload : List ℕ) (old mid new : View D) →
-    IsKept content may_leave number settings records old → IsSameButRoom old mid → new.records ≡ option_map (λ all. all ++ payload ∷ []) mid.records → new.limit ≡ mid.limit → new.sizes ≡ mid.sizes ++ length payload ∷ [] →
-    IsSafeJournal content may_leave new → more ≡ records ++ payload ∷ [] → IsLoaded number next (records ++ payload ∷ []) → IsKept content may_leave number next more new
-kept_push content may_leave number settings next records more payload old mid new kept same appended limit sizes safe pushed loaded = record {
-  loaded = subst (λ (r : List (List ℕ)). IsLoaded number next r) (sym pushed) loaded;
-  told = subst (λ (r : List (List ℕ)). IfSome new.records (λ all. all ≡ r)) (sym pushed)
-      (told_push old.records new.records records payload kept.told (appended ∙ ap (λ (j : View _). option_map (λ (all : List (List ℕ)). all ++ payload ∷ []) j.records) same));
-  sizes = sizes ∙ ap (λ (j : View _). j.sizes ++ length payload ∷ []) same ∙ ap (λ (l : List ℕ). l ++ length payload ∷ []) kept.sizes
-      ∙ sym (map-append length records (payload ∷ [])) ∙ ap (λ (r : List (List ℕ)). map length r) (sym pushed);
-  limit = limit ∙ (ap (λ (j : View _). j.limit) same ∙ kept.limit);
-  safe = safe;
-}
+pub kept_push : {D : Type 0} (content : D → Option (List ℕ)) (may_leave : D → List ℕ → Type 0) (number : ℕ) (settings next : Settings) (body more payload : List ℕ) (old mid new : View D) →
+    IsKept content may_leave number settings body old → IsSameButRoom old mid → new.records ≡ option_map (λ all. all ++ payload ∷ []) mid.records → new.limit ≡ mid.limit → new.sizes ≡ mid.sizes ++ length payload ∷ [] →
+    IsSafeJournal content may_leave new → more ≡ body ++ spelled (payload ∷ []) → IsLoaded number next (payloads old.sizes body ++ payload ∷ []) → IsKept content may_leave number next more new
+kept_push content may_leave number settings next body more payload old mid new kept same appended limit sizes safe pushed loaded =
+    let records = records_more body more payload old mid new kept.size same sizes pushed in
+    record {
+      loaded = subst (λ (r : List (List ℕ)). IsLoaded number next r) (sym records) loaded;
+      told = subst (λ (r : List (List ℕ)). IfSome new.records (λ all. all ≡ r)) (sym records)
+          (told_push old.records new.records (payloads old.sizes body) payload kept.told (appended ∙ ap (λ (j : View _). option_map (λ (all : List (List ℕ)). all ++ payload ∷ []) j.records) same));
+      size = omega (arith, ap (λ (l : List ℕ). length l) pushed, length-append body (spelled (payload ∷ [])), length-one payload, kept.size, ap taken_by (sizes ∙ ap (λ (j : View _). j.sizes ++ length payload ∷ []) same), taken-push old.sizes (length payload));
+      limit = limit ∙ (ap (λ (j : View _). j.limit) same ∙ kept.limit);
+      safe = safe;
+    }
+
+-- what is held where the disk told it before, it told
+pub held_before : (old now : Option (List ℕ)) (f : List ℕ → List ℕ) (records : List (List ℕ)) (doubt : Option (List ℕ)) (file : List ℕ) → now ≡ option_map f old → HoldsTold now records doubt file → HoldsTold old records doubt file
+held_before None now f records doubt file is holds = tt
+held_before (Some bytes) now f records doubt file is holds = subst (λ (o : Option (List ℕ)). HoldsTold o records doubt file) is holds
+
+-- the sizes of its records
+pub kept_sizes : {D : Type 0} (content : D → Option (List ℕ)) (may_leave : D → List ℕ → Type 0) (number : ℕ) (settings : Settings) (body : List ℕ) (journal : View D) → IsKept content may_leave number settings body journal →
+    journal.sizes ≡ map length (payloads journal.sizes body)
+kept_sizes content may_leave number settings body journal kept = sym (sizes-payloads journal.sizes body (omega (arith, kept.size)))
+
+pub length-payloads : (sizes body : List ℕ) → length body ≡ taken_by sizes → length (payloads sizes body) ≡ length sizes
+length-payloads sizes body size = sym (length-map (payloads sizes body) length) ∙ ap (λ (l : List ℕ). length l) (sizes-payloads sizes body (omega (arith, size)))
+
+fewer_than_taken : (sizes : List ℕ) → length sizes ≤ taken_by sizes
+fewer_than_taken [] = omega arith
+fewer_than_taken (size ∷ sizes) = omega (arith, fewer_than_taken sizes)
+
+pub fewer_than_bytes : (sizes body : List ℕ) → length body ≡ taken_by sizes → length (payloads sizes body) ≤ length body
+fewer_than_bytes sizes body size = omega (arith, length-payloads sizes body size, size, fewer_than_taken sizes)
 
 -- and its commands
 pub has_push : {D : Type 0} (number : ℕ) (settings next : Settings) (records more : List (List ℕ)) (payload : List ℕ) (command : Command) (old new : View D) → IsRecordable command → payload ≡ spelling command →

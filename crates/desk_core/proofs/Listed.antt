@@ -1,10 +1,9 @@
 -- The commands that payloads record, from one on.
-use Rattle.std.proofs.Common.{◌≡◌, ◌<◌, ◌+◌, ◌-◌, ℕ, zero, suc, Some, List, Vec, Global, [], ◌∷◌, ◌++◌, map, take, drop, length, refl, sym, ◌∙◌, ap, subst, arith, get_or, length-drop}
-use Rattle.std.specs.Option.{option_map}
+use Rattle.std.proofs.Common.{◌≡◌, ◌<◌, ◌+◌, ℕ, zero, suc, Some, List, [], ◌∷◌, ◌++◌, map, take, drop, length, refl, sym, ◌∙◌, ap, arith, get_or, length-drop}
 use Rattle.std.specs.List.{slice_get, AllByRecursion}
-use Rattle.std.proofs.lemmas.List.{take_more, take_all, get_or-drop}
+use Rattle.std.proofs.lemmas.List.{take_more, get_or-drop}
 use Rattle.std.proofs.lemmas.List.Elements.{recursion_from_All}
-use Rattle.std.proofs.lemmas.Option.{slice_get_within, slice_get-get_or, slice_get-map, get_or_from_slice_get}
+use Rattle.std.proofs.lemmas.Option.{slice_get_within, get_or_from_slice_get}
 use Rattle.authority_book.specs.declared.commands.Command.{Command}
 use Rattle.cmd_codec.specs.Spelling.{spelling, IsRecordable}
 use Rattle.desk_core.specs.Commands.{Records}
@@ -24,16 +23,6 @@ nth (x ∷ commands) p (suc at) payload e = let rest = nth commands p.1 at paylo
 pub command_at : (number : ℕ) (records : List (List ℕ)) (commands : List Command) (at : ℕ) (payload : List ℕ) → Records number records commands → slice_get records at ≡ Some payload → CommandAt commands at payload
 command_at number records commands at payload recorded e =
     nth commands (recursion_from_All IsRecordable commands recorded.recordable) at payload (ap (λ (r : List (List ℕ)). slice_get r at) (sym recorded.spelled) ∙ e)
-
--- the payload that a loop over the records from one on has come to
-pub payload_at : (items : List (Vec ℕ Global)) (from i : ℕ) (item : Vec ℕ Global) → i < length (take (length items - from) (drop from items)) →
-    item ≡ get_or (take (length items - from) (drop from items)) i item → slice_get (map (λ (payload : Vec ℕ Global). payload.items) items) (from + i) ≡ Some item.items
-payload_at items from i item within is =
-    let all : take (length items - from) (drop from items) ≡ drop from items = take_all (length items - from) (drop from items) (omega (arith, length-drop from items)) in
-    let below : i < length (drop from items) = subst (λ (l : List (Vec ℕ Global)). i < length l) all within in
-    let here : item ≡ get_or items (from + i) item = is ∙ (ap (λ (l : List (Vec ℕ Global)). get_or l i item) all ∙ get_or-drop from items i item) in
-    let there : slice_get items (from + i) ≡ Some item = slice_get-get_or items (from + i) item (omega (arith, below, length-drop from items)) ∙ ap Some (sym here) in
-    slice_get-map (λ (payload : Vec ℕ Global). payload.items) items (from + i) ∙ ap (option_map (λ (payload : Vec ℕ Global). payload.items)) there
 
 -- one command more
 pub listed_more : (commands found : List Command) (from i : ℕ) (payload : List ℕ) (command : Command) → CommandAt commands (from + i) payload →

@@ -1,8 +1,9 @@
 -- What a desk keeps true of its parts.
-use Rattle.std.specs.Prelude.{◌≡◌, ℕ, Option, List, length, map, IfSome}
+use Rattle.std.specs.Prelude.{◌≡◌, ℕ, Option, List, length, IfSome}
 use Rattle.authority_book.specs.declared.commands.Command.{Command}
 use Rattle.authority_book.specs.Settings.{Settings}
 use Rattle.authority_book.specs.Fold.{IsFoldOf}
+use Rattle.gate_journal.specs.Format.{taken_by, payloads}
 use Rattle.gate_journal.specs.View.{View, IsSafe}
 use Rattle.desk_core.specs.View.{journal_limit}
 use Rattle.desk_core.specs.Commands.{Records}
@@ -13,11 +14,11 @@ pub record IsLoaded (number : ℕ) (settings : Settings) (records : List (List �
   pub recorded : Records number records commands
   pub fold : IsFoldOf settings number commands
 
--- The payloads are the journal's, where its disk tells, and have its sizes in any case. They record the
--- commands of the configuration.
-pub record IsKept {D : Type 0} (content : D → Option (List ℕ)) (may_leave : D → List ℕ → Type 0) (number : ℕ) (settings : Settings) (records : List (List ℕ)) (journal : View D) : Type 0 where
-  pub loaded : IsLoaded number settings records
-  pub told : IfSome journal.records (λ all. all ≡ records)
-  pub sizes : journal.sizes ≡ map length records
+-- The bytes have the payloads of the journal's records, where its disk tells these, and as many of the same
+-- sizes in any case. They record the commands of the configuration.
+pub record IsKept {D : Type 0} (content : D → Option (List ℕ)) (may_leave : D → List ℕ → Type 0) (number : ℕ) (settings : Settings) (body : List ℕ) (journal : View D) : Type 0 where
+  pub loaded : IsLoaded number settings (payloads journal.sizes body)
+  pub told : IfSome journal.records (λ all. all ≡ payloads journal.sizes body)
+  pub size : length body ≡ taken_by journal.sizes
   pub limit : journal.limit ≡ journal_limit
   pub safe : IsSafe content may_leave journal

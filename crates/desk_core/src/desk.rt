@@ -1,5 +1,5 @@
 // A desk over a disk.
-ghost use Rattle.std.specs.Prelude.{◌≡◌, ◌≤◌, ◌+◌, ◌-◌, ◌<◌, ◌^◌, ◌++◌, [], ◌∷◌, ℕ, List, Option, Some, None, Ok, map, length, drop, IfOk, IfErr, IfSome, OnOk, OnErr, IsTrue, ◌↔◌, MatchOption, ◌⊎◌};
+ghost use Rattle.std.specs.Prelude.{◌≡◌, ◌≤◌, ◌+◌, ◌-◌, ◌<◌, ◌^◌, ◌++◌, [], ◌∷◌, ℕ, List, Option, Some, None, Ok, length, drop, IfOk, IfErr, IfSome, OnOk, OnErr, IsTrue, ◌↔◌, MatchOption, ◌⊎◌};
 ghost use Rattle.std.specs.Option.{option_map};
 ghost use Rattle.disk_api.specs.Images.{LeavesOnly};
 ghost use Rattle.fault_count.specs.Rise.{HasRisen};
@@ -16,7 +16,7 @@ use crate::records::{fault_of, needed, prepare, recorded};
 use crate::{DeskFault, DeskOpenFault, DeskRefused, DeskRose};
 use authority_book::{Command, Config, verdict};
 use disk_api::Disk;
-use gate_journal::{Journal, OpenRefused};
+use gate_journal::{Journal, OpenRefused, add_to_body};
 use std::alloc::{AllocError, Global};
 use std::marker::Model;
 
@@ -29,20 +29,20 @@ pub struct Desk<D: Disk> {
     number: u32,
     journal: Journal<D>,
     config: Config,
-    // The payloads of the journal's records.
-    records: Vec<Vec<u8>>,
+    // The journal's records, as they lie in its file.
+    body: Vec<u8>,
 }
 
 impl<D: Disk> Model for Desk<D> {
-    ghost use Rattle.std.specs.Prelude.{map};
+    ghost use Rattle.gate_journal.specs.Format.{payloads};
     ghost use Rattle.desk_core.specs.View.{View};
     ghost use Rattle.desk_core.specs.Kept.{IsKept};
 
     ghost Value = { View D };
 
-    ghost view = { λ d. record { disk = d.journal.disk; number = d.number; settings = d.config.settings; records = map (λ payload. payload.items) d.records.items; shut = d.journal.shut; doubt = d.journal.doubt } };
+    ghost view = { λ d. record { disk = d.journal.disk; number = d.number; settings = d.config.settings; records = payloads d.journal.sizes d.body.items; shut = d.journal.shut; doubt = d.journal.doubt } };
 
-    ghost invariant = { λ d. IsKept D.content D.may_leave d.number d.config.settings (map (λ payload. payload.items) d.records.items) d.journal };
+    ghost invariant = { λ d. IsKept D.content D.may_leave d.number d.config.settings d.body.items d.journal };
 }
 
 impl<D: Disk> Desk<D> {
@@ -86,17 +86,24 @@ impl<D: Disk> Desk<D> {
             }
         };
         match load(alloc, number, &mut journal) {
-            Ok(Loaded { config, records }) => Ok(Desk {
+            Ok(Loaded { config, body }) => Ok(Desk {
                 number,
                 journal,
                 config,
-                records,
+                body,
             }),
             Err(fault) => {
                 let disk = journal.close();
                 Err(DeskRefused { disk, fault })
             }
         }
+    }
+
+    // How many bytes the journal takes.
+    fn held(&self) -> u64
+        ensures { result ≡ held_by self.now.records }
+    {
+        self.journal.held()
     }
 
     /// The desk's number.
@@ -120,14 +127,14 @@ impl<D: Disk> Desk<D> {
         // Between calls, too, what a crash may leave holds them.
         ensures safe { IsSafe D.content D.may_leave self.now }
     {
-        self.records.len() as u64
+        self.journal.count()
     }
 
     /// Whether no command was accepted yet.
     pub fn is_empty(&self) -> bool
         ensures { IsTrue result ↔ (self.now.records ≡ []) }
     {
-        self.records.is_empty()
+        self.len() == 0
     }
 
     /// The accepted commands after the first `from`.
@@ -135,9 +142,10 @@ impl<D: Disk> Desk<D> {
         requires { from ≤ length self.now.records }
         ensures { IfOk result (λ found. (commands : List Command) → HasCommands self.now commands → found.items ≡ drop from commands) }
     {
-        let records = &self.records[from as usize..];
-        let mut commands = Vec::with_capacity(alloc, records.len())?;
-        for payload in records {
+        let count = self.len();
+        let mut commands = Vec::with_capacity(alloc, (count - from) as usize)?;
+        for index in from..count {
+            let payload = self.journal.payload(self.body.as_slice(), index);
             commands.push(recorded(alloc, payload)?)?;
         }
         Ok(commands)
@@ -178,15 +186,16 @@ impl<D: Disk> Desk<D> {
         let Desk {
             journal,
             config,
-            records,
+            body,
             ..
         } = self;
-        let Ok(payload) = prepare(alloc, &command, journal, config, records) else {
+        let Ok(payload) = prepare(alloc, &command, journal, config, body) else {
             return Err(DeskFault::Memory);
         };
-        match self.journal.append(payload.as_slice()) {
+        let record = payload.as_slice();
+        match self.journal.append(record) {
             Ok(()) => {
-                self.records.push_reserved(payload);
+                add_to_body(&mut self.body, record);
                 self.config.apply(command);
                 Ok(self.config.count())
             }
@@ -206,7 +215,7 @@ impl<D: Disk> Desk<D> {
         if let Err(refusal) = verdict(&self.config, command, signers) {
             return Some(DeskFault::Verdict { refusal });
         }
-        let held = self.journal.held();
+        let held = self.held();
         let needed = needed(command);
         if held > JOURNAL_LIMIT || JOURNAL_LIMIT - held < needed {
             return Some(DeskFault::JournalFull { held, needed });

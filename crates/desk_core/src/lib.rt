@@ -16,6 +16,3 @@ pub use desk::Desk;
 pub use faults::{DeskFault, DeskOpenFault, DeskRefused};
 pub use laws::commands_are_determined;
 pub use rose::DeskRose;
-
-#[cfg(test)]
-mod tests;

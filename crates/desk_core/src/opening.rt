@@ -1,8 +1,9 @@
 // What a journal's records come to, read one after another.
-ghost use Rattle.std.specs.Prelude.{◌≡◌, ◌≤◌, ◌++◌, [], ◌∷◌, ℕ, List, Option, length, map, true, false, IfOk, IfErr, OnOk, IfSome};
+ghost use Rattle.std.specs.Prelude.{◌≡◌, ◌≤◌, ◌++◌, [], ◌∷◌, ℕ, List, Option, length, true, false, IfOk, IfErr, OnOk, IfSome};
 ghost use Rattle.authority_book.specs.declared.commands.Command.{Command};
 ghost use Rattle.authority_book.specs.Fold.{IsFoldOf};
 ghost use Rattle.fault_count.specs.Rise.{HasRisen};
+ghost use Rattle.gate_journal.specs.Format.{taken_by, payloads};
 ghost use Rattle.gate_journal.specs.View.{IsSafe, HasSizes};
 ghost use Rattle.gate_journal.specs.Answers.{IsSameButDisk};
 ghost use Rattle.gate_journal.specs.Reading.{Rests};
@@ -13,58 +14,72 @@ use crate::DeskOpenFault;
 use authority_book::{Config, verdict, verdict_on_the_fold};
 use cmd_codec::RecordFault;
 use disk_api::Disk;
-use gate_journal::{Journal, JournalFault};
+use gate_journal::Journal;
 use std::alloc::{AllocError, Global};
 
 /// So many signers that no command asks for one past them: a record was accepted when its signer was
 /// there.
 const ANY_SIGNERS: u32 = u32::MAX;
 
-/// The payloads of the records read so far, and what their commands come to.
+/// The records of a journal as they lie in its file, and what their commands come to.
 #[derive(Drop)]
 pub(crate) struct Loaded {
     pub(crate) config: Config,
-    pub(crate) records: Vec<Vec<u8>>,
+    pub(crate) body: Vec<u8>,
 }
 
-impl Loaded {
-    fn new(alloc: Global, number: u32, count: u64) -> Result<Loaded, AllocError>
-        ensures loaded { IfOk result (λ loaded. IsLoaded number loaded.config.settings (map (λ payload. payload.items) loaded.records.items)) }
-        ensures empty { IfOk result (λ loaded. map (λ payload. payload.items) loaded.records.items ≡ []) }
-    {
-        Ok(Loaded {
-            config: Config::new(alloc, number)?,
-            records: Vec::with_capacity(alloc, count as usize)?,
-        })
-    }
+/// What no commands come to.
+fn begin(alloc: Global, number: u32) -> Result<Config, AllocError>
+    ensures { IfOk result (λ config. IsLoaded number config.settings []) }
+{
+    Config::new(alloc, number)
+}
 
-    // Takes in the next record, if it is that of a command accepted after those before it.
-    fn add(&mut self, alloc: Global, payload: Vec<u8>) -> Result<bool, AllocError>
-        ensures pushed { IfOk result (λ is_taken. is_taken ≡ true
-            → map (λ payload. payload.items) self.new.records.items ≡ map (λ payload. payload.items) self.old.records.items ++ payload.items ∷ []) }
-        ensures loaded { IfOk result (λ is_taken. is_taken ≡ true → (number : ℕ)
-            → IsLoaded number self.old.config.settings (map (λ payload. payload.items) self.old.records.items)
-            → IsLoaded number self.new.config.settings (map (λ payload. payload.items) self.new.records.items)) }
-        ensures bad { IfOk result (λ is_taken. is_taken ≡ false → (number : ℕ) (commands : List Command)
-            → IsFoldOf self.old.config.settings number commands → RecordsNoNext number commands payload.items) }
-    {
-        let command = match cmd_codec::read(alloc, payload.as_slice()) {
-            Ok(command) => command,
-            Err(RecordFault::BadRecord { .. }) => return Ok(false),
-            Err(RecordFault::Memory) => return Err(AllocError),
-        };
-        verdict_on_the_fold();
-        if verdict(&self.config, &command, ANY_SIGNERS).is_err() {
-            return Ok(false);
+/// Takes in the next record, if it is that of a command accepted after those before it.
+fn take_in(alloc: Global, config: &mut Config, payload: &[u8]) -> Result<bool, AllocError>
+    ensures loaded { IfOk result (λ is_taken. is_taken ≡ true → (number : ℕ) (records : List (List ℕ))
+        → IsLoaded number config.old.settings records → IsLoaded number config.new.settings (records ++ payload.now ∷ [])) }
+    ensures bad { IfOk result (λ is_taken. is_taken ≡ false → (number : ℕ) (commands : List Command)
+        → IsFoldOf config.old.settings number commands → RecordsNoNext number commands payload.now) }
+{
+    let command = match cmd_codec::read(alloc, payload) {
+        Ok(command) => command,
+        Err(RecordFault::BadRecord { .. }) => return Ok(false),
+        Err(RecordFault::Memory) => return Err(AllocError),
+    };
+    verdict_on_the_fold();
+    if verdict(config, &command, ANY_SIGNERS).is_err() {
+        return Ok(false);
+    }
+    config.reserve(alloc, &command)?;
+    config.apply(command);
+    Ok(true)
+}
+
+/// What the commands of the records come to, in their order.
+fn fold<D: Disk>(
+    alloc: Global,
+    number: u32,
+    journal: &Journal<D>,
+    body: &[u8],
+) -> Result<Config, DeskOpenFault>
+    requires { length body.now ≡ taken_by journal.now.sizes }
+    ensures loaded { IfOk result (λ config. IsLoaded number config.settings (payloads journal.now.sizes body.now)) }
+    ensures bad { IfErr result (λ fault. (at : ℕ) → fault ≡ DeskOpenFault.BadRecord at → IsFirstBad number (payloads journal.now.sizes body.now) at) }
+    ensures undamaged { IfErr result (λ fault. (at : ℕ) → fault ≡ DeskOpenFault.Damaged at → ⊥) }
+    ensures no_fault { IfErr result (λ fault. fault ≡ DeskOpenFault.DiskFault → ⊥) }
+{
+    let mut config = begin(alloc, number)?;
+    for index in 0..journal.count() {
+        let payload = journal.payload(body, index);
+        if !take_in(alloc, &mut config, payload)? {
+            return Err(DeskOpenFault::BadRecord { at: index });
         }
-        self.config.reserve(alloc, &command)?;
-        self.records.push(payload)?;
-        self.config.apply(command);
-        Ok(true)
     }
+    Ok(config)
 }
 
-/// Reads the records of a journal in their order.
+/// Reads the records of a journal, in one piece.
 pub(crate) fn load<D: Disk>(
     alloc: Global,
     number: u32,
@@ -73,9 +88,9 @@ pub(crate) fn load<D: Disk>(
     requires sizes { HasSizes journal.old }
     requires safe { IsSafe D.content D.may_leave journal.old }
 
-    ensures loaded { IfOk result (λ loaded. IsLoaded number loaded.config.settings (map (λ payload. payload.items) loaded.records.items)) }
-    ensures told { IfOk result (λ loaded. IfSome journal.old.records (λ all. all ≡ map (λ payload. payload.items) loaded.records.items)) }
-    ensures sizes { IfOk result (λ loaded. journal.old.sizes ≡ map length (map (λ payload. payload.items) loaded.records.items)) }
+    ensures loaded { IfOk result (λ loaded. IsLoaded number loaded.config.settings (payloads journal.old.sizes loaded.body.items)) }
+    ensures told { IfOk result (λ loaded. IfSome journal.old.records (λ all. all ≡ payloads journal.old.sizes loaded.body.items)) }
+    ensures size { IfOk result (λ loaded. length loaded.body.items ≡ taken_by journal.old.sizes) }
     ensures open { OnOk result (journal.new.shut ≡ journal.old.shut) }
 
     ensures bad { IfErr result (λ fault. (at : ℕ) → fault ≡ DeskOpenFault.BadRecord at → IfSome journal.old.records (λ all. IsFirstBad number all at)) }
@@ -87,12 +102,7 @@ pub(crate) fn load<D: Disk>(
     ensures later { D.fault_count journal.old.disk ≤ D.fault_count journal.new.disk }
     ensures safe { IsSafe D.content D.may_leave journal.new }
 {
-    let mut loaded = Loaded::new(alloc, number, journal.count())?;
-    for index in 0..journal.count() {
-        let payload = journal.record(alloc, index)?;
-        if !loaded.add(alloc, payload)? {
-            return Err(DeskOpenFault::BadRecord { at: index });
-        }
-    }
-    Ok(loaded)
+    let body = journal.body(alloc)?;
+    let config = fold(alloc, number, journal, body.as_slice())?;
+    Ok(Loaded { config, body })
 }

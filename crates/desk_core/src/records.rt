@@ -1,5 +1,5 @@
 // A command as a record of the journal.
-ghost use Rattle.std.specs.Prelude.{◌≡◌, ◌≤◌, ◌<◌, length, vec_len, vec_capacity, IfOk, OnOk};
+ghost use Rattle.std.specs.Prelude.{◌≡◌, ◌≤◌, ◌<◌, ◌+◌, length, vec_len, vec_capacity, IfOk, OnOk};
 ghost use Rattle.authority_book.specs.declared.commands.Command.{Command};
 ghost use Rattle.authority_book.specs.Fold.{added_by};
 ghost use Rattle.cmd_codec.specs.Spelling.{spelling, IsShort, IsRecordable};
@@ -31,20 +31,20 @@ pub(crate) fn prepare<D: Disk>(
     command: &Command,
     journal: &mut Journal<D>,
     config: &mut Config,
-    records: &mut Vec<Vec<u8>>,
+    body: &mut Vec<u8>,
 ) -> Result<Vec<u8>, AllocError>
     ensures payload { IfOk result (λ payload. (payload.items ≡ spelling command.now) × (length payload.items < journal.new.room)) }
+    ensures room { IfOk result (λ payload. vec_len body.new + (length payload.items + 9) ≤ vec_capacity body.new) }
     ensures recordable { OnOk result (IsRecordable command.now) }
     ensures journal { IsSameButRoom journal.old journal.new }
     ensures config { config.new.settings ≡ config.old.settings }
     ensures added { OnOk result (added_by command.now ≤ config.new.room) }
-    ensures records { records.new.items ≡ records.old.items }
-    ensures pushed { OnOk result (vec_len records.new < vec_capacity records.new) }
+    ensures body { body.new.items ≡ body.old.items }
 {
     let payload = cmd_codec::write(alloc, command)?;
     journal.reserve(alloc, payload.len())?;
     config.reserve(alloc, command)?;
-    records.reserve(1)?;
+    body.reserve(payload.len() + 9)?;
     Ok(payload)
 }
 

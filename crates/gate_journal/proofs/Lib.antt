@@ -1,5 +1,6 @@
 mod Appended
 mod Begun
+mod Bodies
 mod Damage
 mod Filled
 mod Found
@@ -15,3 +16,4 @@ mod Sizes
 mod Stored
 mod Torn
 mod Whole
+mod Windows

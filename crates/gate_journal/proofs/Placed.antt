@@ -1,16 +1,16 @@
 -- Where a journal's records lie.
-use Rattle.std.proofs.Common.{◌≡◌, ℕ, zero, suc, ◌+◌, ◌≤◌, ◌<◌, Option, Some, None, List, [], ◌∷◌, ◌++◌, map, length, get_or, take, drop, IfSome, refl, sym, ◌∙◌, ap, subst, arith, length-append, length-drop}
+use Rattle.std.proofs.Common.{◌≡◌, ℕ, zero, suc, ◌+◌, ◌-◌, ◌≤◌, ◌<◌, Option, Some, None, List, [], ◌∷◌, ◌++◌, map, length, get_or, take, drop, IfSome, refl, sym, ◌∙◌, ap, subst, arith, length-append, length-drop}
 use Rattle.std.proofs.lemmas.List.{take_at, drop_at, drop-drop, get_or-take, length-take, length-map}
 use Rattle.std.proofs.lemmas.Option.{slice_get-get_or, slice_get-map}
 use Rattle.std.specs.Option.{option_map}
 use Rattle.std.specs.Prelude.{slice_get}
 use Rattle.std.specs.Int.{w64, to_be_bytes}
-use Rattle.gate_journal.specs.Format.{spelled}
+use Rattle.gate_journal.specs.Format.{spelled, taken_by}
 use Rattle.gate_journal.specs.Kept.{IsMeasured, IsLaidOut, IsKept, places_of, pair_of, sizes_of, shows}
 use Rattle.gate_journal.specs.declared.place.Place.{Place}
 use Rattle.gate_journal.proofs.Records.{length-to_be_bytes, spelled-more}
 use Rattle.gate_journal.proofs.Laid.{shown}
-use Rattle.gate_journal.proofs.Sizes.{length-sizes_of}
+use Rattle.gate_journal.proofs.Sizes.{length-sizes_of, taken_by-spelled}
 
 -- a record is there
 pub record IsPlaced (records : List (List ℕ)) (index at size : ℕ) (bytes : List ℕ) : Type 0 where
@@ -35,7 +35,7 @@ placed (payload ∷ records) rest bytes at (suc index) d is lt =
     let more = placed records rest bytes (at + 9 + length payload) index d there (omega (arith, lt)) in
     record { payload = more.payload; within = more.within }
 
-get_or-map : (places : List Place) (index : ℕ) (d : Place) → get_or (map pair_of places) index (pair_of d) ≡ pair_of (get_or places index d)
+pub get_or-map : (places : List Place) (index : ℕ) (d : Place) → get_or (map pair_of places) index (pair_of d) ≡ pair_of (get_or places index d)
 get_or-map [] index d = refl
 get_or-map (place ∷ places) zero d = refl
 get_or-map (place ∷ places) (suc index) d = get_or-map places index d
@@ -65,3 +65,18 @@ pub size_there : (count : ℕ) (places : List Place) (index : ℕ) (place : Plac
 size_there count places index place counted lt is =
     slice_get-map (λ (p : Place). p.size) (take count places) index
     ∙ ap (option_map (λ (p : Place). p.size)) (slice_get-get_or (take count places) index place (omega (arith, lt, counted, length-take count places)) ∙ ap (λ (p : Place). Some p) (get_or-take count places index place lt ∙ sym is))
+
+pub below_count : (count : ℕ) (places : List Place) (index : ℕ) → count ≤ length places → index < length (sizes_of count places) → index < count
+below_count count places index counted lt = omega (arith, length-sizes_of count places counted)
+
+-- all records, as they lie in the file
+pub read_body : (content : Option (List ℕ)) (may_leave : List ℕ → Type 0) (count held : ℕ) (places : List Place) (shut : Option (ℕ × ℕ)) (body : List ℕ) → IsKept content may_leave count held places shut → IfSome content (λ bytes. body ≡ take (held - 17) (drop 16 bytes))
+    → IfSome (shows count content) (λ all. body ≡ spelled all)
+read_body None may_leave count held places shut body kept read = tt
+read_body (Some bytes) may_leave count held places shut body kept read =
+    let laid = kept.told.1 in
+    let all = kept.told.0 in
+    read
+    ∙ ap (λ (l : List ℕ). take (held - 17) (drop 16 l)) laid.split
+    ∙ take_at (spelled all) (laid.gate ∷ laid.tail) (held - 17) (omega (arith, kept.measured.held_is, ap taken_by laid.sizes_are, taken_by-spelled all))
+    ∙ ap (λ (l : List (List ℕ)). spelled l) (sym (shown count (length-sizes_of count places kept.measured.counted) laid))

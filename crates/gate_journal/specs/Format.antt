@@ -29,6 +29,11 @@ held_for sizes = 17 + taken_by sizes
 abbrev pub held_by : List (List ℕ) → ℕ
 held_by records = held_for (map length records)
 
+-- the payloads of these sizes, in the bytes of records that lie one after another
+abbrev pub payloads : List ℕ → List ℕ → List (List ℕ)
+payloads [] bytes = []
+payloads (size ∷ sizes) bytes = take size (drop 9 bytes) ∷ payloads sizes (drop (9 + size) bytes)
+
 -- what opening makes of a file: one of at most 17 bytes becomes a journal without records, a longer one stays
 abbrev pub opened : List ℕ → List ℕ
 opened file = if nat_le 18 (length file) then file else file_of []

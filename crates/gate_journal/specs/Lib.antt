@@ -1,4 +1,5 @@
 pub mod Answers
+pub mod BodyLaws
 pub mod Format
 pub mod Kept
 pub mod Reading

@@ -24,6 +24,10 @@ pub record Fills (bytes : List ℕ) (at n : ℕ) (new : List ℕ) : Type 0 where
   pub all : n ≡ min (length new) (length bytes - at)
   pub put : take n new ≡ take n (drop at bytes)
 
+-- the bytes of a window are those of the file from its start on
+abbrev pub IsWindow : ℕ → List ℕ → List ℕ → Type 0
+IsWindow start window bytes = window ≡ take (length window) (drop start bytes)
+
 -- the records from a gate on break off there
 abbrev pub IsHarmed : ℕ → List ℕ → Type 0
 IsHarmed limit rest = (rest ≡ []) ⊎ ((tail : List ℕ) × (rest ≡ 1 ∷ tail) × ((is_whole tail && nat_le (size_of tail) limit) ≡ false))

@@ -1,10 +1,10 @@
 // The journal, whose file holds its records between a header and a closed gate.
-ghost use Rattle.std.specs.Prelude.{◌≡◌, ◌≤◌, ◌<◌, ◌+◌, ◌-◌, ◌++◌, [], ◌∷◌, ◌↔◌, ◌⊎◌, ℕ, List, Option, Some, None, length, map, slice_get, IfOk, IfErr, IfSome, take, vec_capacity, OnOk, OnErr, IsSome, IsTrue, MatchResult, cond, vec_len};
+ghost use Rattle.std.specs.Prelude.{◌≡◌, ◌≤◌, ◌<◌, ◌+◌, ◌-◌, ◌++◌, [], ◌∷◌, ◌↔◌, ◌⊎◌, ℕ, List, Option, Some, None, length, map, slice_get, IfOk, IfErr, IfSome, take, drop, vec_capacity, OnOk, OnErr, IsSome, IsTrue, MatchResult, cond, vec_len};
 ghost use Rattle.std.specs.Option.{option_map};
 ghost use Rattle.disk_api.specs.Content.{BothTold};
 ghost use Rattle.disk_api.specs.Images.{LeavesOnly};
 ghost use Rattle.fault_count.specs.Rise.{HasRisen};
-ghost use Rattle.gate_journal.specs.Format.{stands_for, damaged_at, held_for, opened, IsUnopened};
+ghost use Rattle.gate_journal.specs.Format.{spelled, stands_for, damaged_at, taken_by, held_for, payloads, opened, IsUnopened};
 ghost use Rattle.gate_journal.specs.Reading.{Rests};
 ghost use Rattle.gate_journal.specs.Storing.{stored, entry_bytes};
 ghost use Rattle.gate_journal.specs.View.{View, StandsFor, StandsForOrWith, StandsForOrDoubt, stake_of, IsSafe, HasSizes, IsSameButRoom};
@@ -227,7 +227,7 @@ impl<D: Disk> Journal<D> {
     }
 
     /// The payload of a record, read from the disk. A fault of the disk shuts the journal. It never
-    /// answers `Damaged`: a file that somebody has cut short is answered as want of memory.
+    /// answers `Damaged`: a file that somebody has cut short is answered as out of memory.
     pub fn record(&mut self, alloc: Global, index: u64) -> Result<Vec<u8>, JournalFault>
         requires { index < length self.old.sizes }
 
@@ -241,9 +241,50 @@ impl<D: Disk> Journal<D> {
         ensures safe { IsSafe D.content D.may_leave self.new }
     {
         let place = self.places[index as usize];
+        self.read(alloc, place)
+    }
+
+    /// The records as they lie in the file, one behind the other, each with its gate and its length;
+    /// `payload` finds one in them. It answers faults as `record` does.
+    pub fn body(&mut self, alloc: Global) -> Result<Vec<u8>, JournalFault>
+        ensures body { IfOk result (λ body. IfSome self.old.records (λ all. body.items ≡ spelled all)) }
+        ensures size { IfOk result (λ body. length body.items ≡ taken_by self.old.sizes) }
+        ensures fault { IfErr result (λ fault. IsReadFault D.fault_count fault self.old self.new) }
+        ensures open { OnOk result (self.new.shut ≡ self.old.shut) }
+        ensures same { IsSameButDisk self.old self.new }
+        ensures disk { Rests D.content D.may_leave D.moment D.left_since self.old.disk self.new.disk }
+        ensures later { D.fault_count self.old.disk ≤ D.fault_count self.new.disk }
+        ensures safe { IsSafe D.content D.may_leave self.new }
+    {
+        let size = self.held - 17;
+        self.read(alloc, Place { at: 16, size })
+    }
+
+    /// The payload of a record within the bytes of all.
+    pub fn payload<'a>(&self, body: &'a [u8], index: u64) -> &'a [u8]
+        requires index { index < length self.now.sizes }
+        requires body { length body.now ≡ taken_by self.now.sizes }
+        ensures { slice_get (payloads self.now.sizes body.now) index ≡ Some result.now }
+    {
+        let Place { at, size } = self.places[index as usize];
+        let start = (at - 16) as usize;
+        &body[start..start + size as usize]
+    }
+
+    /// Reads a part of the file.
+    fn read(&mut self, alloc: Global, place: Place) -> Result<Vec<u8>, JournalFault>
+        ensures size { IfOk result (λ part. length part.items ≡ place.size) }
+        ensures part { IfOk result (λ part. IfSome (D.content self.old.disk) (λ bytes. part.items ≡ take place.size (drop place.at bytes))) }
+        ensures fault { IfErr result (λ fault. IsReadFault D.fault_count fault self.old self.new) }
+        ensures open { OnOk result (self.new.shut ≡ self.old.shut) }
+        ensures same { IsSameButDisk self.old self.new }
+        ensures disk { Rests D.content D.may_leave D.moment D.left_since self.old.disk self.new.disk }
+        ensures later { D.fault_count self.old.disk ≤ D.fault_count self.new.disk }
+        ensures safe { IsSafe D.content D.may_leave self.new }
+    {
         let before = self.disk.faults();
         match read_payload(alloc, self.alloc, &mut self.disk, place) {
-            Ok(payload) => Ok(payload),
+            Ok(part) => Ok(part),
             Err(DiskStop::Fault) => {
                 let after = self.disk.faults();
                 self.shut = self.shut.or(Some((before, after)));

@@ -11,10 +11,9 @@ mod open;
 mod place;
 mod rose;
 mod store;
+mod window;
 
 pub use fault::{AppendFault, JournalFault, OpenRefused};
 pub use journal::Journal;
 pub use rose::Rose;
-
-#[cfg(test)]
-mod tests;
+pub use store::add_to_body;

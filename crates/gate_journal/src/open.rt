@@ -6,13 +6,14 @@ ghost use Rattle.disk_api.specs.Images.{LeavesOnly, IsOnly};
 ghost use Rattle.disk_api.specs.Faults.{CountsFaults, CountsStops};
 ghost use Rattle.fault_count.specs.Rise.{HasRisen};
 ghost use Rattle.gate_journal.specs.Format.{header, has_header, stands_for, damaged_at, opened, IsUnopened};
-ghost use Rattle.gate_journal.specs.Reading.{Rests, Fills, IsHead, StandsAt, IsHarmed, Finds, Opens};
+ghost use Rattle.gate_journal.specs.Reading.{Rests, Fills, IsWindow, IsHead, StandsAt, IsHarmed, Finds, Opens};
 ghost use Rattle.gate_journal.specs.Kept.{IsMeasured};
 ghost use Rattle.gate_journal.specs.View.{StandsFor};
 
 use crate::JournalFault;
 use crate::place::Place;
 use crate::store::OPEN;
+use crate::window::{Window, reach};
 use disk_api::{Disk, DiskStop};
 use std::alloc::Global;
 
@@ -59,33 +60,38 @@ fn fill<D: Disk>(alloc: Global, disk: &mut D, at: u64, into: &mut [u8]) -> Resul
 fn head_bytes<D: Disk>(
     alloc: Global,
     disk: &mut D,
+    window: &mut Window,
     at: u64,
     left: u64,
 ) -> Result<([u8; 9], usize), DiskStop>
     requires fits { at + left < 2 ^ 64 }
     requires told { IfSome (D.content disk.old) (λ bytes. at + left ≡ length bytes) }
+    requires window { IfSome (D.content disk.old) (IsWindow window.old.start window.old.bytes.items) }
+    ensures window { OnOk result (IfSome (D.content disk.old) (IsWindow window.new.start window.new.bytes.items)) }
     ensures within { IfOk result (λ head. (head.1 ≤ 9) × (head.1 ≤ left)) }
     ensures head { IfOk result (λ head. IfSome (D.content disk.old) (λ bytes. Fills bytes at head.1 head.0)) }
     ensures bytes { IfOk result (λ head. (i : ℕ) → slice_index head.0 i < 256) }
     ensures rests { Rests D.content D.may_leave D.moment D.left_since disk.old disk.new }
     ensures faults { CountsFaults (D.fault_count disk.old) (D.fault_count disk.new) result }
 {
-    let mut head = [0; 9];
     let want = left.min(9) as usize;
-    let got = fill(alloc, disk, at, &mut head[..want])?;
-    Ok((head, got))
+    reach(alloc, disk, window, at, left, want)?;
+    Ok((window.head(at, want), want))
 }
 
 /// Reads the head of the record at a gate, from which on `left` bytes are left.
 fn read_head<D: Disk>(
     alloc: Global,
     disk: &mut D,
+    window: &mut Window,
     at: u64,
     left: u64,
     limit: u64,
 ) -> Result<Head, JournalFault>
     requires fits { at + left < 2 ^ 64 }
     requires told { IfSome (D.content disk.old) (λ bytes. at + left ≡ length bytes) }
+    requires window { IfSome (D.content disk.old) (IsWindow window.old.start window.old.bytes.items) }
+    ensures window { OnOk result (IfSome (D.content disk.old) (IsWindow window.new.start window.new.bytes.items)) }
     ensures head { IfOk result (λ head. IsHead left limit head) }
     ensures stands { IfOk result (λ head. IfSome (D.content disk.old) (λ bytes. StandsAt (drop at bytes) head)) }
     ensures harmed { IfErr result (λ fault. (place : ℕ) → fault ≡ JournalFault.Damaged place → (place ≡ at) × IfSome (D.content disk.old) (λ bytes. IsHarmed limit (drop at bytes))) }
@@ -93,7 +99,7 @@ fn read_head<D: Disk>(
     ensures later { D.fault_count disk.old ≤ D.fault_count disk.new }
     ensures failed { IsErrOf result JournalFault.DiskFault → HasRisen (D.fault_count disk.old) (D.fault_count disk.new) }
 {
-    let (head, got) = head_bytes(alloc, disk, at, left)?;
+    let (head, got) = head_bytes(alloc, disk, window, at, left)?;
     if got == 0 {
         return Err(JournalFault::Damaged { at });
     }
@@ -125,9 +131,10 @@ fn read_heads<D: Disk>(
     ensures later { D.fault_count disk.old ≤ D.fault_count disk.new }
     ensures failed { IsErrOf result JournalFault.DiskFault → HasRisen (D.fault_count disk.old) (D.fault_count disk.new) }
 {
+    let mut window = Window::empty(alloc);
     let mut places = Vec::new(alloc);
     let mut at = 16;
-    while let Head::Record { size } = read_head(alloc, disk, at, len - at, limit)? {
+    while let Head::Record { size } = read_head(alloc, disk, &mut window, at, len - at, limit)? {
         places.push(Place { at: at + 9, size })?;
         at += 9 + size;
     }

@@ -1,9 +1,10 @@
 // A record is put together, and stored behind the closed gate by four calls of the disk.
-ghost use Rattle.std.specs.Prelude.{◌≡◌, ◌≤◌, ◌<◌, ◌+◌, ◌++◌, ℕ, length, vec_capacity, IfSome, OnOk};
+ghost use Rattle.std.specs.Prelude.{◌≡◌, ◌≤◌, ◌<◌, ◌+◌, ◌++◌, [], ◌∷◌, ℕ, length, vec_len, vec_capacity, IfSome, OnOk};
 ghost use Rattle.std.specs.Option.{option_map};
 ghost use Rattle.disk_api.specs.Content.{BothTold};
 ghost use Rattle.disk_api.specs.Images.{LeavesOnly, IsOnly};
 ghost use Rattle.disk_api.specs.Faults.{CountsStops};
+ghost use Rattle.gate_journal.specs.Format.{spelled};
 ghost use Rattle.gate_journal.specs.Storing.{stored, entry_bytes, IsStoring, IsStoringTold};
 
 use disk_api::{Disk, DiskStop};
@@ -25,6 +26,17 @@ pub(crate) fn spell(buffer: &mut Vec<u8>, payload: &[u8])
     buffer.extend_from_slice(&size).unwrap();
     buffer.extend_from_slice(payload).unwrap();
     buffer.push_reserved(CLOSED);
+}
+
+/// Puts a record behind others, as `Journal::body` gives them, in room that is there.
+pub fn add_to_body(body: &mut Vec<u8>, payload: &[u8])
+    requires { vec_len body.old + (length payload.now + 9) ≤ vec_capacity body.old }
+    ensures { body.new.items ≡ body.old.items ++ spelled (payload.now ∷ []) }
+{
+    let size = (payload.len() as u64).to_be_bytes();
+    body.push_reserved(OPEN);
+    body.extend_from_slice(&size).unwrap();
+    body.extend_from_slice(payload).unwrap();
 }
 
 /// Stores what stands behind a gate, as `spell` puts it together, behind the closed gate that ends

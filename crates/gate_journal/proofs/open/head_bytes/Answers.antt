@@ -1,6 +1,6 @@
-use Rattle.std.proofs.Common.{drop, replicate}
-use Rattle.gate_journal.proofs.Filled.{bytes_behind, zeros_behind}
+use Rattle.std.proofs.Common.{rules}
+use Rattle.gate_journal.proofs.Windows.{head_filled}
 use Rattle.gate_journal.proofs.open.head_bytes.Goals as goal
 
-pub returns-clause-bytes : goal.returns-clause-bytes
-returns-clause-bytes g c = bytes_behind c.fill.new.into (drop c.min-want.result (replicate 9 0)) c.in_ok-got.ensures.bytes (zeros_behind 9 c.min-want.result)
+pub returns-clause-head : goal.returns-clause-head
+returns-clause-head g c = head_filled (g.D.Disk.content c.args.disk.now) c.args.at c.args.left c.min-want.result c.reach.new.window.start c.head.result c.reach.new.window.bytes.items (search rules) (search rules) c.in_ok-reach.ensures.window c.requires.told c.head.ensures.known

@@ -1,6 +1,7 @@
 use Rattle.std.proofs.Common.{◌≡◌, Err, Some, Result, Option, ℕ, IfErr, IfSome, sym, subst, refl, arith, rules, List, ◌-◌, drop}
 use Rattle.gate_journal.specs.Format.{damaged_at}
-use Rattle.gate_journal.specs.Reading.{IsHead, StandsAt}
+use Rattle.gate_journal.specs.Reading.{IsHead, StandsAt, IsWindow}
+use Rattle.gate_journal.proofs.Windows.{empty_window}
 use Rattle.gate_journal.specs.declared.open.Head.{Head}
 use Rattle.gate_journal.specs.declared.open.Head.TheVariants.{Closed, Record}
 use Rattle.gate_journal.specs.declared.open.Layout.{Layout}
@@ -17,6 +18,7 @@ loop-places-init g c = record {
   above = omega arith;
   within = omega (arith, c.requires.long);
   turn = none_in_turn c.new-places.result.items c.new-places.ensures.items;
+  window = empty_window (g.D.Disk.content c.args.disk.now) c.empty-window.result.start c.empty-window.result.bytes.items c.empty-window.ensures;
   told = read_none_told (g.D.Disk.content c.args.disk.now) c.args.limit c.args.len c.new-places.result.items c.new-places.ensures.items c.requires.long c.requires.told;
   rests = rests_started g.D.Disk.content g.D.Disk.may_leave g.D.Disk.moment g.D.Disk.left_since c.args.disk.now g.met.D.Disk.only_now;
   later = omega arith;
@@ -36,6 +38,7 @@ loop-places-preserved g c =
       above = omega (arith, so_far.above);
       within = omega (arith, so_far.within, head.0);
       turn = more_in_turn at _ c.loop-places.places.items c.push.new.self.items _ so_far.turn c.in_ok-push.ensures.items refl refl;
+      window = subst (λ (o : Option (List ℕ)). IfSome o (IsWindow c.read_head.new.window.start c.read_head.new.window.bytes.items)) same c.in_ok-size.ensures.window;
       told = read_more_told content c.args.limit c.args.len at size c.loop-places.places.items c.push.new.self.items _ so_far.told stands c.requires.told (omega (arith, so_far.within, head.0)) head.1 (omega (arith, head.1, c.ranges.limit.fits)) refl c.in_ok-push.ensures.items;
       rests = rests_far g.D.Disk.content g.D.Disk.may_leave g.D.Disk.moment g.D.Disk.left_since c.args.disk.now c.loop-places.disk c.read_head.new.disk so_far.rests c.in_ok-size.ensures.rests;
       later = omega (arith, so_far.later, c.in_ok-size.ensures.later);

@@ -1,4 +1,4 @@
-use Rattle.std.proofs.Common.{◌≡◌, ◌∙◌, ℕ, List, Option, None, Some, sym, ap, subst}
+use Rattle.std.proofs.Common.{subst}
 use Rattle.disk_api.specs.Images.{LeavesOnly}
 use Rattle.gate_journal.specs.Kept.{shows, doubt_of}
 use Rattle.gate_journal.specs.View.{View, StandsForOrDoubt, stake_of}
