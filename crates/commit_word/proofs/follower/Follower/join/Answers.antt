@@ -1,0 +1,34 @@
+use Rattle.std.proofs.Common.{◌≤◌, length, inr, sym, ap, ◌∙◌, subst, arith}
+use Rattle.commit_word.specs.declared.views.View.{View}
+use Rattle.commit_word.specs.Entries.{Rises, ShareNoPlace}
+use Rattle.commit_word.proofs.Prefixes.{shorter_length}
+use Rattle.commit_word.proofs.Places.{joined_apart}
+use Rattle.commit_word.proofs.Moves.{meets, looks}
+use Rattle.commit_word.proofs.follower.Follower.join.Goals as goal
+
+pub join_seat-requires : goal.join_seat-requires
+join_seat-requires c =
+    let one = c.word.invariant.0 in (
+      ap (λ x. x.word) c.self.view_is ∙ (c.requires.word ∙ sym c.word.view_is),
+      ap (λ x. x.word) c.other.view_is ∙ (c.requires.other ∙ sym c.word.view_is),
+      c.other.invariant.0,
+      omega arith,
+      meets c.word.inside.table.shared.key.log _ _ _ _ c.self.invariant.1 c.other.invariant.1,
+    )
+
+pub load-requires : goal.load-requires
+load-requires c =
+    let one = c.word.invariant.0 in
+    let taken = c.join_seat.ensures in (
+      taken.0 ∙ (ap (λ x. x.word) c.self.view_is ∙ (c.requires.word ∙ sym c.word.view_is)),
+      omega arith,
+      looks c.word.inside.table.shared.key.log _ _ _ (ap (λ m. m.1) taken.2 ∙ c.self.invariant.0)
+          (inr (subst (λ (x : View). length x.told ≤ length x.seen) (sym (ap (λ m. m.0) taken.2)) (shorter_length c.self.inside.seat.me.0.seen c.other.inside.seat.me.0.seen))),
+    )
+
+pub returns-clause-apart : goal.returns-clause-apart
+returns-clause-apart c =
+    let mine = c.self.inside.seat.me.0.mine in
+    let theirs = c.other.inside.seat.me.0.mine in
+    let apart = joined_apart mine theirs (subst (λ (x : View). Rises x.mine) (ap (λ m. m.0) c.join_seat.ensures.2) c.load.ensures.2.2.rises) in
+    subst (λ xs. ShareNoPlace xs c.args.other.mine) (ap (λ x. x.mine) c.self.view_is) (subst (λ ys. ShareNoPlace mine ys) (ap (λ x. x.mine) c.other.view_is) apart)

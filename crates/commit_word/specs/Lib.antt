@@ -1,0 +1,4 @@
+pub mod Entries
+pub mod Seats
+pub mod Rule
+pub mod Steps
