@@ -50,6 +50,18 @@ pub joined_right : (xs ys : List (ℕ × List ℕ)) (place : ℕ) (entry : List 
 joined_right xs [] place entry h = absurd h
 joined_right xs (y ∷ ys) place entry h = put_in_has y (joined xs ys) place entry (⊎_elim (λ t. inl t) (λ t. inr (joined_right xs ys place entry t)) h)
 
+length-put_in : (x : ℕ × List ℕ) (ys : List (ℕ × List ℕ)) → length (put_in x ys) ≡ length ys + 1
+length-put_in x [] = refl
+length-put_in x (y ∷ ys) = go (nat_lt x.0 y.0) (length-put_in x ys)
+  where
+    go : (b : Bool) → length (put_in x ys) ≡ length ys + 1 → length (cond b (x ∷ y ∷ ys) (y ∷ put_in x ys)) ≡ length (y ∷ ys) + 1
+    go true rest = omega arith
+    go false rest = omega arith
+
+pub length-joined : (xs ys : List (ℕ × List ℕ)) → length (joined xs ys) ≡ length xs + length ys
+length-joined xs [] = omega arith
+length-joined xs (y ∷ ys) = omega (arith, length-put_in y (joined xs ys), length-joined xs ys)
+
 -- put in at a place that stood nowhere, the list rises as before
 pub rises_put_in : (x : ℕ × List ℕ) (ys : List (ℕ × List ℕ)) → Rises ys → ((entry : List ℕ) → Has ys x.0 entry → ⊥) → Rises (put_in x ys)
 rises_put_in x [] up new = ((λ p e h. absurd h), tt)

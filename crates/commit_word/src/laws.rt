@@ -7,10 +7,12 @@ ghost use Rattle.commit_word.specs.declared.views.View.{View};
 ghost use Rattle.commit_word.specs.Entries.{Has, Rises, IsPast, joined};
 ghost use Rattle.commit_word.specs.Rule.{IsKeptBy};
 
-/// What is joined has the entries of both and no others, and an entry past all others comes last.
+/// What is joined has the entries of both and no others, as many as both have, and an entry past all
+/// others comes last.
 pub fn joined_has_both()
     ensures both { (xs ys : List (ℕ × List ℕ)) (place : ℕ) (entry : List ℕ)
         → Has (joined xs ys) place entry ↔ (Has xs place entry ⊎ Has ys place entry) }
+    ensures count { (xs ys : List (ℕ × List ℕ)) → length (joined xs ys) ≡ length xs + length ys }
     ensures last { (xs : List (ℕ × List ℕ)) (place : ℕ) (entry : List ℕ)
         → ((p : ℕ) (e : List ℕ) → Has xs p e → p < place)
         → joined xs ((place, entry) ∷ []) ≡ xs ++ (place, entry) ∷ [] }
