@@ -111,6 +111,10 @@ joined_apart xs (y ∷ ys) up p d e h k =
     (λ t. joined_apart xs ys both.0 p d e h t)
     k
 
+-- the same of the lists that contracts see
+pub apart_as : (xs ys mine theirs : List (ℕ × List ℕ)) → Rises (joined xs ys) → xs ≡ mine → ys ≡ theirs → ShareNoPlace mine theirs
+apart_as xs ys mine theirs up one other = subst (λ zs. ShareNoPlace zs theirs) one (subst (λ zs. ShareNoPlace xs zs) other (joined_apart xs ys up))
+
 -- an entry past all others at the end
 pub rises_snoc : (xs : List (ℕ × List ℕ)) (place : ℕ) (entry : List ℕ) → Rises xs → ((p : ℕ) (e : List ℕ) → Has xs p e → p < place) → Rises (xs ++ (place, entry) ∷ [])
 rises_snoc [] place entry up below = ((λ p e h. absurd h), tt)

@@ -1,8 +1,8 @@
 use Rattle.std.proofs.Common.{◌≤◌, length, inr, sym, ap, ◌∙◌, subst, arith}
 use Rattle.commit_word.specs.declared.views.View.{View}
-use Rattle.commit_word.specs.Entries.{Rises, ShareNoPlace}
+use Rattle.commit_word.specs.Entries.{Rises}
 use Rattle.commit_word.proofs.Prefixes.{shorter_length}
-use Rattle.commit_word.proofs.Places.{joined_apart}
+use Rattle.commit_word.proofs.Places.{apart_as}
 use Rattle.commit_word.proofs.Moves.{meets, looks}
 use Rattle.commit_word.proofs.follower.Follower.join.Goals as goal
 
@@ -28,7 +28,5 @@ load-requires c =
 
 pub returns-clause-apart : goal.returns-clause-apart
 returns-clause-apart c =
-    let mine = c.self.inside.seat.me.0.mine in
-    let theirs = c.other.inside.seat.me.0.mine in
-    let apart = joined_apart mine theirs (subst (λ (x : View). Rises x.mine) (ap (λ m. m.0) c.join_seat.ensures.2) c.load.ensures.2.2.rises) in
-    subst (λ xs. ShareNoPlace xs c.args.other.mine) (ap (λ x. x.mine) c.self.view_is) (subst (λ ys. ShareNoPlace mine ys) (ap (λ x. x.mine) c.other.view_is) apart)
+    let up = subst (λ (x : View). Rises x.mine) (ap (λ m. m.0) c.join_seat.ensures.2) c.load.ensures.2.2.rises in
+    apart_as c.self.inside.seat.me.0.mine c.other.inside.seat.me.0.mine _ _ up (ap (λ x. x.mine) c.self.view_is) (ap (λ x. x.mine) c.other.view_is)
