@@ -1,0 +1,11 @@
+pub mod Decoded
+pub mod Exact
+pub mod FieldLaws
+pub mod ElementLaws
+pub mod FieldKinds
+pub mod Fronts
+pub mod LineLaws
+pub mod Lists
+pub mod Order
+pub mod Values
+pub mod Wholes

@@ -1,0 +1,9 @@
+pub mod Fields
+pub mod Files
+pub mod Locator
+pub mod Outcome
+pub mod Parts
+pub mod Reading
+pub mod Template
+pub mod Texts
+pub mod Values
