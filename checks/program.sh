@@ -28,12 +28,32 @@ usage='krillc: usage: krillc run
 : >input
 expect 0 'krillc 0.1.0
 ' '' --version
+expect 0 'krillc 0.1.0
+' '' run --version
 expect 2 '' "$usage" --version run
+expect 2 '' "$usage" -h
+expect 2 '' "$usage" run --help run
 "$krillc" --help >help
 grep -q '^usage: krillc run$' help || { echo "checks/program: --help shows no usage"; failed=1; }
 rm -r krill-data
 expect 0 "$(cat help)
 " '' --help
+expect 0 "$(cat help)
+" '' run --help
+for status in 0 2 3 4 5 6; do
+    grep -q "^    $status  " help || { echo "checks/program: --help doesn't list status $status"; failed=1; }
+done
+# The command line that it shows can be copied.
+mkdir copied
+(
+    cd copied
+    PATH=$(dirname "$krillc"):$PATH
+    eval "$(sed -n 's/^    \(echo .*\)$/\1/p' ../help)"
+) >output
+[ "$(cat output)" = '{"authority":"ta","count":1,"reply":"accepted"}' ] || {
+    echo "checks/program: the command line of --help answers: $(cat output)"
+    failed=1
+}
 [ -e krill-data ] && { echo "checks/program: --help made the store's folder"; failed=1; }
 expect 0 '' '' run
 expect 2 '' "$usage"
@@ -169,6 +189,58 @@ cp -r grown krill-data
 printf '%s\n' '{"command":"roas update","ca":"ta","remove":["10.1.0.0/16 => 1"]}' >input
 expect 0 '{"authority":"ta","count":3,"reply":"accepted"}
 ' '' run
+
+# A limit on the size of files, within a journal and within the replies. What was accepted is found again.
+awk 'BEGIN {
+    for (n = 0; n < 40; n++) printf "{\"command\":\"roas update\",\"ca\":\"ta\",\"add\":[\"10.%d.0.0/16 => 1\"]}\n", n
+}' >many
+
+# reopened_after COUNT: the store has that many commands, or one more, whose reply nobody heard.
+reopened_after() {
+    : >input
+    expect 0 '' '' run
+    printf '{"command":"roas update","ca":"ta"}\n' >input
+    next=$("$krillc" run <input)
+    for more in 1 2; do
+        [ "$next" = "{\"authority\":\"ta\",\"count\":$(($1 + more)),\"reply\":\"accepted\"}" ] && return
+    done
+    echo "checks/program: after $1 accepted commands a new one gets $next"
+    failed=1
+}
+
+rm -r krill-data
+(
+    trap '' XFSZ
+    ulimit -f 1
+    "$krillc" run <many 2>error || echo "ended with $?"
+) | cat >output
+accepted=$(grep -c accepted output)
+{
+    for n in $(seq "$accepted"); do printf '{"authority":"ta","count":%d,"reply":"accepted"}\n' "$n"; done
+    printf '{"code":23,"detail":"0","refused":"DiskFault"}\n'
+    for n in $(seq $((39 - accepted))); do printf '{"code":21,"detail":"","refused":"Shut"}\n'; done
+} >want-output
+if [ "$accepted" = 0 ] || ! cmp -s output want-output; then
+    echo "checks/program: other replies where a journal meets a limit"
+    failed=1
+fi
+reopened_after "$accepted"
+
+rm -r krill-data
+got=0
+(
+    trap '' XFSZ
+    ulimit -f 1
+    "$krillc" run <many >output 2>error
+) || got=$?
+fails 'replies that meet a limit' "$got"
+heard=$(wc -l <output)
+for n in $(seq 40); do printf '{"authority":"ta","count":%d,"reply":"accepted"}\n' "$n"; done >want-output
+if [ "$heard" = 0 ] || ! head -c "$(wc -c <output)" want-output | cmp -s - output; then
+    echo "checks/program: other replies where they meet a limit"
+    failed=1
+fi
+reopened_after "$heard"
 
 [ "$failed" = 0 ] && echo "checks/program: ok"
 exit "$failed"

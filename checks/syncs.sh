@@ -57,11 +57,11 @@ expect_syncs() {
     [ "$2" -eq "$3" ] || { echo "checks/syncs: $2 of $3 syncs of $1" >&2; exit 1; }
 }
 
-# Each desk's file is synced, each time with its name in the folder, and once the folder's own name.
+# Each desk's file is synced, and once their names in the folder, and the folder's own name.
 sed -n 's/^fsync([0-9]*<\([^>]*\)>) *= 0$/\1/p' calls >synced
 here=$(pwd -P)
 expect_syncs "different files" "$(sort -u synced | count_of "$here/krill-data/desk-[0-9][0-9]")" 64
-expect_syncs "the folder" "$(count_of "$here/krill-data" <synced)" 64
+expect_syncs "the folder" "$(count_of "$here/krill-data" <synced)" 1
 expect_syncs "the working directory" "$(count_of "$here" <synced)" 1
 
 cat >second <<'LINES'

@@ -1,3 +1,4 @@
+mod Pieces
 mod Replay
 mod Same
 mod Taken

@@ -4,4 +4,7 @@ pub mod FileLaws
 pub mod Images
 pub mod Memory
 pub mod MemoryLaws
+pub mod Over
+pub mod Played
 pub mod Steps
+pub mod Stops

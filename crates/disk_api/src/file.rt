@@ -1,130 +1,140 @@
-// A disk over a real file. It tells nothing of what it holds: it is the trusted edge.
-ghost use Rattle.std.specs.Prelude.{◌≡◌, None, IfOk};
-ghost use Rattle.fault_count.specs.Rise.{HasRisen};
-ghost use Rattle.disk_api.specs.FileLaws.{told_is_left};
+// A disk over a file's calls: a read or a write goes on where a signal interrupts it, and a write until
+// all is written.
+ghost use Rattle.std.specs.Prelude.{◌≡◌, ◌≤◌, length, option_map, Err, OnOk, OnErr, IfOk, IfSome};
+ghost use Rattle.disk_api.specs.Content.{overwritten, Torn, BothTold, Gives};
+ghost use Rattle.disk_api.specs.Images.{Stays, Follows, Reaches, Keeps, Elapses};
+ghost use Rattle.disk_api.specs.Faults.{CountsFaults, CountsStops};
 
-use crate::{Disk, DiskStop};
-use fault_count::raised;
+use crate::{Disk, DiskStop, HostFile, RawFile};
+use raw_calls::CallFault;
 use std::alloc::Global;
-use std::os::unix::fs::FileExt;
-use std::path::Path;
-use std::{fs, io};
 
-/// A file of the operating system. A contract learns nothing of what it holds.
+/// A disk over a file, by default one of the operating system, of which a contract learns nothing.
 #[derive(Drop)]
-pub struct FileDisk {
-    file: fs::File,
-    faults: u64,
+pub struct FileDisk<F = HostFile> {
+    file: F,
 }
 
-impl FileDisk {
+impl FileDisk<HostFile> {
+    ghost use Rattle.disk_api.specs.Over.{file_of, host_faults};
+
     /// Opens the file at `path`, or makes an empty one, and syncs it and its folder's entry.
-    pub fn open(rt: &HostRuntime, _alloc: Global, path: &str) -> Result<FileDisk, DiskStop>
-        ensures { IfOk result (λ disk. disk.faults ≡ 0) }
+    pub fn open(
+        rt: &HostRuntime,
+        _alloc: Global,
+        path: &str,
+    ) -> Result<FileDisk<HostFile>, DiskStop>
+        ensures { IfOk result (λ disk. host_faults (file_of disk) ≡ 0) }
     {
-        match open_synced(rt, path) {
-            Ok(file) => Ok(FileDisk { file, faults: 0 }),
-            Err(error) => Err(stop_of(error)),
+        let file = HostFile::open(rt, path)?;
+        Ok(FileDisk { file })
+    }
+
+    /// The same, but for the folder's entry. Until the caller has synced the folder, a crash may leave it
+    /// without the name of a new file.
+    pub fn open_unnamed(
+        rt: &HostRuntime,
+        _alloc: Global,
+        path: &str,
+    ) -> Result<FileDisk<HostFile>, DiskStop>
+        ensures { IfOk result (λ disk. host_faults (file_of disk) ≡ 0) }
+    {
+        let file = HostFile::open_unnamed(rt, path)?;
+        Ok(FileDisk { file })
+    }
+}
+
+impl<F: RawFile> FileDisk<F> {
+    ghost use Rattle.disk_api.specs.Over.{file_of};
+
+    /// The disk over this file.
+    pub fn over(file: F) -> FileDisk<F>
+        ensures { file_of result ≡ file }
+    {
+        FileDisk { file }
+    }
+}
+
+// Reads once, and again where a signal interrupts it.
+fn read_once<F: RawFile>(file: &mut F, at: u64, into: &mut [u8]) -> Result<usize, DiskStop>
+    ensures within { IfOk result (λ n. n ≤ length into.old) }
+    ensures bytes { IfOk result (λ n. IfSome (F.content file.old) (λ bytes. Gives bytes at n into.old into.new)) }
+    ensures stays { Stays (F.content file.old) (F.content file.new) (F.may_leave file.old) (F.may_leave file.new) }
+    ensures time { Elapses (F.moment file.old) (F.moment file.new) (F.left_since file.old) (F.left_since file.new) (F.may_leave file.new) }
+    ensures faults { CountsFaults (F.fault_count file.old) (F.fault_count file.new) result }
+{
+    'tries: loop {
+        match file.read_at(at, into) {
+            Ok(n) => return Ok(n),
+            Err(CallFault::Interrupted) => {}
+            Err(CallFault::Memory) => return Err(DiskStop::Memory),
+            Err(CallFault::Failed) => return Err(DiskStop::Fault),
         }
     }
-
-    /// Counts a failure, and says what it is.
-    fn stopped(&mut self, error: io::Error) -> DiskStop
-        ensures { HasRisen self.old.faults self.new.faults }
-    {
-        self.faults = raised(self.faults);
-        stop_of(error)
-    }
 }
 
-fn open_synced(rt: &HostRuntime, path: &str) -> io::Result<fs::File> {
-    let file = fs::OpenOptions::new()
-        .read(true)
-        .write(true)
-        .create(true)
-        .open(rt, path)?;
-    file.sync_all()?;
-    sync_folder(rt, path)?;
-    Ok(file)
-}
+// Writes all of the bytes, in as many calls as it takes.
+fn write_all<F: RawFile>(file: &mut F, at: u64, bytes: &[u8]) -> Result<(), DiskStop>
+    requires { IfSome (F.content file.old) (λ old. at ≤ length old) }
 
-/// Without it, a crash could leave the folder without the name of a new file.
-fn sync_folder(rt: &HostRuntime, path: &str) -> io::Result<()> {
-    let folder = match Path::new(path).parent() {
-        Some(folder) if !folder.as_str().is_empty() => folder.as_str(),
-        _ => ".",
-    };
-    fs::File::open(rt, folder)?.sync_all()
-}
-
-fn stop_of(error: io::Error) -> DiskStop {
-    if error.kind() == io::ErrorKind::OutOfMemory {
-        DiskStop::Memory
-    } else {
-        DiskStop::Fault
-    }
-}
-
-fn cut_to(file: &fs::File, len: u64) -> io::Result<()> {
-    if len < file.metadata()?.len() {
-        file.set_len(len)?;
+    ensures written { OnOk result (F.content file.new ≡ option_map (overwritten at bytes.now) (F.content file.old)) }
+    ensures torn { OnErr result (BothTold (Torn at (length bytes.now)) (F.content file.old) (F.content file.new)) }
+    ensures images { Follows (Torn at (length bytes.now)) (F.may_leave file.old) (F.may_leave file.new) }
+    ensures each_image { OnOk result (Reaches (Torn at (length bytes.now)) (F.may_leave file.old) (F.may_leave file.new)) }
+    ensures kept_images { OnErr result (Keeps (F.may_leave file.old) (F.may_leave file.new)) }
+    ensures time { Elapses (F.moment file.old) (F.moment file.new) (F.left_since file.old) (F.left_since file.new) (F.may_leave file.new) }
+    ensures faults { CountsStops (F.fault_count file.old) (F.fault_count file.new) result }
+{
+    let mut done = 0;
+    'pieces: while done < bytes.len() {
+        match file.write_at(at + done as u64, &bytes[done..]) {
+            Ok(n) => done += n,
+            Err(CallFault::Interrupted) => {}
+            Err(CallFault::Memory) => return Err(DiskStop::Memory),
+            Err(CallFault::Failed) => return Err(DiskStop::Fault),
+        }
     }
     Ok(())
 }
 
-impl Disk for FileDisk {
-    ghost content = { λ _. None };
+impl<F: RawFile> Disk for FileDisk<F> {
+    ghost content = { λ disk. F.content disk.file };
 
-    ghost may_leave = { λ _ _. ⊥ };
+    ghost may_leave = { λ disk. F.may_leave disk.file };
 
-    ghost moment = { λ _. 0 };
+    ghost moment = { λ disk. F.moment disk.file };
 
-    ghost left_since = { λ _ _ _. ⊥ };
+    ghost left_since = { λ disk. F.left_since disk.file };
 
-    ghost fault_count = { λ disk. disk.faults };
+    ghost fault_count = { λ disk. F.fault_count disk.file };
 
-    ghost left_as_read = { λ _ bytes is. told_is_left bytes is };
+    ghost left_as_read = { λ disk. F.left_as_read disk.file };
 
-    ghost counts_now = { λ _ _ _ _ left. left };
+    ghost counts_now = { λ disk. F.counts_now disk.file };
 
-    ghost only_now = { λ _ _ left. left };
+    ghost only_now = { λ disk. F.only_now disk.file };
 
     fn len(&mut self, _alloc: Global) -> Result<u64, DiskStop> {
-        match self.file.metadata() {
-            Ok(metadata) => Ok(metadata.len()),
-            Err(error) => Err(self.stopped(error)),
-        }
+        self.file.len()
     }
 
     fn read(&mut self, _alloc: Global, at: u64, into: &mut [u8]) -> Result<usize, DiskStop> {
-        match self.file.read_at(into, at) {
-            Ok(n) => Ok(n),
-            Err(error) => Err(self.stopped(error)),
-        }
+        read_once(&mut self.file, at, into)
     }
 
     fn write_at(&mut self, _alloc: Global, at: u64, bytes: &[u8]) -> Result<(), DiskStop> {
-        match self.file.write_all_at(bytes, at) {
-            Ok(()) => Ok(()),
-            Err(error) => Err(self.stopped(error)),
-        }
+        write_all(&mut self.file, at, bytes)
     }
 
     fn cut(&mut self, _alloc: Global, len: u64) -> Result<(), DiskStop> {
-        match cut_to(&self.file, len) {
-            Ok(()) => Ok(()),
-            Err(error) => Err(self.stopped(error)),
-        }
+        self.file.cut(len)
     }
 
     fn sync(&mut self, _alloc: Global) -> Result<(), DiskStop> {
-        match self.file.sync_all() {
-            Ok(()) => Ok(()),
-            Err(error) => Err(self.stopped(error)),
-        }
+        self.file.sync()
     }
 
     fn faults(&self) -> u64 {
-        self.faults
+        self.file.faults()
     }
 }

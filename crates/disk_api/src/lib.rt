@@ -5,10 +5,16 @@
 
 mod disk;
 mod file;
+mod host_file;
 mod image;
 mod memory;
+mod played_file;
+mod raw_file;
 mod step;
 
 pub use disk::{Disk, DiskStop};
 pub use file::FileDisk;
+pub use host_file::HostFile;
 pub use memory::MemoryDisk;
+pub use played_file::PlayedFile;
+pub use raw_file::RawFile;

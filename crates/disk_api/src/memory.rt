@@ -321,7 +321,7 @@ impl Disk for MemoryDisk {
 }
 
 /// Puts the bytes from `at` on in front of what is in `into`, as far as both reach.
-fn read_from(bytes: &[u8], at: u64, into: &mut [u8]) -> usize
+pub(crate) fn read_from(bytes: &[u8], at: u64, into: &mut [u8]) -> usize
     ensures within { result ≤ length into.old }
     ensures most { result ≡ min (length bytes.now - at) (length into.old) }
     ensures gives { Gives bytes.now at result into.old into.new }

@@ -2,6 +2,8 @@
 use Rattle.std.proofs.Common.{◌≡◌, ℕ, ◌≤◌, List, [], ◌∷◌, sym, ◌∙◌, ap, subst, refl}
 use Rattle.std.specs.Prelude.{Option, None, Some, IfSome, map}
 use Rattle.fault_count.specs.Rise.{HasRisen}
+use Rattle.line_loop.specs.declared.traits.Source.{Ghosts as SourceGhosts}
+use Rattle.line_loop.specs.declared.traits.Sink.{Ghosts as SinkGhosts}
 use Rattle.line_loop.specs.declared.session.SessionEnd.{SessionEnd}
 use Rattle.line_loop.specs.declared.session.SessionEnd.TheVariants.{SourceFault, SinkFault}
 use Rattle.cmd_codec.specs.Spelling.{spelling}
@@ -12,7 +14,7 @@ use Rattle.krill_top.specs.declared.running.RunEnd.{RunEnd}
 use Rattle.krill_top.specs.Replies.{State, anchor_desk}
 use Rattle.krill_top.specs.Stands.{IsIn}
 use Rattle.krill_top.specs.Ended.{Served}
-use Rattle.krill_top.specs.Ends.{status_of, fault_of}
+use Rattle.krill_top.specs.Ends.{run_status, fault_of}
 use Rattle.krill_top.specs.Desks.{IsLeft, AreKept}
 use Rattle.krill_top.specs.Opened.{IsOpened, IsClosed, AreOpened, AreClosed}
 use Rattle.krill_top.specs.Run.{IsOpenedOn, IsClosedOn, ServesOne}
@@ -59,29 +61,29 @@ closed_on content may_leave fault_count desk disk state is closed = record {
   counted = ap fault_count closed.same ∙ is.faults;
 }
 
-module _ {D S K C : Type 0} (content : D → Option (List ℕ)) (may_leave : D → List ℕ → Type 0) (fault_count : D → ℕ) (left : S → Option (List ℕ)) (taken : K → Option (List ℕ)) (source_faults : S → ℕ) (sink_faults : K → ℕ) where
+module _ {D S K C : Type 0} (content : D → Option (List ℕ)) (may_leave : D → List ℕ → Type 0) (fault_count : D → ℕ) (source_of : SourceGhosts S) (sink_of : SinkGhosts K) where
   pub serves : (first : D) (others : List D) (before after : SessionEnds S K C) (end : SessionEnd) (run : RunEnd D S K C)
       (desk served : View D) (rest : List (View D)) (desks closed : List (View D))
       → AreOpened content fault_count 0 (first ∷ others) desks → desks ≡ desk ∷ rest → closed ≡ served ∷ rest → AreClosed content may_leave closed run.desks.items
-      → ((state : State) → IsIn content fault_count desk state → Served content fault_count (left before.source) (left after.source) (taken before.sink) (taken after.sink) state served end)
-      → run.sessions.items ≡ after ∷ [] → run.status ≡ status_of end → run.fault ≡ fault_of end
-      → (end ≡ SourceFault → HasRisen (source_faults before.source) (source_faults after.source))
-      → (end ≡ SinkFault → HasRisen (sink_faults before.sink) (sink_faults after.sink))
-      → source_faults before.source ≤ source_faults after.source → sink_faults before.sink ≤ sink_faults after.sink
+      → ((state : State) → IsIn content fault_count desk state → Served content fault_count source_of sink_of before after state served end)
+      → run.sessions.items ≡ after ∷ [] → run.status ≡ run_status (fault_of end) → run.fault ≡ fault_of end
+      → (end ≡ SourceFault → HasRisen (source_of.faults before.source) (source_of.faults after.source))
+      → (end ≡ SinkFault → HasRisen (sink_of.faults before.sink) (sink_of.faults after.sink))
+      → source_of.faults before.source ≤ source_of.faults after.source → sink_of.faults before.sink ≤ sink_of.faults after.sink
       → after.clock ≡ before.clock
-      → ServesOne content may_leave fault_count left taken source_faults sink_faults first others before run
+      → ServesOne content may_leave fault_count source_of sink_of first others before run
   serves first others before after end run desk served rest desks closed opened desks_are closed_are back session sessions status fault source_fault sink_fault source_later sink_later clock =
       let all_opened : AreOpened content fault_count 0 (first ∷ others) (desk ∷ rest) = subst (λ (l : List (View D)). AreOpened content fault_count 0 (first ∷ others) l) desks_are opened in
       let all_closed : AreClosed content may_leave (served ∷ rest) run.desks.items = subst (λ (l : List (View D)). AreClosed content may_leave l run.desks.items) closed_are back in
       over run.desks.items refl all_opened all_closed
     where
       over : (disks : List D) → run.desks.items ≡ disks → AreOpened content fault_count 0 (first ∷ others) (desk ∷ rest) → AreClosed content may_leave (served ∷ rest) disks
-          → ServesOne content may_leave fault_count left taken source_faults sink_faults first others before run
+          → ServesOne content may_leave fault_count source_of sink_of first others before run
       over [] is all_opened all_closed = absurd all_closed
       over (disk ∷ disks) is all_opened all_closed =
           let state = opened_state content fault_count first desk all_opened.0 in
           let done = session state (opened_in content fault_count first desk all_opened.0) in
-          let grown = serves_grows end done.session.given done.session.written (IsAtEnd (left after.source)) state done.after done.session.replies in
+          let grown = serves_grows end done.session.given done.session.written (IsAtEnd (source_of.left after.source)) state done.after done.session.replies in
           record {
             first' = disk;
             others' = disks;

@@ -1,23 +1,29 @@
 -- What a session does from one state of the anchor's desk on.
 use Rattle.std.specs.Prelude.{ℕ, List, Option}
 use Rattle.std.specs.Io.KnownBytes.{Consumes, Appends, IsAtEnd}
+use Rattle.line_loop.specs.declared.traits.Source.{Ghosts as SourceGhosts}
+use Rattle.line_loop.specs.declared.traits.Sink.{Ghosts as SinkGhosts}
 use Rattle.line_loop.specs.Session.{Serves}
 use Rattle.line_loop.specs.declared.session.SessionEnd.{SessionEnd}
 use Rattle.desk_core.specs.View.{View}
+use Rattle.krill_top.specs.declared.serving.SessionEnds.{SessionEnds}
 use Rattle.krill_top.specs.Replies.{State, IsReply}
 use Rattle.krill_top.specs.Stands.{IsIn}
 
 -- The source gave these bytes, and the sink took the replies to their lines, as far as the session's end
 -- says, while the desk went from the one state to the other.
-pub record Converses (left left' taken taken' : Option (List ℕ)) (begun ended : State) (end : SessionEnd) : Type 0 where
+pub record Converses {S K C : Type 0} (source_of : SourceGhosts S) (sink_of : SinkGhosts K)
+    (before after : SessionEnds S K C) (begun ended : State) (end : SessionEnd) : Type 0 where
   pub given : List ℕ
   pub written : List ℕ
-  pub source : Consumes left left' given
-  pub sink : Appends taken taken' written
-  pub replies : Serves IsReply begun given (IsAtEnd left') written ended end
+  pub source : Consumes (source_of.left before.source) (source_of.left after.source) given
+  pub sink : Appends (sink_of.taken before.sink) (sink_of.taken after.sink) written
+  pub replies : Serves IsReply begun given (IsAtEnd (source_of.left after.source)) written ended end
 
 -- The session was served from a state before, and the desk is in the state after.
-pub record Served {D : Type 0} (content : D → Option (List ℕ)) (fault_count : D → ℕ) (left left' taken taken' : Option (List ℕ)) (before : State) (desk : View D) (end : SessionEnd) : Type 0 where
+pub record Served {D S K C : Type 0} (content : D → Option (List ℕ)) (fault_count : D → ℕ)
+    (source_of : SourceGhosts S) (sink_of : SinkGhosts K) (ends ends' : SessionEnds S K C)
+    (before : State) (desk : View D) (end : SessionEnd) : Type 0 where
   pub after : State
-  pub session : Converses left left' taken taken' before after end
+  pub session : Converses source_of sink_of ends ends' before after end
   pub stands : IsIn content fault_count desk after

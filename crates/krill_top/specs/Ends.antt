@@ -7,15 +7,20 @@ use Rattle.krill_top.specs.declared.faults.OpenFault.TheVariants as opening
 use Rattle.krill_top.specs.declared.faults.RunFault.{RunFault}
 use Rattle.krill_top.specs.declared.faults.RunFault.TheVariants as faults
 
--- 0 where the source was read to its end, 4 where the source or the sink failed, 5 where the session
--- took all that it may, 6 where memory was wanting.
-abbrev pub status_of : SessionEnd → ℕ
-status_of End = 0
-status_of SourceFault = 4
-status_of SinkFault = 4
-status_of (Spent bytes) = 5
-status_of Memory = 6
+-- The status of a run that ended by this fault.
+abbrev pub fault_status : RunFault → ℕ
+fault_status faults.Words = 2
+fault_status (faults.Refused fault) = 3
+fault_status faults.Device = 4
+fault_status (faults.Spent bytes) = 5
+fault_status faults.Memory = 6
 
+-- The status of a run: 0 where it ended well.
+abbrev pub run_status : Option RunFault → ℕ
+run_status None = 0
+run_status (Some fault) = fault_status fault
+
+-- Why a session ended otherwise than by the end of its source.
 abbrev pub fault_of : SessionEnd → Option RunFault
 fault_of End = None
 fault_of SourceFault = Some faults.Device
@@ -23,14 +28,7 @@ fault_of SinkFault = Some faults.Device
 fault_of (Spent bytes) = Some (faults.Spent bytes)
 fault_of Memory = Some faults.Memory
 
--- Where opening was refused: 4 where a disk failed, 6 where memory was wanting, else 3.
-abbrev pub opening_status : OpenFault → ℕ
-opening_status (opening.WrongCount what needed found) = 3
-opening_status (opening.Damaged device at) = 3
-opening_status (opening.BadRecord device at) = 3
-opening_status (opening.DiskFault device) = 4
-opening_status opening.Memory = 6
-
+-- Where opening was refused: a disk that failed is a device, and want of memory is that.
 abbrev pub opening_fault : OpenFault → RunFault
 opening_fault (opening.WrongCount what needed found) = faults.Refused (opening.WrongCount what needed found)
 opening_fault (opening.Damaged device at) = faults.Refused (opening.Damaged device at)

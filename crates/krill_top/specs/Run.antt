@@ -3,6 +3,8 @@ use Rattle.std.specs.Prelude.{◌≡◌, ℕ, ◌≤◌, List, [], ◌∷◌, �
 use Rattle.std.specs.Option.{option_map}
 use Rattle.gate_journal.specs.Format.{opened}
 use Rattle.fault_count.specs.Rise.{HasRisen}
+use Rattle.line_loop.specs.declared.traits.Source.{Ghosts as SourceGhosts}
+use Rattle.line_loop.specs.declared.traits.Sink.{Ghosts as SinkGhosts}
 use Rattle.line_loop.specs.declared.session.SessionEnd.{SessionEnd}
 use Rattle.line_loop.specs.declared.session.SessionEnd.TheVariants.{SourceFault, SinkFault}
 use Rattle.authority_book.specs.declared.commands.Command.{Command}
@@ -15,11 +17,11 @@ use Rattle.krill_top.specs.declared.running.RunEnd.{RunEnd}
 use Rattle.krill_top.specs.Replies.{State, anchor_desk}
 use Rattle.krill_top.specs.Ended.{Converses}
 use Rattle.krill_top.specs.Desks.{StoodFor, IsLeft, AreKept, IsOpeningRefused}
-use Rattle.krill_top.specs.Ends.{status_of, fault_of, opening_status, opening_fault}
+use Rattle.krill_top.specs.Ends.{fault_status, run_status, fault_of, opening_fault}
 
 -- A run that was refused at once: nothing was read or written, and no device was called.
-pub record IsRefused {D S K C : Type 0} (desks : List D) (sessions : List (SessionEnds S K C)) (status : ℕ) (fault : RunFault) (run : RunEnd D S K C) : Type 0 where
-  pub status_is : run.status ≡ status
+pub record IsRefused {D S K C : Type 0} (desks : List D) (sessions : List (SessionEnds S K C)) (fault : RunFault) (run : RunEnd D S K C) : Type 0 where
+  pub status_is : run.status ≡ fault_status fault
   pub fault_is : run.fault ≡ Some fault
   pub desks_untouched : run.desks.items ≡ desks
   pub untouched : run.sessions.items ≡ sessions
@@ -27,7 +29,7 @@ pub record IsRefused {D S K C : Type 0} (desks : List D) (sessions : List (Sessi
 -- A run whose desks weren't all opened: no source was read, and no sink was given anything.
 pub record IsRefusedAtOpening {D S K C : Type 0} (content : D → Option (List ℕ)) (may_leave : D → List ℕ → Type 0) (fault_count : D → ℕ) (desks : List D) (sessions : List (SessionEnds S K C)) (run : RunEnd D S K C) : Type 0 where
   pub fault : OpenFault
-  pub status_is : run.status ≡ opening_status fault
+  pub status_is : run.status ≡ fault_status (opening_fault fault)
   pub fault_is : run.fault ≡ Some (opening_fault fault)
   pub refused : IsOpeningRefused content may_leave fault_count fault desks run.desks.items
   pub untouched : run.sessions.items ≡ sessions
@@ -52,7 +54,8 @@ pub record IsClosedOn {D : Type 0} (content : D → Option (List ℕ)) (may_leav
 -- A run that opened its desks, served its session over the first, and hands all back. The first disk holds
 -- the commands that it held and those that were accepted; the others hold what they held. A fault of the
 -- source or the sink comes only where it failed in this run.
-pub record ServesOne {D S K C : Type 0} (content : D → Option (List ℕ)) (may_leave : D → List ℕ → Type 0) (fault_count : D → ℕ) (left : S → Option (List ℕ)) (taken : K → Option (List ℕ)) (source_faults : S → ℕ) (sink_faults : K → ℕ) (first : D) (others : List D) (before : SessionEnds S K C) (run : RunEnd D S K C) : Type 0 where
+pub record ServesOne {D S K C : Type 0} (content : D → Option (List ℕ)) (may_leave : D → List ℕ → Type 0) (fault_count : D → ℕ) (source_of : SourceGhosts S) (sink_of : SinkGhosts K)
+    (first : D) (others : List D) (before : SessionEnds S K C) (run : RunEnd D S K C) : Type 0 where
   pub first' : D
   pub others' : List D
   pub after : SessionEnds S K C
@@ -62,15 +65,15 @@ pub record ServesOne {D S K C : Type 0} (content : D → Option (List ℕ)) (may
   pub accepted : List Command
   pub desks_back : run.desks.items ≡ first' ∷ others'
   pub handed_back : run.sessions.items ≡ after ∷ []
-  pub status : run.status ≡ status_of end
+  pub status : run.status ≡ run_status (fault_of end)
   pub fault : run.fault ≡ fault_of end
   pub opening : IsOpenedOn content fault_count first begun
-  pub served : Converses (left before.source) (left after.source) (taken before.sink) (taken after.sink) begun ended end
+  pub served : Converses source_of sink_of before after begun ended end
   pub clock : after.clock ≡ before.clock
   pub grows : ended.commands ≡ begun.commands ++ accepted
   pub closing : IsClosedOn content may_leave fault_count first' ended
   pub others_kept : AreKept content may_leave fault_count 1 others others'
-  pub source_fault : end ≡ SourceFault → HasRisen (source_faults before.source) (source_faults after.source)
-  pub sink_fault : end ≡ SinkFault → HasRisen (sink_faults before.sink) (sink_faults after.sink)
-  pub source_later : source_faults before.source ≤ source_faults after.source
-  pub sink_later : sink_faults before.sink ≤ sink_faults after.sink
+  pub source_fault : end ≡ SourceFault → HasRisen (source_of.faults before.source) (source_of.faults after.source)
+  pub sink_fault : end ≡ SinkFault → HasRisen (sink_of.faults before.sink) (sink_of.faults after.sink)
+  pub source_later : source_of.faults before.source ≤ source_of.faults after.source
+  pub sink_later : sink_of.faults before.sink ≤ sink_of.faults after.sink

@@ -1,7 +1,7 @@
 //! Why a run ended otherwise than well.
 
 ghost use Rattle.std.specs.Prelude.{◌≡◌, Some, IfOk, string_bytes};
-ghost use Rattle.krill_top.specs.Ends.{opening_spelling, fault_spelling};
+ghost use Rattle.krill_top.specs.Ends.{opening_spelling, fault_spelling, fault_status};
 
 use std::alloc::{AllocError, Global};
 use std::fmt;
@@ -46,16 +46,31 @@ impl fmt::Display for OpenFault {
 /// Why a run ended with another status than 0.
 #[derive(Clone, Copy, Debug, PartialEq, Eq)]
 pub enum RunFault {
-    /// The words name no command: status 2.
+    /// The words name no command.
     Words,
-    /// Opening was refused for another cause than a disk or memory: status 3.
+    /// Opening was refused for another cause than a disk or memory.
     Refused { fault: OpenFault },
-    /// A disk failed at opening, or a source or a sink: status 4.
+    /// A disk failed at opening, or a source or a sink.
     Device,
-    /// A session took as many bytes as it may: status 5.
+    /// A session took as many bytes as it may.
     Spent { bytes: u64 },
-    /// Memory was wanting: status 6.
+    /// Memory was wanting.
     Memory,
+}
+
+impl RunFault {
+    /// The status of the program that ends so.
+    pub fn status(&self) -> u8
+        ensures { result ≡ fault_status self.now }
+    {
+        match self {
+            RunFault::Words => 2,
+            RunFault::Refused { .. } => 3,
+            RunFault::Device => 4,
+            RunFault::Spent { .. } => 5,
+            RunFault::Memory => 6,
+        }
+    }
 }
 
 /// The line that tells the user of the fault, without the program's name and the line feed.

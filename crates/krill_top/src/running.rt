@@ -3,7 +3,7 @@
 ghost use Rattle.std.specs.Prelude.{◌≡◌, ◌≢◌, ◌↔◌, ◌⊎◌, ◌<◌, ◌≤◌, [], ◌∷◌, List, length, IsTrue, vec_len, vec_capacity};
 ghost use Rattle.desk_core.specs.View.{View};
 ghost use Rattle.krill_top.specs.Words.{AreRunWords};
-ghost use Rattle.krill_top.specs.Ends.{status_of, fault_of, opening_status, opening_fault};
+ghost use Rattle.krill_top.specs.Ends.{run_status, fault_of, opening_fault};
 ghost use Rattle.krill_top.specs.Desks.{most_desks};
 ghost use Rattle.krill_top.specs.Opened.{AreOpened, AreClosed};
 ghost use Rattle.krill_top.specs.Replies.{State};
@@ -36,9 +36,9 @@ const SESSIONS_WRONG: u32 = 2;
 /// stand.
 #[derive(Drop)]
 pub struct RunEnd<D: Disk, S: Source, K: Sink, C: Clock> {
-    /// 0, or by its fault: 2 Words, 3 Refused, 4 Device, 5 Spent, 6 Memory.
+    /// 0, or that of its fault.
     pub status: u8,
-    /// None exactly where the status is 0.
+    /// None where the run ended well.
     pub fault: Option<RunFault>,
     pub desks: Vec<D>,
     pub sessions: Vec<SessionEnds<S, K, C>>,
@@ -54,19 +54,7 @@ fn are_run_words(words: &[String]) -> bool
     }
 }
 
-/// The status of a run whose session ended so.
-fn status_of(ended: SessionEnd) -> u8
-    ensures { result ≡ status_of ended }
-{
-    match ended {
-        SessionEnd::End => 0,
-        SessionEnd::SourceFault | SessionEnd::SinkFault => 4,
-        SessionEnd::Spent { .. } => 5,
-        SessionEnd::Memory => 6,
-    }
-}
-
-/// Why that status isn't 0.
+/// Why a session ended otherwise than by the end of its source.
 fn fault_of(ended: SessionEnd) -> Option<RunFault>
     ensures { result ≡ fault_of ended }
 {
@@ -78,18 +66,7 @@ fn fault_of(ended: SessionEnd) -> Option<RunFault>
     }
 }
 
-/// The status of a run whose opening was refused.
-fn opening_status(fault: OpenFault) -> u8
-    ensures { result ≡ opening_status fault }
-{
-    match fault {
-        OpenFault::WrongCount { .. } | OpenFault::Damaged { .. } | OpenFault::BadRecord { .. } => 3,
-        OpenFault::DiskFault { .. } => 4,
-        OpenFault::Memory => 6,
-    }
-}
-
-/// Why that run ended so.
+/// Why a run ended whose opening was refused.
 fn opening_fault(fault: OpenFault) -> RunFault
     ensures { result ≡ opening_fault fault }
 {
@@ -113,7 +90,7 @@ fn serve_first<D: Disk, S: Source, K: Sink, C: Clock>(
     ensures desks { (first : View D) × (served : View D) × (others : List (View D))
         × (desks.old.items ≡ first ∷ others) × (desks.new.items ≡ served ∷ others)
         × ((before : State) → IsIn D.content D.fault_count first before
-        → Served D.content D.fault_count (S.left ends.old.source) (S.left ends.new.source) (K.taken ends.old.sink) (K.taken ends.new.sink) before served result) }
+        → Served D.content D.fault_count S.Source K.Sink ends.old ends.new before served result) }
     ensures len { vec_len desks.new ≡ vec_len desks.old }
     ensures source_fault { result ≡ SessionEnd.SourceFault →
         HasRisen (S.faults ends.old.source) (S.faults ends.new.source) }
@@ -142,30 +119,40 @@ fn serve_one<D: Disk, S: Source, K: Sink, C: Clock>(
     requires session { length sessions.items ≡ 1 }
     ensures { (first : D) (others : List D) (before : SessionEnds S K C)
         → AreOpened D.content D.fault_count 0 (first ∷ others) opened.desks.items → sessions.items ≡ before ∷ []
-        → ServesOne D.content D.may_leave D.fault_count S.left K.taken S.faults K.faults first others before result }
+        → ServesOne D.content D.may_leave D.fault_count S.Source K.Sink first others before result }
 {
     let mut opened = opened;
     let mut sessions = sessions;
     let mut ends = take_first(&mut sessions);
     let ended = serve_first(alloc, &mut opened.desks, &mut ends);
     put_in_front(&mut sessions, ends);
-    run_end(ended, close_desks(opened), sessions)
+    run_end(fault_of(ended), close_desks(opened), sessions)
 }
 
-// What a run leaves whose session ended so.
+/// The status of a run that ended so.
+fn status_of(fault: &Option<RunFault>) -> u8
+    ensures { result ≡ run_status fault.now }
+{
+    match fault {
+        None => 0,
+        Some(fault) => fault.status(),
+    }
+}
+
+// What a run leaves that ended so.
 fn run_end<D: Disk, S: Source, K: Sink, C: Clock>(
-    ended: SessionEnd,
+    fault: Option<RunFault>,
     desks: Vec<D>,
     sessions: Vec<SessionEnds<S, K, C>>,
 ) -> RunEnd<D, S, K, C>
-    ensures status { result.status ≡ status_of ended }
-    ensures fault { result.fault ≡ fault_of ended }
+    ensures status { result.status ≡ run_status fault }
+    ensures fault { result.fault ≡ fault }
     ensures desks { result.desks.items ≡ desks.items }
     ensures sessions { result.sessions.items ≡ sessions.items }
 {
     RunEnd {
-        status: status_of(ended),
-        fault: fault_of(ended),
+        status: status_of(&fault),
+        fault,
         desks,
         sessions,
     }
@@ -182,34 +169,25 @@ fn run_one<D: Disk, S: Source, K: Sink, C: Clock>(
     ensures { (first : D) (others : List D) (before : SessionEnds S K C)
         → desks.items ≡ first ∷ others → sessions.items ≡ before ∷ []
         → IsRefusedAtOpening D.content D.may_leave D.fault_count desks.items sessions.items result
-        ⊎ ServesOne D.content D.may_leave D.fault_count S.left K.taken S.faults K.faults first others before result }
+        ⊎ ServesOne D.content D.may_leave D.fault_count S.Source K.Sink first others before result }
 {
     match open_desks(alloc, desks) {
         Ok(opened) => serve_one(alloc, opened, sessions),
-        Err(OpeningRefused { disks, fault }) => RunEnd {
-            status: opening_status(fault),
-            fault: Some(opening_fault(fault)),
-            desks: disks,
-            sessions,
-        },
+        Err(OpeningRefused { disks, fault }) => {
+            run_end(Some(opening_fault(fault)), disks, sessions)
+        }
     }
 }
 
 // A run that is refused before any device is called.
 fn refused<D: Disk, S: Source, K: Sink, C: Clock>(
-    status: u8,
     fault: RunFault,
     desks: Vec<D>,
     sessions: Vec<SessionEnds<S, K, C>>,
 ) -> RunEnd<D, S, K, C>
-    ensures { IsRefused desks.items sessions.items status fault result }
+    ensures { IsRefused desks.items sessions.items fault result }
 {
-    RunEnd {
-        status,
-        fault: Some(fault),
-        desks,
-        sessions,
-    }
+    run_end(Some(fault), desks, sessions)
 }
 
 fn wrong_count(what: u32, needed: usize, found: usize) -> RunFault
@@ -234,27 +212,27 @@ pub fn run_krill<D: Disk, S: Source, K: Sink, C: Clock>(
     desks: Vec<D>,
     sessions: Vec<SessionEnds<S, K, C>>,
 ) -> RunEnd<D, S, K, C>
-    ensures words { ¬ AreRunWords words.now → IsRefused desks.items sessions.items 2 faults.Words result }
+    ensures words { ¬ AreRunWords words.now → IsRefused desks.items sessions.items faults.Words result }
     ensures sessions { AreRunWords words.now → length sessions.items ≢ 1
-        → IsRefused desks.items sessions.items 3 (faults.Refused (opening.WrongCount 2 1 (length sessions.items))) result }
+        → IsRefused desks.items sessions.items (faults.Refused (opening.WrongCount 2 1 (length sessions.items))) result }
     ensures desks { AreRunWords words.now → length sessions.items ≡ 1 → length desks.items ≢ most_desks
-        → IsRefused desks.items sessions.items 3 (faults.Refused (opening.WrongCount 0 most_desks (length desks.items))) result }
+        → IsRefused desks.items sessions.items (faults.Refused (opening.WrongCount 0 most_desks (length desks.items))) result }
     ensures served { AreRunWords words.now → length desks.items ≡ most_desks
         → (first : D) (others : List D) (before : SessionEnds S K C)
         → desks.items ≡ first ∷ others → sessions.items ≡ before ∷ []
         → IsRefusedAtOpening D.content D.may_leave D.fault_count desks.items sessions.items result
-        ⊎ ServesOne D.content D.may_leave D.fault_count S.left K.taken S.faults K.faults first others before result }
+        ⊎ ServesOne D.content D.may_leave D.fault_count S.Source K.Sink first others before result }
 {
     if !are_run_words(words) {
-        return refused(2, RunFault::Words, desks, sessions);
+        return refused(RunFault::Words, desks, sessions);
     }
     if sessions.len() != 1 {
         let fault = wrong_count(SESSIONS_WRONG, 1, sessions.len());
-        return refused(3, fault, desks, sessions);
+        return refused(fault, desks, sessions);
     }
     if desks.len() != DESKS {
         let fault = wrong_count(DISKS_WRONG, DESKS, desks.len());
-        return refused(3, fault, desks, sessions);
+        return refused(fault, desks, sessions);
     }
     run_one(alloc, desks, sessions)
 }

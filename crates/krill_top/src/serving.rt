@@ -35,7 +35,7 @@ impl Session {
         ends: &mut SessionEnds<S, K, C>,
     ) -> SessionEnd
         ensures session { (before : State) → IsIn D.content D.fault_count anchor.old.desk before
-            → Served D.content D.fault_count (S.left ends.old.source) (S.left ends.new.source) (K.taken ends.old.sink) (K.taken ends.new.sink) before anchor.new.desk result }
+            → Served D.content D.fault_count S.Source K.Sink ends.old ends.new before anchor.new.desk result }
         ensures source_fault { result ≡ SessionEnd.SourceFault →
             HasRisen (S.faults ends.old.source) (S.faults ends.new.source) }
         ensures sink_fault { result ≡ SessionEnd.SinkFault →

@@ -26,17 +26,22 @@ usage: krillc run
        krillc --help | --version
 
 run reads commands from standard input, one line of JSON each, and writes a line of reply to each on
-standard output. Accepted commands are kept in the folder krill-data of the working directory.
+standard output. Accepted commands are kept in the folder krill-data of the working directory. To
+announce a prefix:
+
+    echo '{\"command\":\"roas update\",\"ca\":\"ta\",\"add\":[\"10.0.0.0/16-24 => 64496\"]}' | krillc run
+
+statuses:
+    0  standard input was read to its end, and every line has its reply
+    2  the words are none of those above
+    3  the store is damaged, or holds what is no accepted command: standard error says where
+    4  a device failed: standard input or output failed or is closed, a file of the store can't be
+       opened, read or written at the start, or another krillc has the store
+    5  standard input brought 2^40 bytes, the most that a session may
+    6  out of memory
 ";
 
 const VERSION: &str = "krillc 0.1.0\n";
-
-/// The statuses of what `main` itself refuses, which are those of the top call.
-const WORDS_STATUS: u8 = 2;
-
-const DEVICE_STATUS: u8 = 4;
-
-const MEMORY_STATUS: u8 = 6;
 
 fn main(rt: HostRuntime) -> ExitCode {
     match words_of(&rt) {
@@ -44,9 +49,9 @@ fn main(rt: HostRuntime) -> ExitCode {
             Some(text) => tell(&rt, text),
             None => open_and_run(&rt, &words),
         },
-        Err(ErrorKind::InvalidData) => refused(&rt, WORDS_STATUS, RunFault::Words),
-        Err(ErrorKind::OutOfMemory) => refused(&rt, MEMORY_STATUS, RunFault::Memory),
-        Err(_) => refused(&rt, DEVICE_STATUS, RunFault::Device),
+        Err(ErrorKind::InvalidData) => refused(&rt, RunFault::Words),
+        Err(ErrorKind::OutOfMemory) => refused(&rt, RunFault::Memory),
+        Err(_) => refused(&rt, RunFault::Device),
     }
 }
 
@@ -59,11 +64,17 @@ fn words_of(rt: &HostRuntime) -> Result<Vec<String>, ErrorKind> {
         .map_err(|_| ErrorKind::OutOfMemory)
 }
 
-/// The text on the program itself that the words ask for, if that is what they ask.
+/// The text on the program itself that the words ask for, alone or behind the command, if that is what
+/// they ask.
 fn asked_text(words: &[String]) -> Option<&'static str> {
-    match words {
-        [word] if word.as_str() == "--help" => Some(HELP),
-        [word] if word.as_str() == "--version" => Some(VERSION),
+    let asked = match words {
+        [word] => word.as_str(),
+        [command, word] if command.as_str() == "run" => word.as_str(),
+        _ => return None,
+    };
+    match asked {
+        "--help" => Some(HELP),
+        "--version" => Some(VERSION),
         _ => None,
     }
 }
@@ -72,10 +83,8 @@ fn asked_text(words: &[String]) -> Option<&'static str> {
 fn tell(rt: &HostRuntime, text: &str) -> ExitCode {
     match rt.stdout().write_all(text.as_bytes()) {
         Ok(()) => ExitCode::SUCCESS,
-        Err(error) if error.kind() == ErrorKind::OutOfMemory => {
-            refused(rt, MEMORY_STATUS, RunFault::Memory)
-        }
-        Err(_) => refused(rt, DEVICE_STATUS, RunFault::Device),
+        Err(error) if error.kind() == ErrorKind::OutOfMemory => { refused(rt, RunFault::Memory) }
+        Err(_) => refused(rt, RunFault::Device),
     }
 }
 
@@ -83,8 +92,8 @@ fn tell(rt: &HostRuntime, text: &str) -> ExitCode {
 fn open_and_run(rt: &HostRuntime, words: &[String]) -> ExitCode {
     match open_store(rt) {
         Ok(store) => run(rt, words, store),
-        Err(DiskStop::Fault) => refused(rt, DEVICE_STATUS, RunFault::Device),
-        Err(DiskStop::Memory) => refused(rt, MEMORY_STATUS, RunFault::Memory),
+        Err(DiskStop::Fault) => refused(rt, RunFault::Device),
+        Err(DiskStop::Memory) => refused(rt, RunFault::Memory),
     }
 }
 
@@ -103,8 +112,10 @@ fn open_store(rt: &HostRuntime) -> Result<Store, DiskStop> {
     let mut desks = Vec::with_capacity(rt.alloc(), DESKS as usize)?;
     for number in 0..DESKS {
         let path = format!(in rt.alloc(); "{FOLDER}/desk-{number:02}")?;
-        desks.push(FileDisk::open(rt, rt.alloc(), &path)?)?;
+        desks.push(FileDisk::open_unnamed(rt, rt.alloc(), &path)?)?;
     }
+    // The names of all files at once.
+    folder.sync_all().map_err(stop_of)?;
     Ok(Store { folder, desks })
 }
 
@@ -154,21 +165,21 @@ fn run(rt: &HostRuntime, words: &[String], store: Store) -> ExitCode {
         clock: SystemClock::new(*rt),
     };
     let Ok(sessions) = vec![in rt.alloc(); session] else {
-        return refused(rt, MEMORY_STATUS, RunFault::Memory);
+        return refused(rt, RunFault::Memory);
     };
     let end = run_krill(rt.alloc(), words, desks, sessions);
     match end.fault {
         None => ExitCode::from(end.status),
-        Some(fault) => refused(rt, end.status, fault),
+        Some(fault) => refused(rt, fault),
     }
 }
 
-/// Writes the fault to standard error, and gives the status.
-fn refused(rt: &HostRuntime, status: u8, fault: RunFault) -> ExitCode {
+/// Writes the fault to standard error, and gives its status.
+fn refused(rt: &HostRuntime, fault: RunFault) -> ExitCode {
     // Where standard error is closed there is nobody left to tell.
     let _told = match fault_text(rt.alloc(), &fault) {
         Ok(text) => eprintln!(rt; "krillc: {text}"),
         Err(_) => eprintln!(rt; "krillc: out of memory"),
     };
-    ExitCode::from(status)
+    ExitCode::from(fault.status())
 }

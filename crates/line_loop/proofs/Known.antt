@@ -8,3 +8,8 @@ use Rattle.std.proofs.Math.Seq.{take-add}
 pub given_more : (a b c : Option (List ℕ)) (all rest : List ℕ) (at n : ℕ) → rest ≡ drop at all → Appends a b (take at all) → Appends b c (take n rest) → Appends a c (take (at + n) all)
 given_more a b c all rest at n is p q =
     subst (Appends a c) (ap (λ (xs : List ℕ). take at all ++ take n xs) is ∙ sym (take-add at n all)) (Appends-trans a b c (take at all) (take n rest) p q)
+
+-- and some more of it, by a call that failed
+pub part_more : (a b c : Option (List ℕ)) (all rest : List ℕ) (at n : ℕ) → rest ≡ drop at all → Appends a b (take at all) → Appends b c (take n rest) → Appends a c (take at all ++ take n (drop at all))
+part_more a b c all rest at n is p q =
+    subst (Appends a c) (ap (λ (xs : List ℕ). take at all ++ take n xs) is) (Appends-trans a b c (take at all) (take n rest) p q)

@@ -5,3 +5,6 @@ pub mod Memory
 pub mod Pending
 pub mod Progress
 pub mod Streams
+pub mod Played
+pub mod Clocks
+pub mod Taking

@@ -1,5 +1,5 @@
 // What answers a session's lines, one at a time.
-ghost use Rattle.std.specs.Prelude.{◌≡◌, ℕ, ◌<◌, ◌≤◌, Bool, false, List, [], ◌++◌, length, take, IfOk, OnOk, OnErr, IfSome, IfNone};
+ghost use Rattle.std.specs.Prelude.{◌≡◌, ℕ, ◌<◌, ◌≤◌, Bool, false, List, [], ◌++◌, length, take, vec_len, IfOk, OnOk, OnErr, IfSome, IfNone};
 ghost use Rattle.line_loop.specs.Pending.{NoFeed, IsTailOf, IsTail};
 ghost use Rattle.line_loop.specs.Progress.{AnswersOne, Advances};
 
@@ -17,9 +17,10 @@ pub trait LineHandler {
 
     /// Answers a line of at most [`crate::LINE_LIMIT`] bytes, at the end of `out`, and says whether it
     /// changed what its reply acknowledges: such a reply is given before the next line is answered.
-    /// An `Err` changes nothing.
+    /// An `Err` changes nothing. Fewer than [`crate::REPLIES_LIMIT`] bytes of replies wait in `out`.
     fn answer(&mut self, alloc: Global, line: &[u8], out: &mut Vec<u8>) -> Result<bool, AllocError>
-        requires { length line.now ≤ 1048576 }
+        requires short { length line.now ≤ 1048576 }
+        requires few { vec_len out.old < 65536 }
         ensures ok { IfOk result (λ changes. (reply : List ℕ) × answers self.old line.now reply changes self.new
             × (out.new.items ≡ out.old.items ++ reply)) }
         ensures err { OnErr result ((self.new ≡ self.old) × (out.new.items ≡ out.old.items)) };
@@ -27,6 +28,7 @@ pub trait LineHandler {
     /// Answers a longer line, whose bytes were not kept: with one reply, whichever they were. It
     /// changes nothing that a reply acknowledges.
     fn refuse_long(&mut self, alloc: Global, out: &mut Vec<u8>) -> Result<(), AllocError>
+        requires { vec_len out.old < 65536 }
         ensures ok { OnOk result ((reply : List ℕ)
             × ((line : List ℕ) → 1048576 < length line → answers self.old line reply false self.new)
             × (out.new.items ≡ out.old.items ++ reply)) }
@@ -41,7 +43,8 @@ fn answer_line<H: LineHandler>(
     n: usize,
     out: &mut Vec<u8>,
 ) -> Result<bool, AllocError>
-    requires { n ≤ length window.now.bytes }
+    requires within { n ≤ length window.now.bytes }
+    requires few { vec_len out.old < 65536 }
     ensures ok { IfOk result (λ changes. (reply : List ℕ) × (out.new.items ≡ out.old.items ++ reply)
         × ((line : List ℕ) → IsTailOf line (take n window.now.bytes) window.now.skips →
         H.answers handler.old line reply changes handler.new)) }
@@ -62,6 +65,7 @@ pub(crate) fn answer_next<H: LineHandler>(
     window: &mut Window,
     out: &mut Vec<u8>,
 ) -> Result<Option<bool>, AllocError>
+    requires { vec_len out.old < 65536 }
     ensures answered { IfOk result (λ found. IfSome found (λ changes. (reply : List ℕ)
         × (out.new.items ≡ out.old.items ++ reply)
         × Advances (AnswersOne H.answers changes) handler.old window.old reply handler.new window.new)) }
@@ -87,6 +91,7 @@ pub(crate) fn answer_last<H: LineHandler>(
     window: &Window,
     out: &mut Vec<u8>,
 ) -> Result<(), AllocError>
+    requires { vec_len out.old < 65536 }
     ensures ok { OnOk result ((reply : List ℕ) × (changes : Bool) × (out.new.items ≡ out.old.items ++ reply)
         × ((tail : List ℕ) → IsTail tail window.now →
         H.answers handler.old tail reply changes handler.new)) }

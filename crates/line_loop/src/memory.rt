@@ -1,7 +1,8 @@
 // Ends in memory, whose calls fail where they are told to.
-ghost use Rattle.std.specs.Prelude.{◌≡◌, ◌≢◌, ◌↔◌, ℕ, ◌+◌, ◌-◌, ◌^◌, ◌<◌, ◌≤◌, Some, Err, List, [], ◌++◌, length, take, drop, min, slice_index, vec_len, IsTrue, IfOk, OnOk};
+ghost use Rattle.std.specs.Prelude.{◌≡◌, ◌≢◌, ◌↔◌, ℕ, ◌+◌, ◌-◌, ◌^◌, ◌<◌, ◌≤◌, Some, Err, List, [], ◌++◌, length, take, drop, min, slice_index, vec_len, IsTrue, IfOk, OnOk, OnErr};
 ghost use Rattle.std.specs.Bool.{OnTrue, OnFalse};
-ghost use Rattle.std.specs.Io.KnownBytes.{ReadConsumes, WriteAppends};
+ghost use Rattle.std.specs.Io.KnownBytes.{ReadConsumes};
+ghost use Rattle.line_loop.specs.Taking.{TakesFront};
 ghost use Rattle.fault_count.specs.Rise.{HasRisen};
 
 use crate::{Clock, Sink, SinkStop, Source, SourceStop};
@@ -86,7 +87,7 @@ impl MemorySource {
 }
 
 // Copies the first bytes as far as there is room, at most so many, and says how many.
-fn copy_front(from: &[u8], into: &mut [u8], most: usize) -> usize
+pub(crate) fn copy_front(from: &[u8], into: &mut [u8], most: usize) -> usize
     ensures count { result ≡ min (length from.now) (min (length into.old) most) }
     ensures bytes { take result into.new ≡ take result from.now }
 {
@@ -180,7 +181,8 @@ impl Sink for MemorySink {
     fn give(&mut self, _alloc: Global, bytes: &[u8]) -> Result<usize, SinkStop>
         ensures piece { IfOk result (λ n. n ≤ length bytes.now) }
         ensures some { IfOk result (λ n. 0 < length bytes.now → 0 < n) }
-        ensures bytes { WriteAppends (Some (sink_bytes self.old)) (Some (sink_bytes self.new)) result bytes.now }
+        ensures bytes { TakesFront (Some (sink_bytes self.old)) (Some (sink_bytes self.new)) result bytes.now }
+        ensures none { OnErr result (sink_bytes self.new ≡ sink_bytes self.old) }
         ensures later { fault_count (sink_schedule self.old) ≤ fault_count (sink_schedule self.new) }
         ensures fault { result ≡ Err SinkStop.Fault →
             HasRisen (fault_count (sink_schedule self.old)) (fault_count (sink_schedule self.new)) }

@@ -10,11 +10,8 @@ ghost use Rattle.line_loop.specs.Session.{Serves, end_of};
 
 use crate::answering::{answer_last, answer_next};
 use crate::window::Window;
-use crate::{LineHandler, SESSION_LIMIT, Sink, SinkStop, Source, SourceStop};
+use crate::{LineHandler, REPLIES_LIMIT, SESSION_LIMIT, Sink, SinkStop, Source, SourceStop};
 use std::alloc::{AllocError, Global};
-
-/// At how many bytes of replies they are given to the sink, though more lines are pending.
-const OUT_LEN: usize = 65_536;
 
 /// How a session ended.
 #[derive(Clone, Copy, Debug, PartialEq, Eq)]
@@ -83,7 +80,7 @@ fn answer_batch<H: LineHandler>(
         match answer_next(alloc, handler, window, out)? {
             None => return Ok(false),
             Some(changes) => {
-                if changes || out.len() >= OUT_LEN {
+                if changes || out.len() >= REPLIES_LIMIT {
                     return Ok(true);
                 }
             }

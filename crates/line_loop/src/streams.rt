@@ -1,170 +1,160 @@
-// Ends over the standard library's readers, writers and clock.
-ghost use Rattle.std.specs.Prelude.{◌≡◌, ◌-◌, ◌^◌, ◌<◌, ◌≤◌, ℕ, None, Err, Option, List, length, take, min, IfOk, OnOk, OnErr};
-ghost use Rattle.std.specs.Io.KnownBytes.{Consumes, IsAtEnd, Keeps, ReadConsumes, WriteAppends};
+// Ends over the calls of readers and writers, which are made again where a signal interrupts them.
+ghost use Rattle.std.specs.Prelude.{◌≡◌, ◌<◌, ◌≤◌, ℕ, Err, List, length, take, IfOk, OnOk};
+ghost use Rattle.std.specs.Io.KnownBytes.{Appends, Keeps, ReadConsumes, WriteAppends};
 ghost use Rattle.fault_count.specs.Rise.{HasRisen};
 
-use crate::{Clock, Sink, SinkStop, Source, SourceStop};
-use fault_count::raised;
+use crate::{HostReader, HostWriter, RawReader, RawWriter, Sink, SinkStop, Source, SourceStop};
+use raw_calls::CallFault;
 use std::alloc::Global;
-use std::io::{ErrorKind, Read, Write};
-use std::time::{SystemTime, UNIX_EPOCH};
-use std::{io, rt};
+use std::io::{Read, Write};
 
-/// A source over a reader. It tells what the reader tells, which is nothing for a file or a pipe.
+/// A source over a reader's calls.
 #[derive(Drop)]
-pub struct StreamSource<R> {
-    from: R,
-    faults: u64,
+pub struct SourceOver<C> {
+    from: C,
 }
 
-impl<R: Read> StreamSource<R> {
-    ghost use Rattle.line_loop.specs.Streams.{source_reader, source_fault_count};
+/// A source over a reader of std. It tells what the reader tells.
+pub type StreamSource<R> = SourceOver<HostReader<R>>;
+
+impl<R: Read> SourceOver<HostReader<R>> {
+    ghost use Rattle.line_loop.specs.Streams.{source_reader, host_reader};
 
     /// A source that has not failed.
-    pub fn new(from: R) -> Self
-        ensures reader { source_reader result ≡ from }
-        ensures fresh { source_fault_count result ≡ 0 }
+    pub fn new(from: R) -> SourceOver<HostReader<R>>
+        ensures { host_reader (source_reader result) ≡ from }
     {
-        StreamSource { from, faults: 0 }
+        SourceOver {
+            from: HostReader::new(from),
+        }
+    }
+}
+
+impl<C: RawReader> SourceOver<C> {
+    ghost use Rattle.line_loop.specs.Streams.{source_reader};
+
+    /// A source over these calls.
+    pub fn over(from: C) -> SourceOver<C>
+        ensures { source_reader result ≡ from }
+    {
+        SourceOver { from }
     }
 }
 
 // Reads once, and again where a signal interrupts it.
-fn read_once<R: Read>(from: &mut R, into: &mut [u8]) -> io::Result<usize>
-    ensures bytes { ReadConsumes (R.remaining from.old) (R.remaining from.new) result into.new }
+fn read_once<C: RawReader>(from: &mut C, into: &mut [u8]) -> Result<usize, SourceStop>
     ensures room { IfOk result (λ n. n ≤ length into.new) }
+    ensures bytes { ReadConsumes (C.left from.old) (C.left from.new) result into.new }
+    ensures later { C.fault_count from.old ≤ C.fault_count from.new }
+    ensures fault { result ≡ Err SourceStop.Fault → HasRisen (C.fault_count from.old) (C.fault_count from.new) }
+    ensures ok { OnOk result (C.fault_count from.new ≡ C.fault_count from.old) }
 {
-    for _ in 0..u64::MAX {
+    'tries: loop {
         match from.read(into) {
-            Err(e) if e.kind() == ErrorKind::Interrupted => {}
-            result => return result,
-        }
-    }
-    Err(io::Error::from(ErrorKind::Interrupted))
-}
-
-impl<R: Read + Drop> Source for StreamSource<R> {
-    ghost use Rattle.line_loop.specs.Streams.{source_reader, source_fault_count};
-
-    ghost left = { λ source. R.remaining (source_reader source) };
-
-    ghost faults = { source_fault_count };
-
-    fn take(&mut self, _alloc: Global, into: &mut [u8]) -> Result<usize, SourceStop>
-        ensures room { IfOk result (λ n. n ≤ length into.new) }
-        ensures bytes { ReadConsumes (R.remaining (source_reader self.old)) (R.remaining (source_reader self.new)) result into.new }
-        ensures later { source_fault_count self.old ≤ source_fault_count self.new }
-        ensures fault { result ≡ Err SourceStop.Fault →
-            HasRisen (source_fault_count self.old) (source_fault_count self.new) }
-        ensures ok { OnOk result (source_fault_count self.new ≡ source_fault_count self.old) }
-    {
-        match read_once(&mut self.from, into) {
-            Ok(n) => Ok(n),
-            Err(e) if e.kind() == ErrorKind::OutOfMemory => Err(SourceStop::Memory),
-            Err(_) => {
-                self.faults = raised(self.faults);
-                Err(SourceStop::Fault)
-            }
+            Ok(n) => return Ok(n),
+            Err(CallFault::Interrupted) => {}
+            Err(CallFault::Memory) => return Err(SourceStop::Memory),
+            Err(CallFault::Failed) => return Err(SourceStop::Fault),
         }
     }
 }
 
-/// A sink over a writer. It tells nothing.
+impl<C: RawReader> Source for SourceOver<C> {
+    ghost use Rattle.line_loop.specs.Streams.{source_reader};
+
+    ghost left = { λ source. C.left (source_reader source) };
+
+    ghost faults = { λ source. C.fault_count (source_reader source) };
+
+    fn take(&mut self, _alloc: Global, into: &mut [u8]) -> Result<usize, SourceStop> {
+        read_once(&mut self.from, into)
+    }
+}
+
+/// A sink over a writer's calls.
 #[derive(Drop)]
-pub struct StreamSink<W> {
-    to: W,
-    faults: u64,
+pub struct SinkOver<C> {
+    to: C,
 }
 
-impl<W: Write> StreamSink<W> {
-    ghost use Rattle.line_loop.specs.Streams.{sink_fault_count};
+/// A sink over a writer of std. It tells what the writer tells.
+pub type StreamSink<W> = SinkOver<HostWriter<W>>;
+
+impl<W: Write> SinkOver<HostWriter<W>> {
+    ghost use Rattle.line_loop.specs.Streams.{sink_writer, host_writer};
 
     /// A sink that has not failed.
-    pub fn new(to: W) -> Self
-        ensures { sink_fault_count result ≡ 0 }
+    pub fn new(to: W) -> SinkOver<HostWriter<W>>
+        ensures { host_writer (sink_writer result) ≡ to }
     {
-        StreamSink { to, faults: 0 }
+        SinkOver {
+            to: HostWriter::new(to),
+        }
     }
 }
 
-// Writes once, and again where a signal interrupts it, and flushes. A write that takes nothing fails.
-fn write_once<W: Write>(to: &mut W, bytes: &[u8]) -> io::Result<usize>
+impl<C: RawWriter> SinkOver<C> {
+    ghost use Rattle.line_loop.specs.Streams.{sink_writer};
+
+    /// A sink over these calls.
+    pub fn over(to: C) -> SinkOver<C>
+        ensures { sink_writer result ≡ to }
+    {
+        SinkOver { to }
+    }
+
+    /// The writer.
+    pub fn calls(&self) -> &C
+        ensures { result.now ≡ sink_writer self.now }
+    {
+        &self.to
+    }
+}
+
+// Writes once, and again where a signal interrupts it.
+fn write_once<C: RawWriter>(to: &mut C, bytes: &[u8]) -> Result<usize, SinkStop>
     ensures piece { IfOk result (λ n. n ≤ length bytes.now) }
     ensures some { IfOk result (λ n. 0 < length bytes.now → 0 < n) }
+    ensures bytes { WriteAppends (C.taken to.old) (C.taken to.new) result bytes.now }
+    ensures later { C.fault_count to.old ≤ C.fault_count to.new }
+    ensures fault { result ≡ Err SinkStop.Fault → HasRisen (C.fault_count to.old) (C.fault_count to.new) }
 {
-    for _ in 0..u64::MAX {
+    'tries: loop {
         match to.write(bytes) {
-            Ok(0) if !bytes.is_empty() => return Err(io::Error::from(ErrorKind::WriteZero)),
-            Ok(n) => {
-                flush_all(to)?;
-                return Ok(n);
-            }
-            Err(e) if e.kind() == ErrorKind::Interrupted => {}
-            Err(e) => return Err(e),
+            Ok(taken) => return Ok(taken),
+            Err(CallFault::Interrupted) => {}
+            Err(CallFault::Memory) => return Err(SinkStop::Memory),
+            Err(CallFault::Failed) => return Err(SinkStop::Fault),
         }
     }
-    Err(io::Error::from(ErrorKind::Interrupted))
 }
 
 // Flushes, and again where a signal interrupts it.
-fn flush_all<W: Write>(to: &mut W) -> io::Result<()> {
-    for _ in 0..u64::MAX {
+fn flush_all<C: RawWriter>(to: &mut C) -> Result<(), SinkStop>
+    ensures bytes { Keeps (C.taken to.old) (C.taken to.new) }
+    ensures later { C.fault_count to.old ≤ C.fault_count to.new }
+    ensures fault { result ≡ Err SinkStop.Fault → HasRisen (C.fault_count to.old) (C.fault_count to.new) }
+{
+    'tries: loop {
         match to.flush() {
-            Err(e) if e.kind() == ErrorKind::Interrupted => {}
-            result => return result,
-        }
-    }
-    Err(io::Error::from(ErrorKind::Interrupted))
-}
-
-impl<W: Write + Drop> Sink for StreamSink<W> {
-    ghost use Rattle.line_loop.specs.Streams.{sink_fault_count};
-
-    ghost taken = { λ _. None };
-
-    ghost faults = { sink_fault_count };
-
-    fn give(&mut self, _alloc: Global, bytes: &[u8]) -> Result<usize, SinkStop>
-        ensures piece { IfOk result (λ n. n ≤ length bytes.now) }
-        ensures some { IfOk result (λ n. 0 < length bytes.now → 0 < n) }
-        ensures bytes { WriteAppends None None result bytes.now }
-        ensures later { sink_fault_count self.old ≤ sink_fault_count self.new }
-        ensures fault { result ≡ Err SinkStop.Fault →
-            HasRisen (sink_fault_count self.old) (sink_fault_count self.new) }
-        ensures ok { OnOk result (sink_fault_count self.new ≡ sink_fault_count self.old) }
-    {
-        match write_once(&mut self.to, bytes) {
-            Ok(n) => Ok(n),
-            Err(e) if e.kind() == ErrorKind::OutOfMemory => Err(SinkStop::Memory),
-            Err(_) => {
-                self.faults = raised(self.faults);
-                Err(SinkStop::Fault)
-            }
+            Ok(()) => return Ok(()),
+            Err(CallFault::Interrupted) => {}
+            Err(CallFault::Memory) => return Err(SinkStop::Memory),
+            Err(CallFault::Failed) => return Err(SinkStop::Fault),
         }
     }
 }
 
-/// The runtime's clock, which gives 0 where it can't be read.
-#[derive(Drop)]
-pub struct SystemClock<R> {
-    rt: R,
-}
+impl<C: RawWriter> Sink for SinkOver<C> {
+    ghost use Rattle.line_loop.specs.Streams.{sink_writer};
 
-impl<R: rt::Clock> SystemClock<R> {
-    /// A clock that asks this runtime.
-    pub fn new(rt: R) -> Self {
-        SystemClock { rt }
-    }
-}
+    ghost taken = { λ sink. C.taken (sink_writer sink) };
 
-impl<R: rt::Clock + Drop> Clock for SystemClock<R> {
-    fn now(&mut self) -> u64 {
-        let Ok(time) = SystemTime::now(&self.rt) else {
-            return 0;
-        };
-        match time.duration_since(UNIX_EPOCH) {
-            Ok(duration) => duration.as_secs(),
-            Err(_) => 0,
-        }
+    ghost faults = { λ sink. C.fault_count (sink_writer sink) };
+
+    fn give(&mut self, _alloc: Global, bytes: &[u8]) -> Result<usize, SinkStop> {
+        let n = write_once(&mut self.to, bytes)?;
+        flush_all(&mut self.to)?;
+        Ok(n)
     }
 }

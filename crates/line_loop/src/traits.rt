@@ -1,6 +1,7 @@
 // The ends of a session as the loop sees them. What an end holds is told or not; its faults are counted.
 ghost use Rattle.std.specs.Prelude.{◌≡◌, ℕ, ◌<◌, ◌≤◌, List, Option, Err, length, IfOk};
-ghost use Rattle.std.specs.Io.KnownBytes.{ReadConsumes, WriteAppends};
+ghost use Rattle.std.specs.Io.KnownBytes.{ReadConsumes};
+ghost use Rattle.line_loop.specs.Taking.{TakesFront};
 ghost use Rattle.fault_count.specs.Rise.{HasRisen};
 
 use std::alloc::Global;
@@ -49,11 +50,12 @@ pub trait Sink: Drop {
     /// How often it has failed.
     ghost faults: { Self → ℕ };
 
-    /// Takes the first bytes, as many as it answers. An `Err` takes none.
+    /// Takes the first bytes, as many as it answers. At an `Err` it may have taken some of the first, as
+    /// where it holds them back and can't hand them on.
     fn give(&mut self, alloc: Global, bytes: &[u8]) -> Result<usize, SinkStop>
         ensures piece { IfOk result (λ n. n ≤ length bytes.now) }
         ensures some { IfOk result (λ n. 0 < length bytes.now → 0 < n) }
-        ensures bytes { WriteAppends (taken self.old) (taken self.new) result bytes.now }
+        ensures bytes { TakesFront (taken self.old) (taken self.new) result bytes.now }
         ensures later { faults self.old ≤ faults self.new }
         ensures fault { result ≡ Err SinkStop.Fault → HasRisen (faults self.old) (faults self.new) };
 }

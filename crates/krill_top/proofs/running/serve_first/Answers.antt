@@ -12,7 +12,7 @@ returns-clause-desks g c = (
   c.take_first.ensures.items,
   c.put_in_front.ensures.items,
   λ before stands. subst
-      (λ (d : View g.row.D.Denot). Served g.D.Disk.content g.D.Disk.fault_count (g.S.Source.left c.args.ends.now.source) (g.S.Source.left c.serve-ended.new.ends.source) (g.K.Sink.taken c.args.ends.now.sink) (g.K.Sink.taken c.serve-ended.new.ends.sink) before d c.serve-ended.result)
+      (λ (d : View g.row.D.Denot). Served g.D.Disk.content g.D.Disk.fault_count g.S.Source g.K.Sink c.args.ends.now c.serve-ended.new.ends before d c.serve-ended.result)
       (sym c.into_desk.ensures)
       (c.serve-ended.ensures.session before (subst (λ (d : View g.row.D.Denot). IsIn g.D.Disk.content g.D.Disk.fault_count d before) (sym c.new-anchor.ensures) stands)),
 )

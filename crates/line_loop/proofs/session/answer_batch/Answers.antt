@@ -1,4 +1,4 @@
-use Rattle.std.proofs.Common.{Bool, subst, arith}
+use Rattle.std.proofs.Common.{Bool, List, ℕ, length, ap, subst, arith}
 use Rattle.line_loop.specs.Progress.{AnswersOne, Advances}
 use Rattle.line_loop.proofs.Steps.{quiet_start, quiet_line, quiet_end, last_line}
 use Rattle.line_loop.proofs.session.answer_batch.Goals as goal
@@ -7,6 +7,7 @@ pub lines-init : goal.lines-init
 lines-init g c = record {
   quiet = quiet_start g.H.LineHandler.answers c.args.handler.now c.args.window.now c.args.out.now.items c.requires;
   no_longer = omega arith;
+  few = omega (arith, ap (λ (xs : List ℕ). length xs) c.requires, c.args.out.now.ok.0);
 }
 
 pub returns-in_err-answer_next-clause-batch : goal.returns-in_err-answer_next-clause-batch
@@ -36,4 +37,5 @@ lines-preserved g c =
           a.0 c.answer_next.new.out.items c.answer_next.new.handler c.answer_next.new.window c.lines.invariant.quiet a.1
           (subst (λ (b : Bool). Advances (AnswersOne g.H.LineHandler.answers b) c.lines.handler c.lines.window a.0 c.answer_next.new.handler c.answer_next.new.window) c.if-changes.false a.2);
       no_longer = omega (arith, fewer, c.lines.invariant.no_longer);
+      few = omega (arith, c.len.ensures, c.if-len-ge-REPLIES_LIMIT.false);
     }

@@ -1,4 +1,4 @@
-use Rattle.std.proofs.Common.{◌≤◌, length}
+use Rattle.std.proofs.Common.{◌≤◌, ◌<◌, length, vec_len}
 use Rattle.line_loop.specs.Progress.{AnswersQuietly, Advances}
 use Rattle.line_loop.proofs.session.answer_batch.Given as goal
 
@@ -6,6 +6,7 @@ abbrev pub invariant-lines : goal.invariant-lines
 invariant-lines g l = record {
   quiet : Advances (AnswersQuietly g.H.LineHandler.answers) l.initial.handler l.initial.window l.out.items l.handler l.window;
   no_longer : length l.window.bytes ≤ length l.initial.window.bytes;
+  few : vec_len l.out < 65536;
 }
 
 abbrev pub decreases-lines : goal.decreases-lines

@@ -1,5 +1,12 @@
+use Rattle.std.proofs.Common.{◌≡◌}
 use Rattle.std.specs.Io.KnownBytes.{Keeps}
 use Rattle.line_loop.proofs.streams.read_once.Given as goal
 
-abbrev pub invariant-loop : goal.invariant-loop
-invariant-loop g l = Keeps (g.R.Read.remaining l.initial.from) (g.R.Read.remaining l.from)
+abbrev pub invariant-tries : goal.invariant-tries
+invariant-tries g l = record {
+  kept : Keeps (g.C.RawReader.left l.fn.from) (g.C.RawReader.left l.from);
+  counted : g.C.RawReader.fault_count l.from ≡ g.C.RawReader.fault_count l.fn.from;
+}
+
+abbrev pub decreases-tries : goal.decreases-tries
+decreases-tries g l = g.C.RawReader.patience l.from
