@@ -1,9 +1,10 @@
 -- The laws of formats of single elements.
-use Rattle.std.proofs.Common.{◌≡◌, ℕ, ◌<◌, ◌^◌, Bool, true, false, ◌&&◌, cond, eqb, ltb, Option, Some, None, List, [], ◌∷◌, length, Result, Ok, Err, refl, sym, ap, ◌∙◌}
+use Rattle.std.proofs.Common.{◌≡◌, ℕ, ◌<◌, ◌^◌, Bool, true, false, ◌&&◌, cond, eqb, ltb, Option, Some, None, List, [], ◌∷◌, length, Result, Ok, Err, refl, sym, ap, ◌∙◌, suc, subst}
 use Rattle.std.specs.Result.{result_ok}
 use Rattle.std.proofs.lemmas.Bool.{eq-eqb, eqb-true, and_parts, and_from}
 use Rattle.der.specs.Tags as tag
 use Rattle.der.specs.Spelling.{unsigned_content, AreBits}
+use Rattle.der.specs.Grammar.{AreBytes}
 use Rattle.der.specs.Reading.{number_of, bits_of}
 use Rattle.der.specs.ContentLaws.{number-again, number-taken, bits_of-again, content-bits}
 use Rattle.der.specs.declared.fault.DerFault.{DerFault}
@@ -35,9 +36,12 @@ short_number-law = tested_front-law number (λ n. ltb n (2 ^ 32)) number-law
 
 pub bits_content-law : IsWhole bits_content
 unfolding bits_in
-bits_content-law = leaf-law (λ (x : ℕ × List ℕ). AreBits x.0 x.1) (λ x. x.0 ∷ x.1) bits_in (record {
-  again = λ x good input. ap result_ok (bits_of-again 0 x.0 x.1 good);
-  taken = λ x bytes input e. let t = content-bits 0 bytes x (found (bits_of 0 bytes) x e) in (t.1, t.0);
+bits_content-law = leaf-law (λ (x : ℕ × List ℕ). AreBits x.0 x.1 × AreBytes x.1) (λ x. x.0 ∷ x.1) bits_in (record {
+  again = λ x good input. ap result_ok (bits_of-again 0 x.0 x.1 good.0);
+  taken = λ x bytes input e.
+      let t = content-bits 0 bytes x (found (bits_of 0 bytes) x e) in
+      let fits : AreBytes (x.0 ∷ x.1) = subst AreBytes t.0 input.bytes in
+      ((t.1, λ i. fits (suc i)), t.0);
 })
 
 pub bits-law : IsFront bits

@@ -3,6 +3,7 @@ use Rattle.std.specs.Prelude.{◌≡◌, ℕ, ◌<◌, ◌^◌, Bool, true, fals
 use Rattle.std.specs.Result.{result_ok}
 use Rattle.der.specs.Tags as tag
 use Rattle.der.specs.Spelling.{unsigned_content, AreBits}
+use Rattle.der.specs.Grammar.{AreBytes}
 use Rattle.der.specs.Reading.{number_of, bits_of}
 use Rattle.der_forms.specs.Form.{Whole, Front}
 use Rattle.der_forms.specs.Forms.{content, leaf, within, tested, tested_front}
@@ -27,7 +28,7 @@ unfoldable pub bits_in : List ℕ → Option (ℕ × List ℕ)
 bits_in bytes = result_ok (bits_of 0 bytes)
 
 abbrev pub bits_content : Whole (ℕ × List ℕ)
-bits_content = leaf (λ x. AreBits x.0 x.1) (λ x. x.0 ∷ x.1) bits_in
+bits_content = leaf (λ x. AreBits x.0 x.1 × AreBytes x.1) (λ x. x.0 ∷ x.1) bits_in
 
 abbrev pub bits : Front (ℕ × List ℕ)
 bits = within tag.bit_string bits_content

@@ -20,8 +20,3 @@ pub use fault::ExtFault;
 pub use ip_addresses::{inherit_ip, read_ip, write_ip};
 pub use laws::{one_as, one_ip, written_as_is_read, written_ip_is_read};
 pub use values::{AsRead, IpRead};
-
-#[cfg(test)]
-mod table;
-#[cfg(test)]
-mod tests;
