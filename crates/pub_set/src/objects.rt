@@ -125,6 +125,7 @@ impl ObjectSet {
     ) -> Result<(), QueryRefused>
         ensures sound { OnOk result (first_refusal base.now (content_at self.old) changes.items ≡ None) }
         ensures applied { OnOk result (IsApplied self.old changes.items self.new) }
+        ensures ascending { IsAscending self.new }
         ensures refused { IfErr result (IsRefusal base.now (content_at self.old) changes.items) }
         ensures kept { OnErr result (self.new ≡ self.old) }
     {

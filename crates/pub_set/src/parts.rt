@@ -55,6 +55,10 @@ impl Uri {
 }
 
 impl fmt::Display for Uri {
+    ghost use Rattle.std.specs.Prelude.{Some};
+
+    ghost output = { λ uri. Some uri };
+
     fn fmt<W: fmt::Write>(&self, f: &mut fmt::Formatter<W>) -> fmt::Result {
         let text = self.text.as_str();
         write!(f, "{text}")
