@@ -1,0 +1,16 @@
+-- A signer over two streams, as the trait sees it.
+use Rattle.std.specs.Prelude.{None}
+use Rattle.signer_api.specs.State.{SignerState}
+use Rattle.signer_api.specs.State.Vouching.{NotTold}
+use Rattle.signer_line.specs.declared.signer.LineSigner.{LineSigner}
+
+abbrev pub line_state : {R W : Type 0} → LineSigner R W → SignerState
+line_state s = record { vouching = NotTold; keys = None; signatures = s.signatures; faults = s.faults }
+
+-- where its answers come from
+abbrev pub line_from : {R W : Type 0} → LineSigner R W → R
+line_from s = s.from
+
+-- where its requests go
+abbrev pub line_to : {R W : Type 0} → LineSigner R W → W
+line_to s = s.to
