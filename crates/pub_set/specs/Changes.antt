@@ -41,7 +41,8 @@ after_all held (change ∷ rest) = after_all (after held change) rest
 
 -- The new set is what the changes make of the old one.
 abbrev pub IsApplied : List Object → List Change → List Object → Type 0
-IsApplied old changes new = (uri : List ℕ) → content_at new uri ≡ after_all (content_at old) changes uri
+IsApplied old changes new =
+    (uri : List ℕ) → content_at new uri ≡ after_all (content_at old) changes uri
 
 -- The change at a URI that makes of what is held there what is wanted.
 abbrev pub difference : List ℕ → Option (List ℕ) → Option (List ℕ) → Option Change
@@ -58,4 +59,5 @@ change_at changes uri = found_at uri_of (λ c. c) changes uri
 -- By rising URI, at each URI the change that makes the new set of the old one, if one is needed.
 pub record IsChanges (old new : List Object) (changes : List Change) : Type 0 where
   pub ascending : Rise uri_of changes
-  pub each : (uri : List ℕ) → change_at changes uri ≡ difference uri (content_at old uri) (content_at new uri)
+  pub each : (uri : List ℕ) →
+      change_at changes uri ≡ difference uri (content_at old uri) (content_at new uri)

@@ -1,5 +1,6 @@
 -- What a query comes to at each URI that it changes.
-use Rattle.std.specs.Prelude.{◌≡◌, ◌≢◌, ℕ, List, [], ◌∷◌, ◌++◌, Option, None, Some, String, unwrap_or}
+use Rattle.std.specs.Prelude.{◌≡◌, ◌≢◌, ℕ, List, [], ◌∷◌, ◌++◌, String}
+use Rattle.std.specs.Prelude.{Option, None, Some, unwrap_or}
 use Rattle.std.specs.String.{string_bytes}
 use Rattle.std.specs.BTreeMap.{BTreeMap}
 use Rattle.std.specs.declared.alloc.Global.{Global}
@@ -23,14 +24,17 @@ drafted held entries uri = unwrap_or (found_at entry_uri (λ e. e.1) entries uri
 
 -- The entries with this noted at the URI.
 abbrev pub IsNoted : List Entry → List ℕ → Option (List ℕ) → List Entry → Type 0
-IsNoted old uri left new = (held : Contents) (at : List ℕ) → drafted held new at ≡ set_at (drafted held old) uri left at
+IsNoted old uri left new =
+    (held : Contents) (at : List ℕ) → drafted held new at ≡ set_at (drafted held old) uri left at
 
 -- The draft is what the changes come to.
 abbrev pub Drafts : Contents → List Change → BTreeMap (String Global) (Option (List ℕ)) → Type 0
-Drafts held changes draft = (uri : List ℕ) → drafted held draft.entries uri ≡ after_all held changes uri
+Drafts held changes draft =
+    (uri : List ℕ) → drafted held draft.entries uri ≡ after_all held changes uri
 
 -- The objects once this stands at the URI.
-pub record IsPut (old : List Object) (uri : List ℕ) (left : Option (List ℕ)) (new : List Object) : Type 0 where
+pub record IsPut (old : List Object) (uri : List ℕ) (left : Option (List ℕ)) (new : List Object)
+    : Type 0 where
   pub ascending : IsAscending new
   pub contents : (at : List ℕ) → content_at new at ≡ set_at (content_at old) uri left at
 

@@ -1,5 +1,7 @@
 -- Sets of objects: lists by rising URI, read as maps from URIs to bytes.
-use Rattle.std.specs.Prelude.{◌≡◌, ℕ, ◌<◌, ◌≤◌, Bool, List, [], ◌∷◌, length, take, drop, slice_index_or, Option, None, Some, Result, Ok, Err, if◌then◌else◌}
+use Rattle.std.specs.Prelude.{◌≡◌, ℕ, ◌<◌, ◌≤◌, Bool, if◌then◌else◌, List, [], ◌∷◌}
+use Rattle.std.specs.Prelude.{length, take, drop, slice_index_or}
+use Rattle.std.specs.Prelude.{Option, None, Some, Result, Ok, Err}
 use Rattle.std.specs.List.{AllByRecursion}
 use Rattle.std.specs.List.Sorted.{IsStrictlySortedBy}
 use Rattle.std.specs.Ordering.{nat_cmp, on, eq_by_cmp}
@@ -19,7 +21,8 @@ is_same = eq_by_cmp uri_cmp
 -- Of things that each have a URI, what is told of the first one at a URI.
 abbrev pub found_at : {X V : Type 0} → (X → List ℕ) → (X → V) → List X → List ℕ → Option V
 found_at uri_of told [] uri = None
-found_at uri_of told (x ∷ rest) uri = if is_same (uri_of x) uri then Some (told x) else found_at uri_of told rest uri
+found_at uri_of told (x ∷ rest) uri =
+    if is_same (uri_of x) uri then Some (told x) else found_at uri_of told rest uri
 
 -- Things by rising URI, each URI once.
 abbrev pub Rise : {X : Type 0} → (X → List ℕ) → List X → Type 0
@@ -55,5 +58,7 @@ IsBefore objects uri = AllAbove uri_at objects uri
 
 -- Where the object at a URI is, or else where it would stand.
 abbrev pub IsPlace : List Object → List ℕ → Result ℕ ℕ → Type 0
-IsPlace objects uri (Ok i) = (i < length objects) × ((d : Object) → (slice_index_or objects i d).uri ≡ uri)
-IsPlace objects uri (Err i) = (i ≤ length objects) × IsBehind (take i objects) uri × IsBefore (drop i objects) uri
+IsPlace objects uri (Ok i) =
+    (i < length objects) × ((d : Object) → (slice_index_or objects i d).uri ≡ uri)
+IsPlace objects uri (Err i) =
+    (i ≤ length objects) × IsBehind (take i objects) uri × IsBefore (drop i objects) uri

@@ -12,7 +12,8 @@ first_pair [] [] = (None, None)
 first_pair (gone ∷ old) [] = (Some gone, None)
 first_pair [] (come ∷ new) = (None, Some come)
 first_pair (gone ∷ old) (come ∷ new) =
-    match_ordering (uri_cmp gone.uri come.uri) (Some gone, None) (Some gone, Some come) (None, Some come)
+    match_ordering (uri_cmp gone.uri come.uri)
+    (Some gone, None) (Some gone, Some come) (None, Some come)
 
 -- What is left without the first object, if it is taken.
 abbrev pub rest_of : Option Object → List Object → List Object

@@ -1,5 +1,6 @@
 -- Which changes of a query are refused (RFC 8181, sections 2.2 and 2.5).
-use Rattle.std.specs.Prelude.{◌≡◌, ℕ, List, [], ◌∷◌, Option, None, Some, nat_eq, IsTrue, if◌then◌else◌}
+use Rattle.std.specs.Prelude.{◌≡◌, ℕ, nat_eq, IsTrue, if◌then◌else◌, List, [], ◌∷◌}
+use Rattle.std.specs.Prelude.{Option, None, Some}
 use Rattle.std.specs.List.{starts_with, AllByRecursion}
 use Rattle.std.specs.Option.{option_map_or}
 use Rattle.std.specs.Str.{bytes_eq}
@@ -7,7 +8,10 @@ use Rattle.sha2.specs.Sha256.{sha256}
 use Rattle.pub_set.specs.declared.steps.Change.{Change}
 use Rattle.pub_set.specs.declared.refusals.QueryRefused.{QueryRefused}
 use Rattle.pub_set.specs.declared.refusals.QueryRefused.TheVariants.{Query, Memory}
-use Rattle.pub_set.specs.declared.refusals.TheConstants.{PERMISSION_FAILURE, OBJECT_ALREADY_PRESENT, NO_OBJECT_PRESENT, NO_OBJECT_MATCHING_HASH}
+use Rattle.pub_set.specs.declared.refusals.TheConstants.{PERMISSION_FAILURE}
+use Rattle.pub_set.specs.declared.refusals.TheConstants.{OBJECT_ALREADY_PRESENT}
+use Rattle.pub_set.specs.declared.refusals.TheConstants.{NO_OBJECT_PRESENT}
+use Rattle.pub_set.specs.declared.refusals.TheConstants.{NO_OBJECT_MATCHING_HASH}
 use Rattle.pub_set.specs.Changes.{Contents, uri_of, hash_of, after}
 
 -- What is wrong with a hash, or with none, where this is held.
@@ -21,7 +25,8 @@ hash_code (Some bytes) (Some hash) =
 -- The code with which a change is refused where this is held at its URI.
 abbrev pub code_of : List ℕ → Option (List ℕ) → Change → Option ℕ
 code_of base held change =
-    if starts_with nat_eq (uri_of change) base then hash_code held (hash_of change) else Some PERMISSION_FAILURE
+    if starts_with nat_eq (uri_of change) base then hash_code held (hash_of change)
+    else Some PERMISSION_FAILURE
 
 -- The code and the URI of the first change that is refused after those before it.
 abbrev pub first_refusal : List ℕ → Contents → List Change → Option (ℕ × List ℕ)

@@ -63,7 +63,8 @@ fn push_difference(
     gone: Option<&Object>,
     come: Option<&Object>,
 ) -> Result<(), AllocError>
-    ensures { OnOk result (changes.new.items ≡ changes.old.items ++ option_to_list (pair_difference (option_copied gone.entry) (option_copied come.entry))) }
+    ensures { OnOk result (changes.new.items ≡ changes.old.items
+        ++ option_to_list (pair_difference (option_copied gone.entry) (option_copied come.entry))) }
 {
     if let Some(change) = difference(alloc, gone, come)? {
         changes.push(change)?;
@@ -77,7 +78,8 @@ fn difference(
     gone: Option<&Object>,
     come: Option<&Object>,
 ) -> Result<Option<Change>, AllocError>
-    ensures { IfOk result (λ change. change ≡ pair_difference (option_copied gone.entry) (option_copied come.entry)) }
+    ensures { IfOk result (λ change.
+        change ≡ pair_difference (option_copied gone.entry) (option_copied come.entry)) }
 {
     let (uri, bytes, replaces) = match (gone, come) {
         (Some(gone), Some(come)) if gone.bytes.as_slice() != come.bytes.as_slice() => {

@@ -25,7 +25,8 @@ pub fn draft_query(
     changes: Vec<Change>,
 ) -> Result<Draft, QueryRefused>
     requires { IsAscending objects.now }
-    ensures sound { IfOk result (λ _. first_refusal base.now (content_at objects.now) changes.items ≡ None) }
+    ensures sound { OnOk result
+        (first_refusal base.now (content_at objects.now) changes.items ≡ None) }
     ensures draft { IfOk result (Drafts (content_at objects.now) changes.items) }
     ensures refused { IfErr result (IsRefusal base.now (content_at objects.now) changes.items) }
 {

@@ -16,8 +16,11 @@ pub fn same_contents_same_set()
 /// The changes between two sets are determined. A query of them over the old set isn't refused where
 /// they are within its base, and makes the new set of the old one.
 pub fn changes_make_the_new_set()
-    ensures determined { (old new : List Object) (xs ys : List Change) → IsChanges old new xs → IsChanges old new ys → xs ≡ ys }
-    ensures applied { (old new : List Object) (changes : List Change) → IsChanges old new changes → IsApplied old changes new }
-    ensures sound { (old new : List Object) (changes : List Change) (base : List ℕ) → IsChanges old new changes
+    ensures determined { (old new : List Object) (xs ys : List Change)
+        → IsChanges old new xs → IsChanges old new ys → xs ≡ ys }
+    ensures applied { (old new : List Object) (changes : List Change)
+        → IsChanges old new changes → IsApplied old changes new }
+    ensures sound { (old new : List Object) (changes : List Change) (base : List ℕ)
+        → IsChanges old new changes
         → AreWithin base changes → first_refusal base (content_at old) changes ≡ None }
 {}

@@ -94,9 +94,12 @@ fn merge_one(
     requires ascending { IsAscending (merged.old.items ++ rest.old.items) }
     requires behind { IsBehind merged.old.items (string_bytes uri) }
     requires room { vec_len merged.old + deque_len rest.old < vec_capacity merged.old }
-    ensures put { IsPut (merged.old.items ++ rest.old.items) (string_bytes uri) left (merged.new.items ++ rest.new.items) }
-    ensures behind { (later : List ℕ) → uri_cmp (string_bytes uri) later ≡ Less → IsBehind merged.new.items later }
-    ensures len { vec_len merged.new + deque_len rest.new ≤ vec_len merged.old + deque_len rest.old + 1 }
+    ensures put { IsPut (merged.old.items ++ rest.old.items) (string_bytes uri) left
+        (merged.new.items ++ rest.new.items) }
+    ensures behind { (later : List ℕ) → uri_cmp (string_bytes uri) later ≡ Less
+        → IsBehind merged.new.items later }
+    ensures len { vec_len merged.new + deque_len rest.new
+        ≤ vec_len merged.old + deque_len rest.old + 1 }
     ensures capacity { vec_capacity merged.old ≤ vec_capacity merged.new }
 {
     let at = uri.as_str();

@@ -123,7 +123,8 @@ impl ObjectSet {
         base: &str,
         changes: Vec<Change>,
     ) -> Result<(), QueryRefused>
-        ensures sound { OnOk result (first_refusal base.now (content_at self.old) changes.items ≡ None) }
+        ensures sound { OnOk result
+            (first_refusal base.now (content_at self.old) changes.items ≡ None) }
         ensures applied { OnOk result (IsApplied self.old changes.items self.new) }
         ensures ascending { IsAscending self.new }
         ensures refused { IfErr result (IsRefusal base.now (content_at self.old) changes.items) }
