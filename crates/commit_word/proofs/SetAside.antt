@@ -5,7 +5,7 @@ use mathlib.Core.Option.{some}
 use lib.ListN.{get_elem?}
 use Rattle.commit_word.specs.declared.views.View.{View}
 use Rattle.commit_word.specs.Entries.{Has, with_coming}
-use Rattle.commit_word.specs.Rule.{IsKeptBy}
+use Rattle.commit_word.specs.Rule.{IsKeptBy, IsMade}
 use Rattle.commit_word.proofs.Prefixes.{prefix_length, slice_get_end}
 
 -- what stands past what was seen is the entry that comes
@@ -29,3 +29,12 @@ made recovered words views owner k entry is =
     let m = k.covered (length owner.seen) low (subst (λ l. length owner.seen < length l) (sym all) (omega arith)) in
     let same : Some entry ≡ Some m.2 = sym (slice_get_end owner.seen entry) ∙ (ap (λ l. slice_get l (length owner.seen)) (sym all) ∙ (k.seats m.0 m.1 m.3).stands (length owner.seen) m.2 m.4) in
     (m.0, m.1, m.3, subst (λ e. Has m.1.mine (length owner.seen) e) (sym (cc same)) m.4)
+
+longer_with_coming : (seen : List (List ℕ)) (coming : Option (List ℕ)) → length seen ≤ length (with_coming seen coming)
+longer_with_coming seen None = omega arith
+longer_with_coming seen (Some e) = omega (arith, length-append seen (e ∷ []))
+
+pub each : (recovered : List (List ℕ)) (words : List ℕ) (views : List View) (owner : View) → IsKeptBy recovered words views owner
+    → (place : ℕ) → length recovered ≤ place → place < length owner.seen → IsMade views place
+each recovered words views owner k place past below =
+    k.covered place past (omega (arith, below, longer_with_coming owner.seen owner.coming))

@@ -5,7 +5,7 @@ ghost use mathlib.Core.Option.{some};
 ghost use lib.ListN.{get_elem?};
 ghost use Rattle.commit_word.specs.declared.views.View.{View};
 ghost use Rattle.commit_word.specs.Entries.{Has, Rises, IsPast, joined};
-ghost use Rattle.commit_word.specs.Rule.{IsKeptBy};
+ghost use Rattle.commit_word.specs.Rule.{IsKeptBy, IsMade};
 
 /// What is joined has the entries of both and no others, as many as both have, and an entry past all
 /// others comes last.
@@ -39,4 +39,12 @@ pub fn one_entry_is_set_aside()
         → IsKeptBy recovered words views owner
         → (entry : List ℕ) → owner.coming ≡ Some entry
         → (by : ℕ) × (v : View) × (get_elem? views by ≡ some v) × Has v.mine (length owner.seen) entry }
+{}
+
+/// Under the rule each place from the recovered count on that the word counts stands in what some
+/// seat made.
+pub fn each_place_was_made()
+    ensures { (recovered : List (List ℕ)) (words : List ℕ) (views : List View) (owner : View)
+        → IsKeptBy recovered words views owner
+        → (place : ℕ) → length recovered ≤ place → place < length owner.seen → IsMade views place }
 {}

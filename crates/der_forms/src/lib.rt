@@ -10,8 +10,8 @@ pub mod tags;
 
 pub use fault::ShapeFault;
 pub use leaves::{
-    are_same, bits, bits_content, constant, exactly, fixed, number, number_content, octet_bits, octets,
-    short_number,
+    are_same, bits, bits_content, constant, exactly, fixed, number, number_content, octet_bits,
+    octets, short_number,
 };
 pub use part::Part;
 pub use readers::{FrontReader, Placed, WholeReader, many, object};

@@ -35,7 +35,11 @@ impl FrontReader for Integers {
 
     ghost format = { λ reader. number_form };
 
-    fn read_front<'a>(&self, _alloc: Global, part: Part<'a>) -> Result<(u64, Part<'a>), ShapeFault> {
+    fn read_front<'a>(
+        &self,
+        _alloc: Global,
+        part: Part<'a>,
+    ) -> Result<(u64, Part<'a>), ShapeFault> {
         number(part)
     }
 

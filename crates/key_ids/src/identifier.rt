@@ -14,7 +14,8 @@ pub struct KeyId {
 }
 
 impl KeyId {
-    /// The identifier of a key, which is given as the content of its BIT STRING.
+    /// The identifier of a key, which is given by the bits of its BIT STRING, without the byte that
+    /// counts the unused ones.
     pub fn of(key: &[u8]) -> KeyId
         ensures { result.bytes ≡ sha1 key.now }
     {

@@ -8,25 +8,21 @@ use Rattle.sha2.specs.Sha256.{sha256}
 use Rattle.pub_set.specs.declared.steps.Change.{Change}
 use Rattle.pub_set.specs.declared.refusals.QueryRefused.{QueryRefused}
 use Rattle.pub_set.specs.declared.refusals.QueryRefused.TheVariants.{Query, Memory}
-use Rattle.pub_set.specs.declared.refusals.TheConstants.{PERMISSION_FAILURE}
-use Rattle.pub_set.specs.declared.refusals.TheConstants.{OBJECT_ALREADY_PRESENT}
-use Rattle.pub_set.specs.declared.refusals.TheConstants.{NO_OBJECT_PRESENT}
-use Rattle.pub_set.specs.declared.refusals.TheConstants.{NO_OBJECT_MATCHING_HASH}
 use Rattle.pub_set.specs.Changes.{Contents, uri_of, hash_of, after}
 
 -- What is wrong with a hash, or with none, where this is held.
 abbrev pub hash_code : Option (List ℕ) → Option (List ℕ) → Option ℕ
 hash_code None None = None
-hash_code (Some bytes) None = Some OBJECT_ALREADY_PRESENT
-hash_code None (Some hash) = Some NO_OBJECT_PRESENT
+hash_code (Some bytes) None = Some 2
+hash_code None (Some hash) = Some 3
 hash_code (Some bytes) (Some hash) =
-    if bytes_eq (sha256 bytes) hash then None else Some NO_OBJECT_MATCHING_HASH
+    if bytes_eq (sha256 bytes) hash then None else Some 4
 
 -- The code with which a change is refused where this is held at its URI.
 abbrev pub code_of : List ℕ → Option (List ℕ) → Change → Option ℕ
 code_of base held change =
     if starts_with nat_eq (uri_of change) base then hash_code held (hash_of change)
-    else Some PERMISSION_FAILURE
+    else Some 1
 
 -- The code and the URI of the first change that is refused after those before it.
 abbrev pub first_refusal : List ℕ → Contents → List Change → Option (ℕ × List ℕ)

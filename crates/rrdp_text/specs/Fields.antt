@@ -56,9 +56,9 @@ hash = record {
   allowed = is_hex;
   spelled = encode_lower;
   value = λ bytes.
-    if length bytes == 64
-    then option_and_then (spelled_so encode_lower bytes) (result_ok (hex_decode_of bytes))
-    else None;
+      if length bytes == 64
+      then option_and_then (spelled_so encode_lower bytes) (result_ok (hex_decode_of bytes))
+      else None;
 }
 
 -- A serial number: decimal without leading zeros, below 2^64.

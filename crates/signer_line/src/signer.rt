@@ -78,15 +78,17 @@ impl<R: Read, W: Write> LineSigner<R, W> {
 }
 
 impl<R: Read + Drop, W: Write + Drop> Signer for LineSigner<R, W> {
-    ghost use Rattle.std.specs.Prelude.{◌≡◌, ◌↔◌, IsTrue, OnOk, IfOk};
+    ghost use Rattle.std.specs.Prelude.{◌≡◌, ◌↔◌, IsTrue, OnOk, IfOk, IfErr};
+    ghost use Rattle.signer_api.specs.declared.signer.SignerStop.TheVariants.{Fault};
     ghost use Rattle.std.specs.Io.KnownBytes.{Appends, Consumes};
     ghost use Rattle.signer_api.specs.State.{Signed, Answers, DropsKey, Tells, Vouches, with_key, with_signature};
-    ghost use Rattle.signer_line.specs.Streams.{line_state, line_from, line_to};
-    ghost use Rattle.signer_line.specs.Lines.{make_request, sign_request, once_request, check_request, key_line, signature_line, once_line, check_line, fed};
+    ghost use Rattle.signer_line.specs.Streams.{line_state, line_from, line_to, Succeeds};
+    ghost use Rattle.signer_line.specs.Lines.{make_request, sign_request, once_request, check_request, drop_request, key_line, signature_line, once_line, check_line, drop_line, fed};
 
     ghost state = { λ signer. line_state signer };
 
     fn make_key(&mut self, _alloc: Global) -> Result<PublicKey, SignerStop>
+        ensures fault { IfErr result (λ stop. stop ≡ Fault) }
         ensures made { Answers (λ key. with_key key.bytes) result (line_state self.old) (line_state self.new) }
         ensures asked { OnOk result (Appends (W.contents (line_to self.old)) (W.contents (line_to self.new))
             (fed make_request)) }
@@ -106,6 +108,7 @@ impl<R: Read + Drop, W: Write + Drop> Signer for LineSigner<R, W> {
         key: &PublicKey,
         digest: &Digest,
     ) -> Result<Signature, SignerStop>
+        ensures fault { IfErr result (λ stop. stop ≡ Fault) }
         ensures signed { Answers
             (λ s. with_signature (record { key = key.now.bytes; digest = digest.now.bytes; signature = s.bytes }))
             result (line_state self.old) (line_state self.new) }
@@ -127,6 +130,7 @@ impl<R: Read + Drop, W: Write + Drop> Signer for LineSigner<R, W> {
     }
 
     fn sign_once(&mut self, _alloc: Global, digest: &Digest) -> Result<OneUse, SignerStop>
+        ensures fault { IfErr result (λ stop. stop ≡ Fault) }
         ensures signed { Answers
             (λ once. with_signature (record { key = once.key.bytes; digest = digest.now.bytes; signature = once.signature.bytes }))
             result (line_state self.old) (line_state self.new) }
@@ -156,6 +160,7 @@ impl<R: Read + Drop, W: Write + Drop> Signer for LineSigner<R, W> {
     ) -> Result<bool, SignerStop>
         ensures answer { IfOk result (λ yes. Tells (line_state self.old)
             → (IsTrue yes ↔ Vouches (line_state self.new) key.now.bytes digest.now.bytes signature.now.bytes)) }
+        ensures fault { IfErr result (λ stop. stop ≡ Fault) }
         ensures stays { Answers (λ _ signer. signer) result (line_state self.old) (line_state self.new) }
         ensures asked { OnOk result (Appends (W.contents (line_to self.old)) (W.contents (line_to self.new))
             (fed (check_request key.now.bytes digest.now.bytes signature.now.bytes))) }
@@ -173,10 +178,19 @@ impl<R: Read + Drop, W: Write + Drop> Signer for LineSigner<R, W> {
         }
     }
 
-    fn drop_key(&mut self, key: &PublicKey) {
-        let line = self.ask(&Request::Discard { key });
-        if !line.is_ok_and(|line| line.as_bytes() == b"done".as_slice()) {
-            let _ = self.failed();
+    fn drop_key(&mut self, key: &PublicKey)
+        ensures dropped { DropsKey key.now.bytes (line_state self.old) (line_state self.new) }
+        // A call that failed is known by the count, which rises but at the last value of a u64.
+        ensures asked { Succeeds self.old.faults self.new.faults → Appends (W.contents (line_to self.old))
+            (W.contents (line_to self.new)) (fed (drop_request key.now.bytes)) }
+        ensures heard { Succeeds self.old.faults self.new.faults → Consumes (R.remaining (line_from self.old))
+            (R.remaining (line_from self.new)) (fed drop_line) }
+    {
+        match self.ask(&Request::Discard { key }) {
+            Ok(line) if line.as_bytes() == b"done".as_slice() => {}
+            _ => {
+                let _ = self.failed();
+            }
         }
     }
 

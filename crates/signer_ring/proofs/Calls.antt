@@ -184,12 +184,26 @@ all_of : {T : Type 0} (Q : T → Type 0) (i : ℕ) (before : SignerState) (old :
 all_of Q i before old (Ok x) is says = λ all. says (subst Tells (at_place old i before before is) (all i before (below old i before is)))
 all_of Q i before old (Err e) is says = says
 
--- What one signer vouches for, the ring does.
+set_at : (xs : List SignerState) (i : ℕ) (x y : SignerState) → slice_get xs i ≡ Some x → slice_get (set xs i y) i ≡ Some y
+set_at [] i x y is = let none : ⊥ = cc in absurd none
+set_at (z ∷ zs) zero x y is = refl
+set_at (z ∷ zs) (suc i) x y is = set_at zs i x y is
+
+one_vouches : {T : Type 0} (P : T → SignerState → Type 0) (i : ℕ) (told : Result T SignerStop) (before called : SignerState) (old new : List SignerState)
+    → Placed i before called old new → IfOk told (λ x. Tells before → P x called)
+    → IfOk (answer_of i told) (λ x. Tells before → IfSome (slice_get new i) (P x))
+one_vouches P i (Ok x) before called old new place says =
+    let there_is : slice_get new i ≡ Some called = ap (λ (xs : List SignerState). slice_get xs i) place.is ∙ set_at old i before called place.was in
+    λ tells. rw there_is (says tells)
+one_vouches P i (Err Stop.Fault) before called old new place says = says
+one_vouches P i (Err Stop.Memory) before called old new place says = says
+
+-- What one signer vouches for, it does in the ring; and the ring does.
 pub vouched_by_one : {T : Type 0} (P : T → SignerState → Type 0) (i : ℕ) (told : Result T SignerStop) (r : Result T RingFault) (before called : SignerState) (old new : List SignerState)
     → Placed i before called old new → r ≡ answer_of i told → IfOk told (λ x. Tells before → P x called)
-    → IfOk r (λ x. IfSome (slice_get old i) (λ at. Tells at → Any (P x) new))
+    → IfOk r (λ x. IfSome (slice_get old i) (λ at. Tells at → IfSome (slice_get new i) (P x)))
 vouched_by_one P i told r before called old new place is says =
-    by_one (λ x. Any (P x) new) before (slice_get old i) r place.was (rw is (one_vouched P i told before called old new place says))
+    by_one (λ x. IfSome (slice_get new i) (P x)) before (slice_get old i) r place.was (rw is (one_vouches P i told before called old new place says))
 
 pub vouched_by_all : {T : Type 0} (P : T → SignerState → Type 0) (i : ℕ) (told : Result T SignerStop) (r : Result T RingFault) (before called : SignerState) (old new : List SignerState)
     → Placed i before called old new → r ≡ answer_of i told → IfOk told (λ x. Tells before → P x called)

@@ -74,7 +74,7 @@ impl<S: Signer> Ring<S> {
             (λ s. with_signature (record { key = key.now.bytes; digest = digest.now.bytes; signature = s.bytes }))
             signer result self.old self.new }
         ensures by_signer { IfOk result (λ s. IfSome (slice_get self.old signer) (λ at. Tells at
-            → Vouched self.new key.now.bytes digest.now.bytes s.bytes)) }
+            → IfSome (slice_get self.new signer) (λ now. Vouches now key.now.bytes digest.now.bytes s.bytes))) }
         ensures vouched { IfOk result (λ s. AllTell self.old
             → Vouched self.new key.now.bytes digest.now.bytes s.bytes) }
         ensures kept { Keeps self.old self.new }
@@ -99,7 +99,7 @@ impl<S: Signer> Ring<S> {
             (λ once. with_signature (record { key = once.key.bytes; digest = digest.now.bytes; signature = once.signature.bytes }))
             signer result self.old self.new }
         ensures by_signer { IfOk result (λ once. IfSome (slice_get self.old signer) (λ at. Tells at
-            → Vouched self.new once.key.bytes digest.now.bytes once.signature.bytes)) }
+            → IfSome (slice_get self.new signer) (λ now. Vouches now once.key.bytes digest.now.bytes once.signature.bytes))) }
         ensures vouched { IfOk result (λ once. AllTell self.old
             → Vouched self.new once.key.bytes digest.now.bytes once.signature.bytes) }
         ensures kept { Keeps self.old self.new }
