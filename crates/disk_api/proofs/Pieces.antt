@@ -231,7 +231,10 @@ pub count_at_ok : {T : Type 0} (before after patience left : ℕ) (value : T) �
 count_at_ok before after patience left value counts = counts.0
 
 pub count_at_interrupted : (before after patience left : ℕ) (fault : CallFault) → fault ≡ Interrupted → CountsAnswer {T = ℕ} before after patience left (Err fault) → (after ≡ before) × (left < patience)
-count_at_interrupted before after patience left fault is counts = subst (λ (f : CallFault). CountsAnswer {T = ℕ} before after patience left (Err f)) is counts
+count_at_interrupted before after patience left fault is counts =
+    let told : (after ≡ before) × (patience ≡ left + 1) = subst (λ (f : CallFault). CountsAnswer {T = ℕ} before after patience left (Err f)) is counts in
+    let used = told.1 in
+    (told.0, omega (arith, used))
 
 pub count_at_memory : (before after patience left : ℕ) (fault : CallFault) → fault ≡ Memory → CountsAnswer {T = ℕ} before after patience left (Err fault) → HasRisen before after
 count_at_memory before after patience left fault is counts = subst (λ (f : CallFault). CountsAnswer {T = ℕ} before after patience left (Err f)) is counts

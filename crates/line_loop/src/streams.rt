@@ -1,7 +1,8 @@
 // Ends over the calls of readers and writers, which are made again where a signal interrupts them.
-ghost use Rattle.std.specs.Prelude.{◌≡◌, ◌<◌, ◌≤◌, ℕ, Err, List, length, take, IfOk, OnOk};
+ghost use Rattle.std.specs.Prelude.{◌≡◌, ◌<◌, ◌≤◌, ℕ, Err, List, length, take, IfOk, OnOk, OnErr};
 ghost use Rattle.std.specs.Io.KnownBytes.{Appends, Keeps, ReadConsumes, WriteAppends};
 ghost use Rattle.fault_count.specs.Rise.{HasRisen};
+ghost use Rattle.line_loop.specs.Taking.{TakesFront};
 
 use crate::{HostReader, HostWriter, RawReader, RawWriter, Sink, SinkStop, Source, SourceStop};
 use raw_calls::CallFault;
@@ -48,6 +49,7 @@ fn read_once<C: RawReader>(from: &mut C, into: &mut [u8]) -> Result<usize, Sourc
     ensures later { C.fault_count from.old ≤ C.fault_count from.new }
     ensures fault { result ≡ Err SourceStop.Fault → HasRisen (C.fault_count from.old) (C.fault_count from.new) }
     ensures ok { OnOk result (C.fault_count from.new ≡ C.fault_count from.old) }
+    ensures stop { OnErr result (HasRisen (C.fault_count from.old) (C.fault_count from.new)) }
 {
     'tries: loop {
         match from.read(into) {
@@ -118,6 +120,8 @@ fn write_once<C: RawWriter>(to: &mut C, bytes: &[u8]) -> Result<usize, SinkStop>
     ensures bytes { WriteAppends (C.taken to.old) (C.taken to.new) result bytes.now }
     ensures later { C.fault_count to.old ≤ C.fault_count to.new }
     ensures fault { result ≡ Err SinkStop.Fault → HasRisen (C.fault_count to.old) (C.fault_count to.new) }
+    ensures ok { OnOk result (C.fault_count to.new ≡ C.fault_count to.old) }
+    ensures stop { OnErr result (HasRisen (C.fault_count to.old) (C.fault_count to.new)) }
 {
     'tries: loop {
         match to.write(bytes) {
@@ -134,6 +138,8 @@ fn flush_all<C: RawWriter>(to: &mut C) -> Result<(), SinkStop>
     ensures bytes { Keeps (C.taken to.old) (C.taken to.new) }
     ensures later { C.fault_count to.old ≤ C.fault_count to.new }
     ensures fault { result ≡ Err SinkStop.Fault → HasRisen (C.fault_count to.old) (C.fault_count to.new) }
+    ensures ok { OnOk result (C.fault_count to.new ≡ C.fault_count to.old) }
+    ensures stop { OnErr result (HasRisen (C.fault_count to.old) (C.fault_count to.new)) }
 {
     'tries: loop {
         match to.flush() {
@@ -152,7 +158,17 @@ impl<C: RawWriter> Sink for SinkOver<C> {
 
     ghost faults = { λ sink. C.fault_count (sink_writer sink) };
 
-    fn give(&mut self, _alloc: Global, bytes: &[u8]) -> Result<usize, SinkStop> {
+    fn give(&mut self, _alloc: Global, bytes: &[u8]) -> Result<usize, SinkStop>
+        ensures piece { IfOk result (λ n. n ≤ length bytes.now) }
+        ensures some { IfOk result (λ n. 0 < length bytes.now → 0 < n) }
+        ensures bytes { TakesFront (C.taken (sink_writer self.old)) (C.taken (sink_writer self.new)) result bytes.now }
+        ensures later { C.fault_count (sink_writer self.old) ≤ C.fault_count (sink_writer self.new) }
+        ensures fault { result ≡ Err SinkStop.Fault
+            → HasRisen (C.fault_count (sink_writer self.old)) (C.fault_count (sink_writer self.new)) }
+        // No call that failed is passed over, and none is told but where one failed.
+        ensures ok { OnOk result (C.fault_count (sink_writer self.new) ≡ C.fault_count (sink_writer self.old)) }
+        ensures stop { OnErr result (HasRisen (C.fault_count (sink_writer self.old)) (C.fault_count (sink_writer self.new))) }
+    {
         let n = write_once(&mut self.to, bytes)?;
         flush_all(&mut self.to)?;
         Ok(n)

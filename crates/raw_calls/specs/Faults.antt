@@ -1,5 +1,5 @@
 -- How std's kinds of errors are called, and what a count of failures shows of an answer.
-use Rattle.std.specs.Prelude.{◌≡◌, ◌<◌, ℕ, Result, Ok, Err}
+use Rattle.std.specs.Prelude.{◌≡◌, ◌+◌, ℕ, Result, Ok, Err}
 use Rattle.fault_count.specs.Rise.{HasRisen}
 use Rattle.std.specs.declared.io.ErrorKind.{ErrorKind}
 use Rattle.std.specs.declared.io.ErrorKind.TheVariants as kinds
@@ -15,7 +15,7 @@ call_fault _ = Failed
 -- interruption uses one of these up, and every other fault is a failure.
 abbrev pub CountsAnswer : {T : Type 0} → ℕ → ℕ → ℕ → ℕ → Result T CallFault → Type 0
 CountsAnswer before after patience left (Ok value) = (after ≡ before) × (left ≡ patience)
-CountsAnswer before after patience left (Err Interrupted) = (after ≡ before) × (left < patience)
+CountsAnswer before after patience left (Err Interrupted) = (after ≡ before) × (patience ≡ left + 1)
 CountsAnswer before after patience left (Err Memory) = HasRisen before after
 CountsAnswer before after patience left (Err Failed) = HasRisen before after
 

@@ -57,6 +57,7 @@ pub fn taken(answer: Result<usize, CallFault>, len: usize) -> Result<usize, Call
     ensures ok { IfOk result (λ n. (answer ≡ Ok n) × (0 < len → 0 < n)) }
     ensures some { IfOk answer (λ n. 0 < n → result ≡ Ok n) }
     ensures none { IfOk answer (λ n. len ≡ 0 → result ≡ Ok n) }
+    ensures zero { IfOk answer (λ n. n ≡ 0 → 0 < len → result ≡ Err CallFault.Failed) }
     ensures err { OnErr answer (result ≡ answer) }
 {
     match answer {
