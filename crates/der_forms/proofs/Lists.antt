@@ -8,10 +8,6 @@ use Rattle.der_forms.specs.Form.{Front}
 use Rattle.der_forms.specs.Forms.{many}
 use Rattle.der_forms.specs.ListLaws.{IsMoving, many-read, many-none}
 
--- A part's place is one.
-pub part-place : (part : Part) → IsPlace (place part)
-part-place part = record { input = record { bytes = part.are_bytes; short = part.short }; ends = part.ends }
-
 -- The values so far, and then those of the place that was come to.
 abbrev pub GoesOn : {A : Type 0} → Front A → Place → List A → Place → Type 0
 GoesOn f p xs q = (many f).read p ≡ ((many f).read q >>= (λ ys. Ok (xs ++ ys)))

@@ -7,7 +7,8 @@ use Rattle.der.specs.Spelling.{spelled}
 use Rattle.der.specs.Reading.{element_at}
 use Rattle.der.specs.ContentLaws.{part-fits}
 use Rattle.der.specs.ElementLaws.{element-taken, longer}
-use Rattle.der_forms.specs.Place.{Place, IsInput, IsPlace, start}
+use Rattle.der_forms.specs.Place.{Place, IsInput, IsPlace, place, start}
+use Rattle.der_forms.specs.declared.part.Part.{Part}
 use Rattle.der_forms.specs.Form.{IsBehind}
 
 -- Parts of bytes are bytes.
@@ -105,3 +106,7 @@ element-parts at tag bytes content rest fits e =
       content_bytes = part-fits tag bytes content rest fits t.0;
       rest_bytes = rest-bytes (spelled tag content) rest (subst AreBytes t.0 fits);
     }
+
+-- A part's place is one.
+pub part-place : (part : Part) → IsPlace (place part)
+part-place part = record { input = record { bytes = part.are_bytes; short = part.short }; ends = part.ends }

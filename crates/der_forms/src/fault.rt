@@ -33,3 +33,19 @@ impl<T: Drop> From<AllocFailed<T>> for ShapeFault {
         ShapeFault::Memory
     }
 }
+
+impl ShapeFault {
+    ghost use Rattle.der_forms.specs.Forms.{later};
+
+    /// The later of two faults: what is told where neither of two readings takes the bytes.
+    pub fn later(self, other: ShapeFault) -> ShapeFault
+        ensures { result ≡ later self other }
+    {
+        match (self, other) {
+            (ShapeFault::Shape { at: first }, ShapeFault::Shape { at: second }) => ShapeFault::Shape {
+                at: if first < second { second } else { first },
+            },
+            _ => ShapeFault::Memory,
+        }
+    }
+}

@@ -2,7 +2,8 @@ use Rattle.std.proofs.Common.{List, [], ◌∷◌, map, sym, ap, subst, ◌∙�
 use Rattle.std.proofs.lemmas.List.{map-append}
 use Rattle.std.proofs.lemmas.Result.{err_from_is_err_and}
 use Rattle.der_forms.specs.Place.{place}
-use Rattle.der_forms.proofs.Lists.{GoesOn, part-place, at-first, one-more, at-last, stopped, fewer-left}
+use Rattle.der_forms.proofs.Lists.{GoesOn, at-first, one-more, at-last, stopped, fewer-left}
+use Rattle.der_forms.specs.PlaceLaws.{part-place}
 use Rattle.der_forms.proofs.readers.many.Goals as goal
 
 pub loop-left-init : goal.loop-left-init

@@ -1,0 +1,15 @@
+//! The formats of a certificate's number resources (RFC 3779), read as parts of an object: IP address
+//! blocks and AS identifiers.
+#![tactic(auto)]
+
+mod as_reading;
+mod blocks;
+mod choices;
+mod ip_reading;
+mod leading;
+mod values;
+
+pub use as_reading::{as_content, as_identifiers};
+pub use ip_reading::{ip_blocks, ip_content};
+pub use leading::{kept_of_first, kept_of_last, push_leading, push_leading_of_last};
+pub use values::{AsRead, IpRead};
