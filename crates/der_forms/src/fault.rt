@@ -42,9 +42,10 @@ impl ShapeFault {
         ensures { result ≡ later self other }
     {
         match (self, other) {
-            (ShapeFault::Shape { at: first }, ShapeFault::Shape { at: second }) => ShapeFault::Shape {
-                at: if first < second { second } else { first },
-            },
+            (ShapeFault::Shape { at: first }, ShapeFault::Shape { at: second }) =>
+                ShapeFault::Shape {
+                    at: if first < second { second } else { first },
+                },
             _ => ShapeFault::Memory,
         }
     }

@@ -43,6 +43,7 @@ as_kinds = record { back = back; there = there }
       | inl same ↦ rw (eq-eqb y.0 y.1 same) (omega arith, ap (λ (n : ℕ). (y.0, n)) same)
       | inr differ ↦ rw (ne_eqb y.0 y.1 differ) (((omega arith, good.1), lt-ltb y.0 y.1 (omega arith)), refl)
     ]
+
     there : (x : ℕ ⊎ (ℕ × ℕ)) → EitherOf number.good as_ends.good x → as_good (as_span x) × (as_kind (as_span x) ≡ x)
     there (inl n) good = ((omega arith, good), rw (eq-eqb n n refl) refl)
     there (inr span) good =
@@ -81,9 +82,11 @@ leading_inverse size is = record { back = back; there = there }
         let bytes : List ℕ = leading_bytes size y.0 y.1 in
         let said = leading_said size (spare y.0) bytes y.0 y.1 is good.0 good.1 good.2 refl refl in
         let count : length bytes ≡ octets y.0 = length-high_first (octets y.0) _ in
-        let few : ltb (size / 8) (length bytes) ≡ false = le-ltb (size / 8) (length bytes) (omega (arith, count, good.0, is.whole)) in
-        ((leading_bits size y.0 y.1 good.0 good.1 good.2, high-bytes _ _),
-        rw few (λ i. Some (said.len_is i, said.address i)))
+        let few : ltb (size / 8) (length bytes) ≡ false = le-ltb (size / 8) (length bytes) (omega (arith, count, good.0, is.whole)) in (
+          (leading_bits size y.0 y.1 good.0 good.1 good.2, high-bytes _ _),
+          rw few (λ i. Some (said.len_is i, said.address i)),
+        )
+
     there : (x : ℕ × List ℕ) (y : ℕ × ℕ) → bits.good x → leading_in size x ≡ Some y → leading_good size y × (leading_out size y ≡ x)
     there x y good e =
         let p = passed (ltb (size / 8) (length x.1)) (8 * length x.1 - x.0, number_from_digits 256 x.1 * 2 ^ (size - 8 * length x.1)) y e in
@@ -127,6 +130,7 @@ ends_inverse size = record { back = back; there = there }
         let last : last_of size (len, y.1 - (p - 1)) ≡ y.1 = omega (arith, f.size, some) in
         let first-test : leb y.0 y.1 ≡ true = le-leb y.0 y.1 good.0 in
         ((low, high), rw (last, first-test, eq-eqb (kept 0 size y.0) (kept 0 size y.0) refl, eq-eqb len len refl, good.2) refl)
+
     there : (x : (ℕ × ℕ) × (ℕ × ℕ)) (y : ℕ × ℕ) → leading_good size x.0 × leading_good size x.1 → ends_in size x ≡ Some y → ends_good size y × (ends_out size y ≡ x)
     there x y good e =
         let last : ℕ = last_of size x.1 in
@@ -167,6 +171,7 @@ address_kinds size = record { back = back; there = there }
           rw found.1 ((prefix.short, omega (arith, good.0, good.1), prefix.no_host_bits), ap (λ (n : ℕ). (y.0, n)) last)
       | inr none ↦ rw none ((good.0, good.1, none), refl)
     ]
+
     there : (x : (ℕ × ℕ) ⊎ (ℕ × ℕ)) → EitherOf (leading_good size) (ends_good size) x → address_good size (address_span size x) × (address_kind size (address_span size x) ≡ x)
     there (inl y) good =
         let some = two_some (size - y.0) in
@@ -211,6 +216,7 @@ choice_kinds family = record { back = back; there = there }
     back : (y : Option (List (ℕ × ℕ))) → choice_good family y → EitherOf (λ (x : Unit {0}). Unit {0}) (blocks family).good (choice_kind y) × (choice_value (choice_kind y) ≡ y)
     back None good = (tt, refl)
     back (Some spans) good = (good, refl)
+
     there : (x : Unit {0} ⊎ List (ℕ × ℕ)) → EitherOf (λ (x : Unit {0}). Unit {0}) (blocks family).good x → choice_good family (choice_value x) × (choice_kind (choice_value x) ≡ x)
     there (inl x) good = (tt, refl)
     there (inr spans) good = (good, refl)

@@ -15,11 +15,7 @@ use std::alloc::Global;
 
 /// What stands for a family: None where its numbers are the issuer's.
 #[tactic(auto, unfolding(crate::specs::Formats::choice))]
-pub fn choice(
-    alloc: Global,
-    family: Family,
-    part: Part<'_>,
-) -> Result<Option<Ranges>, ShapeFault>
+pub fn choice(alloc: Global, family: Family, part: Part<'_>) -> Result<Option<Ranges>, ShapeFault>
     ensures read { GivesUnlessMemory choice_view result ((choice family).read (place part.entry)) }
     ensures family { IfOk result (λ o. IfSome o (λ set. set.family ≡ family)) }
 {
