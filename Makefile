@@ -24,6 +24,7 @@ bench:
 	python3 bench/commits
 	python3 bench/reopen
 	python3 bench/objects
+	python3 bench/rrdp
 
 seconds:
 	python3 bench/gate
