@@ -1,6 +1,6 @@
 #!/bin/sh
-# The table of extensions in crates/res_ext/src/table.rt, made anew by openssl and compared. Skipped
-# where openssl is missing. With the word `print` it prints the lines that it made.
+# The extensions among the cases of crates/format_cases that openssl spelled, made anew by it and
+# compared. Skipped where openssl is missing. With the word `print` it prints the lines that it made.
 set -eu
 top=$(cd "$(dirname "$0")/.." && pwd)
 command -v openssl >/dev/null || { echo "checks/extensions: openssl is missing, skipped"; exit 0; }
@@ -25,7 +25,15 @@ extension() {
 }
 
 failed=0
-sed -n '/^v4=/p;/^asn=/p' "$top/crates/res_ext/src/table.rt" >lines
+# The sets of each case, and the extension that is its answer.
+awk -F '\t' '
+    NR == FNR { answer[FNR] = $2; next }
+    $2 == "res_ext inherit_ip" { print "v4=inherit;v6=inherit;" answer[FNR] }
+    $2 == "res_ext inherit_as" { print "asn=inherit;" answer[FNR] }
+    $1 !~ /^openssl/ { next }
+    $2 == "res_ext write_ip" { print "v4=" $3 ";v6=" $4 ";" answer[FNR] }
+    $2 == "res_ext write_as" { gsub("AS", "", $3); print "asn=" $3 ";" answer[FNR] }
+' "$top/crates/format_cases/stdout" "$top/crates/format_cases/stdin" >lines
 while IFS= read -r line; do
     case $line in
     v4=*)

@@ -120,7 +120,8 @@ def kills():
     known = []
     for _ in range(6):
         program = start("kills")
-        killer = threading.Timer(random.uniform(0.2, 1.2), lambda: program.send_signal(signal.SIGKILL))
+        known.append(want(f"key {KEY}", ask(program, "make"))[0])
+        killer = threading.Timer(random.uniform(0.0, 1.0), lambda: program.send_signal(signal.SIGKILL))
         killer.start()
         try:
             while True:
@@ -140,8 +141,6 @@ def kills():
         strange = [name for name in os.listdir("kills") if not re.fullmatch(r"[0-9a-f]{40}\.key", name)]
         if strange:
             fail(f"left over: {strange}")
-    if not known:
-        fail("no key was answered before a kill")
     verify(known[-1], DIGEST, signature)
     return len(known)
 
