@@ -5,7 +5,7 @@ use Rattle.der_forms.specs.declared.fault.ShapeFault.{ShapeFault}
 use Rattle.der_forms.specs.declared.fault.ShapeFault.TheVariants.{Shape, Memory}
 use Rattle.der_forms.specs.Place.{Place, IsInput, IsPlace}
 use Rattle.der_forms.specs.Form.{Whole, Front, Takes, Begins, Dies, IsTold, IsWhole, IsBehind, IsFront}
-use Rattle.der_forms.specs.Forms.{OnSomeOf, spelled_some, left_right, EitherOf, later, first_or, choice, some_or_none, possibly}
+use Rattle.der_forms.specs.Forms.{OnSomeOf, spelled_some, left_right, EitherOf, later, first_or, choice, some_or_none, possibly, ends, after}
 use Rattle.der_forms.specs.PlaceLaws.{behind-place, next, is-next}
 use Rattle.der_forms.specs.FormLaws.{same-ok, same-err, not-err, bind-ok, bind-err, told-behind, one-front-value}
 use Rattle.std.proofs.lemmas.Bool.{cases_lt, lt-ltb, le-ltb}
@@ -186,3 +186,32 @@ possibly-law {A = A} {B = B} f g law-f law-g apart = record { again = again; tak
 
     fault : (e : ShapeFault) (p : Place) → IsPlace p → (possibly f g).read p ≡ Err e → IsTold (Takes (possibly f g)) p e
     fault e p is h = refusal-of e p (f.read p) (g.read p) is refl refl h
+
+-- ---- which spellings begin with one of a front
+
+pub no_front-ends : {A : Type 0} (f : Front A) → IsFront f → IsNoFront f ends
+no_front-ends f law = record {
+  apart = λ x rest y good end e. omega (arith, law.some x good, ap length e, length-append (f.spelling x) rest);
+}
+
+-- No spelling of two fronts, whatever follows, is the same.
+pub record AreFrontsApart {A B : Type 0} (f : Front A) (g : Front B) : Type 0 where
+  pub apart : (x : A) (y : B) (r s : List ℕ) → f.good x → g.good y → f.spelling x ++ r ≡ g.spelling y ++ s → ⊥
+
+pub no_front-after : {A B C : Type 0} (f : Front A) (g : Front B) (h : B → Whole C) → AreFrontsApart f g → IsNoFront f (after g h)
+no_front-after f g h fronts = record {
+  apart = λ x rest y good ok e. fronts.apart x y.0 rest ((h y.0).spelling y.1) good ok.0 e;
+}
+
+pub no_front-possibly : {A B C : Type 0} (f : Front A) (g : Front B) (h : Whole C) → AreFrontsApart f g → IsNoFront f h → IsNoFront f (possibly g h)
+no_front-possibly {A = A} {B = B} {C = C} f g h fronts rest-apart = record { apart = each }
+  where
+    each : (x : A) (rest : List ℕ) (y : Option B × C) → f.good x → OnSomeOf g.good y.0 × h.good y.1 → f.spelling x ++ rest ≡ spelled_some g.spelling y.0 ++ h.spelling y.1 → ⊥
+    each x rest (None, z) good ok e = rest-apart.apart x rest z good ok.1 e
+    each x rest (Some y, z) good ok e = fronts.apart x y rest (h.spelling z) good ok.0 e
+
+-- Sequences whose first values are apart.
+pub apart-after : {A B C D : Type 0} (f : Front A) (g : A → Whole B) (h : Front C) (k : C → Whole D) → AreFrontsApart f h → AreApart (after f g) (after h k)
+apart-after f g h k fronts = record {
+  apart = λ x y good ok e. fronts.apart x.0 y.0 ((g x.0).spelling x.1) ((k y.0).spelling y.1) good.0 ok.0 e;
+}

@@ -1,5 +1,5 @@
 -- The law of lists.
-use Rattle.std.proofs.Common.{◌<◌, ◌≡◌, ℕ, zero, suc, ◌+◌, ◌≤◌, true, false, List, [], ◌∷◌, ◌++◌, length, Result, Ok, Err, refl, sym, ap, subst, ◌∙◌, arith, ◌⊎◌, inl, inr}
+use Rattle.std.proofs.Common.{◌<◌, ◌≡◌, ℕ, zero, suc, ◌+◌, ◌≤◌, true, false, List, [], ◌∷◌, ◌++◌, length, Result, Ok, Err, refl, sym, ap, subst, ◌∙◌, arith, ◌⊎◌, inl, inr, map, Bool, cond}
 use Rattle.std.specs.List.{flat_map}
 use Rattle.std.proofs.lemmas.List.{length-append}
 use Rattle.der_forms.specs.declared.fault.ShapeFault.{ShapeFault}
@@ -175,3 +175,30 @@ placed-moves {A = A} f law = record {
         let a = bind-ok (f.read p) (λ x. Ok ((p.at, x.0), x.1)) (x, q) e in
         let same : ((p.at, a.0.0), a.0.1) ≡ (x, q) = same-ok {A = (ℕ × A) × Place} _ _ a.2 in
         a.1 ∙ ap (λ (y : (ℕ × A) × Place). Ok (y.0.1, y.1)) same
+
+abbrev done : {A : Type 0} → A → Result A ShapeFault
+done x = Ok x
+
+-- The values without their places.
+abbrev pub plain : {A : Type 0} → Result (List (ℕ × A)) ShapeFault → Result (List A) ShapeFault
+plain (Ok ys) = Ok (map (λ y. y.1) ys)
+plain (Err e) = Err e
+
+-- They are those of the format.
+pub placed-many : {A : Type 0} (f : Front A) (n : ℕ) (p : Place) → many_at f n p ≡ plain (many_at (placed f) n p)
+unfolding many_at
+placed-many {A = A} f zero p = nothing (is_empty p.left) (Shape p.last)
+  where
+    nothing : (b : Bool) (e : ShapeFault) → cond b (done {A = List A} []) (Err e) ≡ plain (cond b (done {A = List (ℕ × A)} []) (Err e))
+    nothing true e = refl
+    nothing false e = refl
+placed-many {A = A} f (suc n) p = choose (is_empty p.left) (f.read p) (λ q. placed-many f n q)
+  where
+    each : (x : A) (r : Result (List (ℕ × A)) ShapeFault) → (plain r >>= (λ (xs : List A). done (x ∷ xs))) ≡ plain (r >>= (λ (xs : List (ℕ × A)). done ((p.at, x) ∷ xs)))
+    each x (Ok ys) = refl
+    each x (Err e) = refl
+
+    choose : (b : Bool) (r : Result (A × Place) ShapeFault) → ((q : Place) → many_at f n q ≡ plain (many_at (placed f) n q)) → cond b (done {A = List A} []) (r >>= (λ (x : A × Place). many_at f n x.1 >>= (λ (xs : List A). done (x.0 ∷ xs)))) ≡ plain (cond b (done {A = List (ℕ × A)} []) ((r >>= (λ (x : A × Place). done {A = (ℕ × A) × Place} ((p.at, x.0), x.1))) >>= (λ (x : (ℕ × A) × Place). many_at (placed f) n x.1 >>= (λ (xs : List (ℕ × A)). done (x.0 ∷ xs)))))
+    choose true r rest = refl
+    choose false (Err e) rest = refl
+    choose false (Ok x) rest = ap (λ (r : Result (List A) ShapeFault). r >>= (λ (xs : List A). done (x.0 ∷ xs))) (rest x.1) ∙ each x.0 (many_at (placed f) n x.1)

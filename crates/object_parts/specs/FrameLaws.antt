@@ -1,6 +1,8 @@
 -- The laws of what the objects have in common.
-use Rattle.std.proofs.Common.{ℕ, List, [], ◌∷◌, Ok, sym, ◌∙◌}
+use Rattle.std.proofs.Common.{◌≡◌, ℕ, List, [], ◌∷◌, Ok, sym, ◌∙◌, ◌++◌}
 use Rattle.der.specs.Tags as tag
+use Rattle.der.specs.Spelling.{spelled}
+use Rattle.der.specs.ElementLaws.{one_element}
 use Rattle.der_forms.specs.Place.{◌>>=◌, open_at, sole_at}
 use Rattle.der_forms.specs.Form.{Whole, IsWhole, IsFront}
 use Rattle.der_forms.specs.Forms.{within, sole, preceded, framed}
@@ -68,3 +70,9 @@ issuer_key_identifier-law = sole-law tag.sequence (sole tag.primitive_0 (fixed 2
 
 pub key_info-law : IsFront key_info
 key_info-law = within-law tag.sequence (preceded key_algorithm (sole tag.bit_string (octet_bits 270))) (preceded-law key_algorithm (sole tag.bit_string (octet_bits 270)) key_algorithm-law tt (sole-law tag.bit_string (octet_bits 270) (octet_bits-law 270)))
+
+-- Extensions with one spelling in front have one identifier, critical or not.
+pub same-identifier : (a b t u r s : List ℕ) → spelled tag.sequence (spelled tag.object_identifier a ++ t) ++ r ≡ spelled tag.sequence (spelled tag.object_identifier b ++ u) ++ s → a ≡ b
+same-identifier a b t u r s e =
+    let outer = one_element tag.sequence tag.sequence (spelled tag.object_identifier a ++ t) (spelled tag.object_identifier b ++ u) r s e in
+    (one_element tag.object_identifier tag.object_identifier a b t u outer.1).1

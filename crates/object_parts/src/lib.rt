@@ -14,4 +14,8 @@ pub use frames::{
 };
 pub use names::name;
 pub use times::{general_time, period, time};
-pub use writers::{push_name, push_time};
+pub use writers::{
+    push_critical_extension, push_digest_algorithm, push_extension, push_identifier,
+    push_issuer_key_identifier, push_key_algorithm, push_key_identifier, push_key_info, push_name,
+    push_octet_bits, push_period, push_signature_algorithm, push_time, write_signed,
+};

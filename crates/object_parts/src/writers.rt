@@ -1,14 +1,19 @@
 //! Writers of what the objects have in common.
 
-ghost use Rattle.std.specs.Prelude.{◌≡◌, ◌++◌, OnOk};
+ghost use Rattle.std.specs.Prelude.{◌≡◌, ◌++◌, ◌∷◌, OnOk, IfOk};
+ghost use Rattle.der.specs.Spelling.{spelled};
+ghost use Rattle.der.specs.Tags as tag;
+ghost use Rattle.der_forms.specs.Forms.{content};
 ghost use Rattle.moments.specs.Civil.{IsMoment};
-ghost use Rattle.object_parts.specs.TimeFormats.{time};
+ghost use Rattle.object_parts.specs.TimeFormats.{time, period};
+ghost use Rattle.object_parts.specs.FrameFormats.{identifier, signature_algorithm, key_algorithm, digest_algorithm, extension, critical_extension, signature as signature_form, key_identifier, issuer_key_identifier, key_info};
 ghost use Rattle.object_parts.specs.NameFormats.{name};
 
-use crate::identifiers::COMMON_NAME;
+use crate::identifiers::{COMMON_NAME, DIGEST_ALGORITHM, KEY_ALGORITHM, SIGNATURE_ALGORITHM};
 use crate::names::key_text;
 use der_forms::tags::{
-    GENERALIZED_TIME, OBJECT_IDENTIFIER, PRINTABLE_STRING, SEQUENCE, SET, UTC_TIME,
+    BIT_STRING, BOOLEAN, GENERALIZED_TIME, OBJECT_IDENTIFIER, OCTET_STRING, PRIMITIVE_0,
+    PRINTABLE_STRING, SEQUENCE, SET, UTC_TIME,
 };
 use std::alloc::{AllocError, Global};
 
@@ -37,4 +42,142 @@ pub fn push_name(alloc: Global, out: &mut Vec<u8>, key: &[u8; 20]) -> Result<(),
     der::enclose(alloc, out, from, SEQUENCE)?;
     der::enclose(alloc, out, from, SET)?;
     der::enclose(alloc, out, from, SEQUENCE)
+}
+
+/// Appends a period.
+#[tactic(auto, using(std::proofs::Common::append_assoc), unfolding(crate::specs::TimeFormats::period))]
+pub fn push_period(alloc: Global, out: &mut Vec<u8>, from: u64, to: u64) -> Result<(), AllocError>
+    requires from { IsMoment from }
+    requires to { IsMoment to }
+    ensures { OnOk result (out.new.items ≡ out.old.items ++ period.spelling (from, to)) }
+{
+    let start = out.len();
+    push_time(alloc, out, from)?;
+    push_time(alloc, out, to)?;
+    der::enclose(alloc, out, start, SEQUENCE)
+}
+
+/// Appends an OBJECT IDENTIFIER.
+pub fn push_identifier(alloc: Global, out: &mut Vec<u8>, oid: &[u8]) -> Result<(), AllocError>
+    ensures { OnOk result (out.new.items ≡ out.old.items ++ (identifier oid.now).spelling tt) }
+{
+    der::element(alloc, out, OBJECT_IDENTIFIER, oid)
+}
+
+/// Appends the algorithm of a signature.
+pub fn push_signature_algorithm(alloc: Global, out: &mut Vec<u8>) -> Result<(), AllocError>
+    ensures { OnOk result (out.new.items ≡ out.old.items ++ signature_algorithm.spelling tt) }
+{
+    der::element(alloc, out, SEQUENCE, &SIGNATURE_ALGORITHM)
+}
+
+/// Appends the algorithm of a key.
+pub fn push_key_algorithm(alloc: Global, out: &mut Vec<u8>) -> Result<(), AllocError>
+    ensures { OnOk result (out.new.items ≡ out.old.items ++ key_algorithm.spelling tt) }
+{
+    der::element(alloc, out, SEQUENCE, &KEY_ALGORITHM)
+}
+
+/// Appends the algorithm of a digest.
+pub fn push_digest_algorithm(alloc: Global, out: &mut Vec<u8>) -> Result<(), AllocError>
+    ensures { OnOk result (out.new.items ≡ out.old.items ++ digest_algorithm.spelling tt) }
+{
+    der::element(alloc, out, SEQUENCE, &DIGEST_ALGORITHM)
+}
+
+/// Appends bytes as a BIT STRING without unused bits.
+#[tactic(auto, using(std::proofs::Common::append_assoc))]
+pub fn push_octet_bits(alloc: Global, out: &mut Vec<u8>, bytes: &[u8]) -> Result<(), AllocError>
+    ensures { OnOk result (out.new.items ≡ out.old.items ++ spelled tag.bit_string (0 ∷ bytes.now)) }
+{
+    let from = out.len();
+    out.push(0)?;
+    out.extend_from_slice(bytes)?;
+    der::enclose(alloc, out, from, BIT_STRING)
+}
+
+/// Appends the bytes of a key's identifier.
+pub fn push_key_identifier(
+    alloc: Global,
+    out: &mut Vec<u8>,
+    key: &[u8; 20],
+) -> Result<(), AllocError>
+    ensures { OnOk result (out.new.items ≡ out.old.items ++ key_identifier.spelling key.now) }
+{
+    der::element(alloc, out, OCTET_STRING, key)
+}
+
+/// Appends the bytes of the identifier of the issuer's key.
+#[tactic(auto, using(std::proofs::Common::append_assoc))]
+pub fn push_issuer_key_identifier(
+    alloc: Global,
+    out: &mut Vec<u8>,
+    key: &[u8; 20],
+) -> Result<(), AllocError>
+    ensures { OnOk result (out.new.items ≡ out.old.items ++ issuer_key_identifier.spelling key.now) }
+{
+    let from = out.len();
+    der::element(alloc, out, PRIMITIVE_0, key)?;
+    der::enclose(alloc, out, from, SEQUENCE)
+}
+
+/// Appends a key with its algorithm.
+#[tactic(auto, using(std::proofs::Common::append_assoc))]
+pub fn push_key_info(alloc: Global, out: &mut Vec<u8>, key: &[u8; 270]) -> Result<(), AllocError>
+    ensures { OnOk result (out.new.items ≡ out.old.items ++ key_info.spelling key.now) }
+{
+    let from = out.len();
+    push_key_algorithm(alloc, out)?;
+    push_octet_bits(alloc, out, key)?;
+    der::enclose(alloc, out, from, SEQUENCE)
+}
+
+/// Appends an extension that isn't critical, with that value.
+#[tactic(auto, using(std::proofs::Common::append_assoc))]
+pub fn push_extension(
+    alloc: Global,
+    out: &mut Vec<u8>,
+    oid: &[u8],
+    value: &[u8],
+) -> Result<(), AllocError>
+    ensures { OnOk result (out.new.items ≡ out.old.items ++ (extension oid.now content).spelling value.now) }
+{
+    let from = out.len();
+    push_identifier(alloc, out, oid)?;
+    der::element(alloc, out, OCTET_STRING, value)?;
+    der::enclose(alloc, out, from, SEQUENCE)
+}
+
+/// Appends a critical extension with that value.
+#[tactic(auto, using(std::proofs::Common::append_assoc))]
+pub fn push_critical_extension(
+    alloc: Global,
+    out: &mut Vec<u8>,
+    oid: &[u8],
+    value: &[u8],
+) -> Result<(), AllocError>
+    ensures { OnOk result (out.new.items ≡ out.old.items ++ (critical_extension oid.now content).spelling value.now) }
+{
+    let from = out.len();
+    push_identifier(alloc, out, oid)?;
+    der::element(alloc, out, BOOLEAN, &[255])?;
+    der::element(alloc, out, OCTET_STRING, value)?;
+    der::enclose(alloc, out, from, SEQUENCE)
+}
+
+/// What is signed, which is a whole element, with its signature.
+#[tactic(auto, using(std::proofs::Common::append_assoc))]
+pub fn write_signed(
+    alloc: Global,
+    whole: &[u8],
+    signature: &[u8; 256],
+) -> Result<Vec<u8>, AllocError>
+    ensures { IfOk result (λ out. out.items ≡ spelled tag.sequence (whole.now ++ signature_form.spelling signature.now)) }
+{
+    let mut out = Vec::new(alloc);
+    out.extend_from_slice(whole)?;
+    push_signature_algorithm(alloc, &mut out)?;
+    push_octet_bits(alloc, &mut out, signature)?;
+    der::enclose(alloc, &mut out, 0, SEQUENCE)?;
+    Ok(out)
 }
