@@ -1,0 +1,6 @@
+//! The notice board: a writer shows sheets, and readers look at the last one without waiting.
+#![tactic(auto)]
+
+mod sheets;
+
+pub use sheets::{Sheet, SheetRow, ShownStage};
