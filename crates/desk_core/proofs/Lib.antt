@@ -1,5 +1,4 @@
 pub mod Recorded
-pub mod Moments
 pub mod Loading
 pub mod Listed
 pub mod Committed

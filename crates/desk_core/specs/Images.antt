@@ -1,5 +1,6 @@
 -- What a file and a crash image hold of a desk's records.
 use Rattle.std.specs.Prelude.{◌≡◌, ℕ, Option, None, Some, List, IfSome}
+use Rattle.disk_api.specs.declared.disk.Disk.{Ghosts as DiskGhosts}
 use Rattle.gate_journal.specs.View.{StandsForOrDoubt}
 use Rattle.desk_core.specs.View.{View, journal_limit}
 
@@ -13,7 +14,7 @@ HoldsTold content records doubt file = IfSome content (λ _. Holds records doubt
 
 -- What the disk holds, and what a crash now may leave, holds the desk's records, and perhaps the one in
 -- doubt; an open desk has none in doubt.
-pub record IsSafe {D : Type 0} (content : D → Option (List ℕ)) (may_leave : D → List ℕ → Type 0) (desk : View D) : Type 0 where
-  pub bytes : IfSome (content desk.disk) (Holds desk.records desk.doubt)
-  pub images : (c : List ℕ) → may_leave desk.disk c → HoldsTold (content desk.disk) desk.records desk.doubt c
+pub record IsSafe {D : Type 0} (disk_of : DiskGhosts D) (desk : View D) : Type 0 where
+  pub bytes : IfSome (disk_of.content desk.disk) (Holds desk.records desk.doubt)
+  pub images : (c : List ℕ) → disk_of.may_leave desk.disk c → HoldsTold (disk_of.content desk.disk) desk.records desk.doubt c
   pub settled : desk.shut ≡ None → desk.doubt ≡ None

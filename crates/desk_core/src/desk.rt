@@ -1,7 +1,7 @@
 // A desk over a disk.
 ghost use Rattle.std.specs.Prelude.{◌≡◌, ◌≤◌, ◌+◌, ◌-◌, ◌<◌, ◌^◌, ◌++◌, [], ◌∷◌, ℕ, List, Option, Some, None, Ok, length, drop, IfOk, IfErr, IfSome, OnOk, OnErr, IsTrue, ◌↔◌, MatchOption, ◌⊎◌};
 ghost use Rattle.std.specs.Option.{option_map};
-ghost use Rattle.disk_api.specs.Images.{LeavesOnly};
+ghost use Rattle.disk_api.specs.Runs.{LeavesOnly};
 ghost use Rattle.fault_count.specs.Rise.{HasRisen};
 ghost use Rattle.disk_api.specs.Content.{BothTold};
 ghost use Rattle.gate_journal.specs.Format.{stands_for, damaged_at, held_by, opened, IsUnopened};
@@ -42,7 +42,7 @@ impl<D: Disk> Model for Desk<D> {
 
     ghost view = { λ d. record { disk = d.journal.disk; number = d.number; settings = d.config.settings; records = payloads d.journal.sizes d.body.items; shut = d.journal.shut; doubt = d.journal.doubt } };
 
-    ghost invariant = { λ d. IsKept D.content D.may_leave d.number d.config.settings d.body.items d.journal };
+    ghost invariant = { λ d. IsKept D.Disk d.number d.config.settings d.body.items d.journal };
 }
 
 impl<D: Disk> Desk<D> {
@@ -76,7 +76,7 @@ impl<D: Disk> Desk<D> {
         ensures later { D.fault_count disk ≤ D.fault_count (disk_after result) }
 
         // A crash at any moment leaves an image from before the call, or the same records.
-        ensures any_moment { LeavesOnly D.moment D.left_since disk (disk_after result) (λ c. D.may_leave disk c ⊎ IfSome (D.content disk) (λ bytes. Holds (stands_for bytes) None c)) }
+        ensures any_moment { LeavesOnly D.Disk disk (disk_after result) (λ c. D.may_leave disk c ⊎ IfSome (D.content disk) (λ bytes. Holds (stands_for bytes) None c)) }
     {
         let mut journal = match Journal::open(alloc, disk, JOURNAL_LIMIT) {
             Ok(journal) => journal,
@@ -125,7 +125,7 @@ impl<D: Disk> Desk<D> {
         ensures records { result ≡ length self.now.records }
         ensures commands { (commands : List Command) → HasCommands self.now commands → result ≡ length commands }
         // Between calls, too, what a crash may leave holds them.
-        ensures safe { IsSafe D.content D.may_leave self.now }
+        ensures safe { IsSafe D.Disk self.now }
     {
         self.journal.count()
     }
@@ -169,15 +169,15 @@ impl<D: Disk> Desk<D> {
         ensures bytes { OnOk result (D.content self.new.disk ≡ option_map (stored (held_by self.old.records) (entry_bytes (spelling command))) (D.content self.old.disk)) }
         ensures open { OnOk result ((self.new.shut ≡ None) × (self.new.doubt ≡ None)) }
 
-        ensures refused { IfErr result (λ fault. IsDeskFault D.fault_count fault command signers self.old self.new) }
+        ensures refused { IfErr result (λ fault. IsDeskFault D.Disk fault command signers self.old self.new) }
         ensures number { self.new.number ≡ self.old.number }
 
         // A crash at any moment of the call leaves the records from before it, with the new one or
         // without; a shut desk's with the one that was in doubt or without. After Ok, with it.
-        ensures any_moment { LeavesOnly D.moment D.left_since self.old.disk self.new.disk (HoldsTold (D.content self.old.disk) self.old.records (stake_of self.old.shut self.old.doubt (spelling command))) }
+        ensures any_moment { LeavesOnly D.Disk self.old.disk self.new.disk (HoldsTold (D.content self.old.disk) self.old.records (stake_of self.old.shut self.old.doubt (spelling command))) }
         ensures durable { OnOk result ((c : List ℕ) → D.may_leave self.new.disk c → HoldsTold (D.content self.old.disk) self.new.records None c) }
         // After every answer.
-        ensures safe { IsSafe D.content D.may_leave self.new }
+        ensures safe { IsSafe D.Disk self.new }
         ensures later { D.fault_count self.old.disk ≤ D.fault_count self.new.disk }
     {
         if let Some(fault) = self.refusal(&command, signers) {
@@ -205,8 +205,8 @@ impl<D: Disk> Desk<D> {
 
     // Why the command isn't taken, before anything is done.
     fn refusal(&self, command: &Command, signers: u32) -> Option<DeskFault<D>>
-        ensures answer { MatchOption result (HasPlace self.now command.now signers) (λ fault. IsDeskFault D.fault_count fault command.now signers self.now self.now) }
-        ensures safe { IsSafe D.content D.may_leave self.now }
+        ensures answer { MatchOption result (HasPlace self.now command.now signers) (λ fault. IsDeskFault D.Disk fault command.now signers self.now self.now) }
+        ensures safe { IsSafe D.Disk self.now }
     {
         if let Some(rose) = self.journal.shut_by() {
             let rose = DeskRose::new(self.number, rose);

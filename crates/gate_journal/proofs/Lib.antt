@@ -8,7 +8,6 @@ mod Guarding
 mod Heads
 mod Keeping
 mod Laid
-mod Moments
 mod Opened
 mod Placed
 mod Records

@@ -3,8 +3,10 @@ use Rattle.std.proofs.Common.{◌≡◌, inl, ℕ, ◌-◌, ◌≤◌, ◌<◌, 
 use Rattle.std.proofs.lemmas.Option.{same_Some}
 use Rattle.std.specs.Option.{option_map}
 use Rattle.disk_api.specs.Content.{overwritten, Torn, BothTold}
-use Rattle.disk_api.specs.Images.{Follows, IsOnly, Keeps, Elapses, LeavesOnly}
-use Rattle.gate_journal.proofs.Moments.{started, goes_on}
+use Rattle.disk_api.specs.Images.{Follows, IsOnly, Keeps, Elapses}
+use Rattle.disk_api.specs.Runs.{LeavesOnly}
+use Rattle.disk_api.specs.RunLaws.{started, goes_on}
+use Rattle.disk_api.specs.declared.disk.Disk.{Ghosts as DiskGhosts}
 use Rattle.gate_journal.specs.Storing.{stored, IsStoring, IsStoringTold}
 use Rattle.gate_journal.proofs.Torn.{staged, torn_behind, staged_behind, length-staged, torn_gate, stored_is, stored_storing}
 
@@ -61,34 +63,34 @@ module _ (held : ℕ) (new : List ℕ) (gate : 0 < held) where
   stored_told (Some bytes) now long is = (stored held new bytes, is, stored_storing held new bytes gate long)
 
 -- the moments of the four calls, of which the disk is d1 to d4 after each
-module _ {D : Type 0} (content : D → Option (List ℕ)) (may_leave : D → List ℕ → Type 0) (moment : D → ℕ) (left_since : D → ℕ → List ℕ → Type 0)
-    (only_now : (disk : D) (c : List ℕ) → left_since disk (moment disk) c → may_leave disk c) (held : ℕ) (new : List ℕ) (gate : 0 < held) (old : D)
-    (long : IsLong held (content old)) (only : IsOnly (content old) (may_leave old)) where
+module _ {D : Type 0} (disk_of : DiskGhosts D)
+    (only_now : (disk : D) (c : List ℕ) → disk_of.left_since disk (disk_of.moment disk) c → disk_of.may_leave disk c) (held : ℕ) (new : List ℕ) (gate : 0 < held) (old : D)
+    (long : IsLong held (disk_of.content old)) (only : IsOnly (disk_of.content old) (disk_of.may_leave old)) where
   abbrev pub Passes : D → D → Type 0
-  Passes a b = Elapses (moment a) (moment b) (left_since a) (left_since b) (may_leave b)
+  Passes a b = Elapses (disk_of.moment a) (disk_of.moment b) (disk_of.left_since a) (disk_of.left_since b) (disk_of.may_leave b)
 
-  pub after_first : (d1 : D) → Passes old d1 → Follows (Torn held (length new)) (may_leave old) (may_leave d1) → LeavesOnly moment left_since old d1 (IsStoringTold held new (content old))
+  pub after_first : (d1 : D) → Passes old d1 → Follows (Torn held (length new)) (disk_of.may_leave old) (disk_of.may_leave d1) → LeavesOnly disk_of old d1 (IsStoringTold held new (disk_of.content old))
   after_first d1 time1 follows1 =
-      goes_on content may_leave moment left_since old old d1 (IsStoringTold held new (content old))
-      (started content may_leave moment left_since old (IsStoringTold held new (content old)) only_now (λ c left. before_images held new gate (content old) c (only c left)))
-      time1 (first_images held new gate (content old) (may_leave old) (may_leave d1) long only follows1)
+      goes_on disk_of old old d1 (IsStoringTold held new (disk_of.content old))
+      (started disk_of old (IsStoringTold held new (disk_of.content old)) only_now (λ c left. before_images held new gate (disk_of.content old) c (only c left)))
+      time1 (first_images held new gate (disk_of.content old) (disk_of.may_leave old) (disk_of.may_leave d1) long only follows1)
 
-  pub after_sync : (d1 d2 : D) → Passes old d1 → Follows (Torn held (length new)) (may_leave old) (may_leave d1) → Passes d1 d2 → Keeps (may_leave d2) (may_leave d1)
-      → LeavesOnly moment left_since old d2 (IsStoringTold held new (content old))
+  pub after_sync : (d1 d2 : D) → Passes old d1 → Follows (Torn held (length new)) (disk_of.may_leave old) (disk_of.may_leave d1) → Passes d1 d2 → Keeps (disk_of.may_leave d2) (disk_of.may_leave d1)
+      → LeavesOnly disk_of old d2 (IsStoringTold held new (disk_of.content old))
   after_sync d1 d2 time1 follows1 time2 keeps2 =
-      goes_on content may_leave moment left_since old d1 d2 (IsStoringTold held new (content old)) (after_first d1 time1 follows1) time2
-      (λ c left. first_images held new gate (content old) (may_leave old) (may_leave d1) long only follows1 c (keeps2 c left))
+      goes_on disk_of old d1 d2 (IsStoringTold held new (disk_of.content old)) (after_first d1 time1 follows1) time2
+      (λ c left. first_images held new gate (disk_of.content old) (disk_of.may_leave old) (disk_of.may_leave d1) long only follows1 c (keeps2 c left))
 
-  pub after_second : (d1 d2 d3 : D) → Passes old d1 → Follows (Torn held (length new)) (may_leave old) (may_leave d1) → Passes d1 d2 → Keeps (may_leave d2) (may_leave d1)
-      → content d1 ≡ option_map (overwritten held new) (content old) → IsOnly (content d1) (may_leave d2) → Passes d2 d3 → Follows (Torn (held - 1) 1) (may_leave d2) (may_leave d3)
-      → LeavesOnly moment left_since old d3 (IsStoringTold held new (content old))
+  pub after_second : (d1 d2 d3 : D) → Passes old d1 → Follows (Torn held (length new)) (disk_of.may_leave old) (disk_of.may_leave d1) → Passes d1 d2 → Keeps (disk_of.may_leave d2) (disk_of.may_leave d1)
+      → disk_of.content d1 ≡ option_map (overwritten held new) (disk_of.content old) → IsOnly (disk_of.content d1) (disk_of.may_leave d2) → Passes d2 d3 → Follows (Torn (held - 1) 1) (disk_of.may_leave d2) (disk_of.may_leave d3)
+      → LeavesOnly disk_of old d3 (IsStoringTold held new (disk_of.content old))
   after_second d1 d2 d3 time1 follows1 time2 keeps2 is only2 time3 follows3 =
-      goes_on content may_leave moment left_since old d2 d3 (IsStoringTold held new (content old)) (after_sync d1 d2 time1 follows1 time2 keeps2) time3
-      (second_images held new gate (content old) (content d1) (may_leave d2) (may_leave d3) long is only2 follows3)
+      goes_on disk_of old d2 d3 (IsStoringTold held new (disk_of.content old)) (after_sync d1 d2 time1 follows1 time2 keeps2) time3
+      (second_images held new gate (disk_of.content old) (disk_of.content d1) (disk_of.may_leave d2) (disk_of.may_leave d3) long is only2 follows3)
 
-  pub after_last : (d1 d2 d3 d4 : D) → Passes old d1 → Follows (Torn held (length new)) (may_leave old) (may_leave d1) → Passes d1 d2 → Keeps (may_leave d2) (may_leave d1)
-      → content d1 ≡ option_map (overwritten held new) (content old) → IsOnly (content d1) (may_leave d2) → Passes d2 d3 → Follows (Torn (held - 1) 1) (may_leave d2) (may_leave d3) → Passes d3 d4 → Keeps (may_leave d4) (may_leave d3)
-      → LeavesOnly moment left_since old d4 (IsStoringTold held new (content old))
+  pub after_last : (d1 d2 d3 d4 : D) → Passes old d1 → Follows (Torn held (length new)) (disk_of.may_leave old) (disk_of.may_leave d1) → Passes d1 d2 → Keeps (disk_of.may_leave d2) (disk_of.may_leave d1)
+      → disk_of.content d1 ≡ option_map (overwritten held new) (disk_of.content old) → IsOnly (disk_of.content d1) (disk_of.may_leave d2) → Passes d2 d3 → Follows (Torn (held - 1) 1) (disk_of.may_leave d2) (disk_of.may_leave d3) → Passes d3 d4 → Keeps (disk_of.may_leave d4) (disk_of.may_leave d3)
+      → LeavesOnly disk_of old d4 (IsStoringTold held new (disk_of.content old))
   after_last d1 d2 d3 d4 time1 follows1 time2 keeps2 is only2 time3 follows3 time4 keeps4 =
-      goes_on content may_leave moment left_since old d3 d4 (IsStoringTold held new (content old)) (after_second d1 d2 d3 time1 follows1 time2 keeps2 is only2 time3 follows3) time4
-      (λ c left. second_images held new gate (content old) (content d1) (may_leave d2) (may_leave d3) long is only2 follows3 c (keeps4 c left))
+      goes_on disk_of old d3 d4 (IsStoringTold held new (disk_of.content old)) (after_second d1 d2 d3 time1 follows1 time2 keeps2 is only2 time3 follows3) time4
+      (λ c left. second_images held new gate (disk_of.content old) (disk_of.content d1) (disk_of.may_leave d2) (disk_of.may_leave d3) long is only2 follows3 c (keeps4 c left))

@@ -2,7 +2,6 @@
 use Rattle.std.specs.Prelude.{◌≡◌, ◌≢◌, ◌⊎◌, ◌<◌, ◌≤◌, ℕ, ◌+◌, ◌-◌, ◌&&◌, nat_le, min, false, Option, Some, None, List, [], ◌∷◌, length, map, take, drop}
 use Rattle.std.specs.List.{All}
 use Rattle.std.specs.Int.{w64, to_be_bytes}
-use Rattle.disk_api.specs.Images.{Keeps, LeavesOnly}
 use Rattle.disk_api.specs.declared.disk.DiskStop.{DiskStop}
 use Rattle.disk_api.specs.declared.disk.DiskStop.TheVariants.{Fault, Memory as DiskMemory}
 use Rattle.gate_journal.specs.Format.{is_whole, size_of, stands_for, damaged_at}
@@ -12,12 +11,6 @@ use Rattle.gate_journal.specs.declared.fault.JournalFault.TheVariants.{DiskFault
 use Rattle.gate_journal.specs.declared.place.Place.{Place}
 use Rattle.gate_journal.specs.declared.open.Head.{Head}
 use Rattle.gate_journal.specs.declared.open.Head.TheVariants.{Closed, Record}
-
-pub record Rests {D : Type 0} (content : D → Option (List ℕ)) (may_leave : D → List ℕ → Type 0) (moment : D → ℕ) (left_since : D → ℕ → List ℕ → Type 0) (old new : D) : Type 0 where
-  pub content_stays : content new ≡ content old
-  pub adds_none : Keeps (may_leave new) (may_leave old)
-  pub drops_none : Keeps (may_leave old) (may_leave new)
-  pub time : LeavesOnly moment left_since old new (may_leave old)
 
 -- a read put n bytes from an offset on in front of a buffer, as many as there are
 pub record Fills (bytes : List ℕ) (at n : ℕ) (new : List ℕ) : Type 0 where

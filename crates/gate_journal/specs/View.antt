@@ -1,5 +1,6 @@
 -- A journal as its contracts see it.
 use Rattle.std.specs.Prelude.{◌≡◌, ◌⊎◌, ℕ, Option, None, Some, List, [], ◌∷◌, ◌++◌, length, map, IfSome, IsSome}
+use Rattle.disk_api.specs.declared.disk.Disk.{Ghosts as DiskGhosts}
 use Rattle.gate_journal.specs.Format.{stands_for, damaged_at}
 
 pub record View (D : Type 0) : Type 0 where
@@ -40,11 +41,11 @@ stake_of None doubt payload = Some payload
 stake_of (Some rose) doubt payload = doubt
 
 -- what the disk holds, and what a crash now may leave, stands for the records, and perhaps the one in doubt
-pub record IsSafe {D : Type 0} (content : D → Option (List ℕ)) (may_leave : D → List ℕ → Type 0) (journal : View D) : Type 0 where
-  pub bytes : IfSome (content journal.disk) (λ bytes. StandsForOrDoubt journal.limit journal.records journal.doubt bytes)
-  pub images : (c : List ℕ) → may_leave journal.disk c → StandsForOrDoubt journal.limit journal.records journal.doubt c
+pub record IsSafe {D : Type 0} (disk_of : DiskGhosts D) (journal : View D) : Type 0 where
+  pub bytes : IfSome (disk_of.content journal.disk) (λ bytes. StandsForOrDoubt journal.limit journal.records journal.doubt bytes)
+  pub images : (c : List ℕ) → disk_of.may_leave journal.disk c → StandsForOrDoubt journal.limit journal.records journal.doubt c
   -- the records are told where the bytes are
-  pub told : IfSome (content journal.disk) (λ _. IsSome journal.records)
+  pub told : IfSome (disk_of.content journal.disk) (λ _. IsSome journal.records)
   -- an open journal has no record in doubt
   pub settled : journal.shut ≡ None → journal.doubt ≡ None
 

@@ -2,10 +2,10 @@
 ghost use Rattle.std.specs.Prelude.{◌≡◌, ◌≤◌, ◌<◌, ◌+◌, ◌-◌, ◌++◌, [], ◌∷◌, ◌↔◌, ◌⊎◌, ℕ, List, Option, Some, None, length, map, slice_get, IfOk, IfErr, IfSome, take, drop, vec_capacity, OnOk, OnErr, IsSome, IsTrue, MatchResult, cond, vec_len};
 ghost use Rattle.std.specs.Option.{option_map};
 ghost use Rattle.disk_api.specs.Content.{BothTold};
-ghost use Rattle.disk_api.specs.Images.{LeavesOnly};
+ghost use Rattle.disk_api.specs.Runs.{LeavesOnly};
 ghost use Rattle.fault_count.specs.Rise.{HasRisen};
 ghost use Rattle.gate_journal.specs.Format.{spelled, stands_for, damaged_at, taken_by, held_for, payloads, opened, IsUnopened};
-ghost use Rattle.gate_journal.specs.Reading.{Rests};
+ghost use Rattle.disk_api.specs.Runs.{Rests};
 ghost use Rattle.gate_journal.specs.Storing.{stored, entry_bytes};
 ghost use Rattle.gate_journal.specs.View.{View, StandsFor, StandsForOrWith, StandsForOrDoubt, stake_of, IsSafe, HasSizes, IsSameButRoom};
 
@@ -64,7 +64,7 @@ impl<D: Disk> Journal<D> {
         ensures sizes { IfOk result (λ j. HasSizes j) }
         ensures open { IfOk result (λ j. (j.limit ≡ limit) × (j.shut ≡ None)) }
         ensures durable { IfOk result (λ j. (c : List ℕ) → D.may_leave j.disk c → StandsFor limit j.records c) }
-        ensures safe { IfOk result (λ j. IsSafe D.content D.may_leave j) }
+        ensures safe { IfOk result (λ j. IsSafe D.Disk j) }
 
         ensures damaged { IfErr result (λ e. (at : ℕ) → e.fault ≡ JournalFault.Damaged at
             → (D.content e.disk ≡ D.content disk) × IfSome (D.content disk) (λ bytes. damaged_at limit bytes ≡ Some at)) }
@@ -75,7 +75,7 @@ impl<D: Disk> Journal<D> {
         ensures later { D.fault_count disk ≤ D.fault_count (disk_after result) }
 
         // A crash at any moment leaves an image from before the call, or the same records.
-        ensures any_moment { LeavesOnly D.moment D.left_since disk (disk_after result) (λ c. D.may_leave disk c ⊎ StandsFor limit (option_map stands_for (D.content disk)) c) }
+        ensures any_moment { LeavesOnly D.Disk disk (disk_after result) (λ c. D.may_leave disk c ⊎ StandsFor limit (option_map stands_for (D.content disk)) c) }
     {
         let mut disk = disk;
         match find(alloc, &mut disk, limit) {
@@ -112,7 +112,7 @@ impl<D: Disk> Journal<D> {
     /// Whether an earlier call answered `DiskFault`.
     pub fn is_shut(&self) -> bool
         ensures shut { IsTrue result ↔ IsSome self.now.shut }
-        ensures safe { IsSafe D.content D.may_leave self.now }
+        ensures safe { IsSafe D.Disk self.now }
     {
         self.shut.is_some()
     }
@@ -130,7 +130,7 @@ impl<D: Disk> Journal<D> {
     /// The disk, as it stands.
     pub fn close(self) -> D
         ensures disk { result ≡ self.disk }
-        ensures safe { IsSafe D.content D.may_leave self }
+        ensures safe { IsSafe D.Disk self }
     {
         let Journal { disk, .. } = self;
         disk
@@ -158,17 +158,17 @@ impl<D: Disk> Journal<D> {
         ensures place { OnOk result (HasPlace self.old (length payload.now + 9) × (self.new.shut ≡ None)) }
         ensures durable { OnOk result ((c : List ℕ) → D.may_leave self.new.disk c → StandsFor self.new.limit self.new.records c) }
 
-        ensures refused { IfErr result (λ fault. IsAppendFault D.fault_count fault payload.now self.old self.new) }
+        ensures refused { IfErr result (λ fault. IsAppendFault D.Disk fault payload.now self.old self.new) }
         ensures kept { OnErr result ((self.new.records ≡ self.old.records) × (self.new.sizes ≡ self.old.sizes)) }
         ensures limit { self.new.limit ≡ self.old.limit }
         ensures later { D.fault_count self.old.disk ≤ D.fault_count self.new.disk }
 
         // After a fault the new record is in doubt, for as long as the journal stays shut.
-        ensures safe { IsSafe D.content D.may_leave self.new }
+        ensures safe { IsSafe D.Disk self.new }
 
         // A crash at any moment of the call leaves the records from before it, with the new one or
         // without; a shut journal's with the one that was in doubt or without.
-        ensures any_moment { LeavesOnly D.moment D.left_since self.old.disk self.new.disk (StandsForOrDoubt self.old.limit self.old.records (stake_of self.old.shut self.old.doubt payload.now)) }
+        ensures any_moment { LeavesOnly D.Disk self.old.disk self.new.disk (StandsForOrDoubt self.old.limit self.old.records (stake_of self.old.shut self.old.doubt payload.now)) }
     {
         if let Some((before, after)) = self.shut {
             return Err(AppendFault::Shut {
@@ -197,12 +197,12 @@ impl<D: Disk> Journal<D> {
         ensures sizes { OnOk result (self.new.sizes ≡ self.old.sizes ++ length payload.now ∷ []) }
         ensures open { OnOk result (self.new.shut ≡ None) }
         ensures durable { OnOk result ((c : List ℕ) → D.may_leave self.new.disk c → StandsFor self.new.limit self.new.records c) }
-        ensures rose { IfErr result (λ rose. IsFaultAnswer D.fault_count rose payload.now self.old self.new) }
+        ensures rose { IfErr result (λ rose. IsFaultAnswer D.Disk rose payload.now self.old self.new) }
         ensures kept { OnErr result ((self.new.records ≡ self.old.records) × (self.new.sizes ≡ self.old.sizes)) }
         ensures limit { self.new.limit ≡ self.old.limit }
         ensures later { D.fault_count self.old.disk ≤ D.fault_count self.new.disk }
-        ensures safe { IsSafe D.content D.may_leave self.new }
-        ensures any_moment { LeavesOnly D.moment D.left_since self.old.disk self.new.disk (StandsForOrWith self.old.limit self.old.records payload.now) }
+        ensures safe { IsSafe D.Disk self.new }
+        ensures any_moment { LeavesOnly D.Disk self.old.disk self.new.disk (StandsForOrWith self.old.limit self.old.records payload.now) }
     {
         let before = self.disk.faults();
         spell(&mut self.buffer, payload);
@@ -233,12 +233,12 @@ impl<D: Disk> Journal<D> {
 
         ensures payload { IfOk result (λ payload. IfSome self.old.records (λ all. slice_get all index ≡ Some payload.items)) }
         ensures size { IfOk result (λ payload. slice_get self.old.sizes index ≡ Some (length payload.items)) }
-        ensures fault { IfErr result (λ fault. IsReadFault D.fault_count fault self.old self.new) }
+        ensures fault { IfErr result (λ fault. IsReadFault D.Disk fault self.old self.new) }
         ensures open { OnOk result (self.new.shut ≡ self.old.shut) }
         ensures same { IsSameButDisk self.old self.new }
-        ensures disk { Rests D.content D.may_leave D.moment D.left_since self.old.disk self.new.disk }
+        ensures disk { Rests D.Disk self.old.disk self.new.disk }
         ensures later { D.fault_count self.old.disk ≤ D.fault_count self.new.disk }
-        ensures safe { IsSafe D.content D.may_leave self.new }
+        ensures safe { IsSafe D.Disk self.new }
     {
         let place = self.places[index as usize];
         self.read(alloc, place)
@@ -249,12 +249,12 @@ impl<D: Disk> Journal<D> {
     pub fn body(&mut self, alloc: Global) -> Result<Vec<u8>, JournalFault>
         ensures body { IfOk result (λ body. IfSome self.old.records (λ all. body.items ≡ spelled all)) }
         ensures size { IfOk result (λ body. length body.items ≡ taken_by self.old.sizes) }
-        ensures fault { IfErr result (λ fault. IsReadFault D.fault_count fault self.old self.new) }
+        ensures fault { IfErr result (λ fault. IsReadFault D.Disk fault self.old self.new) }
         ensures open { OnOk result (self.new.shut ≡ self.old.shut) }
         ensures same { IsSameButDisk self.old self.new }
-        ensures disk { Rests D.content D.may_leave D.moment D.left_since self.old.disk self.new.disk }
+        ensures disk { Rests D.Disk self.old.disk self.new.disk }
         ensures later { D.fault_count self.old.disk ≤ D.fault_count self.new.disk }
-        ensures safe { IsSafe D.content D.may_leave self.new }
+        ensures safe { IsSafe D.Disk self.new }
     {
         let size = self.held - 17;
         self.read(alloc, Place { at: 16, size })
@@ -275,12 +275,12 @@ impl<D: Disk> Journal<D> {
     fn read(&mut self, alloc: Global, place: Place) -> Result<Vec<u8>, JournalFault>
         ensures size { IfOk result (λ part. length part.items ≡ place.size) }
         ensures part { IfOk result (λ part. IfSome (D.content self.old.disk) (λ bytes. part.items ≡ take place.size (drop place.at bytes))) }
-        ensures fault { IfErr result (λ fault. IsReadFault D.fault_count fault self.old self.new) }
+        ensures fault { IfErr result (λ fault. IsReadFault D.Disk fault self.old self.new) }
         ensures open { OnOk result (self.new.shut ≡ self.old.shut) }
         ensures same { IsSameButDisk self.old self.new }
-        ensures disk { Rests D.content D.may_leave D.moment D.left_since self.old.disk self.new.disk }
+        ensures disk { Rests D.Disk self.old.disk self.new.disk }
         ensures later { D.fault_count self.old.disk ≤ D.fault_count self.new.disk }
-        ensures safe { IsSafe D.content D.may_leave self.new }
+        ensures safe { IsSafe D.Disk self.new }
     {
         let before = self.disk.faults();
         match read_payload(alloc, self.alloc, &mut self.disk, place) {

@@ -2,11 +2,13 @@
 ghost use Rattle.std.specs.Prelude.{◌≡◌, ◌≤◌, ◌<◌, ◌+◌, ◌-◌, ◌^◌, ◌⊎◌, ℕ, List, [], ◌∷◌, ◌++◌, Some, None, true, length, take, drop, map, IfSome, IfOk, OnOk, OnErr, IfErr, IsErrOf, slice_index};
 ghost use Rattle.std.specs.Option.{option_map};
 ghost use Rattle.disk_api.specs.Content.{BothTold};
-ghost use Rattle.disk_api.specs.Images.{LeavesOnly, IsOnly};
+ghost use Rattle.disk_api.specs.Images.{IsOnly};
+ghost use Rattle.disk_api.specs.Runs.{LeavesOnly};
 ghost use Rattle.disk_api.specs.Faults.{CountsFaults, CountsStops};
 ghost use Rattle.fault_count.specs.Rise.{HasRisen};
 ghost use Rattle.gate_journal.specs.Format.{header, has_header, stands_for, damaged_at, opened, IsUnopened};
-ghost use Rattle.gate_journal.specs.Reading.{Rests, Fills, IsWindow, IsHead, StandsAt, IsHarmed, Finds, Opens};
+ghost use Rattle.gate_journal.specs.Reading.{Fills, IsWindow, IsHead, StandsAt, IsHarmed, Finds, Opens};
+ghost use Rattle.disk_api.specs.Runs.{Rests};
 ghost use Rattle.gate_journal.specs.Kept.{IsMeasured};
 ghost use Rattle.gate_journal.specs.View.{StandsFor};
 
@@ -42,7 +44,7 @@ fn fill<D: Disk>(alloc: Global, disk: &mut D, at: u64, into: &mut [u8]) -> Resul
     ensures within { IfOk result (λ n. n ≤ length into.old) }
     ensures fills { IfOk result (λ n. IfSome (D.content disk.old) (λ bytes. Fills bytes at n into.new)) }
     ensures bytes { (i : ℕ) → slice_index into.new i < 256 }
-    ensures rests { Rests D.content D.may_leave D.moment D.left_since disk.old disk.new }
+    ensures rests { Rests D.Disk disk.old disk.new }
     ensures faults { CountsFaults (D.fault_count disk.old) (D.fault_count disk.new) result }
 {
     let mut got = 0;
@@ -71,7 +73,7 @@ fn head_bytes<D: Disk>(
     ensures within { IfOk result (λ head. (head.1 ≤ 9) × (head.1 ≤ left)) }
     ensures head { IfOk result (λ head. IfSome (D.content disk.old) (λ bytes. Fills bytes at head.1 head.0)) }
     ensures bytes { IfOk result (λ head. (i : ℕ) → slice_index head.0 i < 256) }
-    ensures rests { Rests D.content D.may_leave D.moment D.left_since disk.old disk.new }
+    ensures rests { Rests D.Disk disk.old disk.new }
     ensures faults { CountsFaults (D.fault_count disk.old) (D.fault_count disk.new) result }
 {
     let want = left.min(9) as usize;
@@ -95,7 +97,7 @@ fn read_head<D: Disk>(
     ensures head { IfOk result (λ head. IsHead left limit head) }
     ensures stands { IfOk result (λ head. IfSome (D.content disk.old) (λ bytes. StandsAt (drop at bytes) head)) }
     ensures harmed { IfErr result (λ fault. (place : ℕ) → fault ≡ JournalFault.Damaged place → (place ≡ at) × IfSome (D.content disk.old) (λ bytes. IsHarmed limit (drop at bytes))) }
-    ensures rests { Rests D.content D.may_leave D.moment D.left_since disk.old disk.new }
+    ensures rests { Rests D.Disk disk.old disk.new }
     ensures later { D.fault_count disk.old ≤ D.fault_count disk.new }
     ensures failed { IsErrOf result JournalFault.DiskFault → HasRisen (D.fault_count disk.old) (D.fault_count disk.new) }
 {
@@ -127,7 +129,7 @@ fn read_heads<D: Disk>(
     ensures measured { IfOk result (λ layout. IsMeasured (length layout.places.items) layout.held layout.places.items) }
     ensures found { IfOk result (λ layout. IfSome (D.content disk.old) (λ bytes. Finds limit layout.places.items bytes)) }
     ensures harmed { IfErr result (λ fault. (at : ℕ) → fault ≡ JournalFault.Damaged at → IfSome (D.content disk.old) (λ bytes. damaged_at limit bytes ≡ Some at)) }
-    ensures rests { Rests D.content D.may_leave D.moment D.left_since disk.old disk.new }
+    ensures rests { Rests D.Disk disk.old disk.new }
     ensures later { D.fault_count disk.old ≤ D.fault_count disk.new }
     ensures failed { IsErrOf result JournalFault.DiskFault → HasRisen (D.fault_count disk.old) (D.fault_count disk.new) }
 {
@@ -147,7 +149,7 @@ fn read_heads<D: Disk>(
 /// Whether a file of more than 17 bytes begins with the header.
 fn is_journal<D: Disk>(alloc: Global, disk: &mut D) -> Result<bool, DiskStop>
     ensures header { IfOk result (λ is. IfSome (D.content disk.old) (λ bytes. is ≡ has_header bytes)) }
-    ensures rests { Rests D.content D.may_leave D.moment D.left_since disk.old disk.new }
+    ensures rests { Rests D.Disk disk.old disk.new }
     ensures faults { CountsFaults (D.fault_count disk.old) (D.fault_count disk.new) result }
 {
     let mut head = [0; 16];
@@ -162,7 +164,7 @@ fn begin<D: Disk>(alloc: Global, disk: &mut D) -> Result<(), DiskStop>
     ensures begun { OnOk result (D.content disk.new ≡ option_map (λ _. header ++ 0 ∷ []) (D.content disk.old)) }
     ensures durable { OnOk result (IsOnly (D.content disk.new) (D.may_leave disk.new)) }
     ensures short { BothTold (λ _ bytes. length bytes < 18) (D.content disk.old) (D.content disk.new) }
-    ensures any_moment { LeavesOnly D.moment D.left_since disk.old disk.new (λ c. IfSome (D.content disk.old) (λ _. length c < 18)) }
+    ensures any_moment { LeavesOnly D.Disk disk.old disk.new (λ c. IfSome (D.content disk.old) (λ _. length c < 18)) }
     ensures faults { CountsStops (D.fault_count disk.old) (D.fault_count disk.new) result }
 {
     disk.write_at(alloc, 0, NEW)?;
@@ -180,7 +182,7 @@ pub(crate) fn find<D: Disk>(alloc: Global, disk: &mut D, limit: u64) -> Result<L
     ensures unopened { OnErr result (BothTold IsUnopened (D.content disk.old) (D.content disk.new)) }
     ensures later { D.fault_count disk.old ≤ D.fault_count disk.new }
     ensures failed { IsErrOf result JournalFault.DiskFault → HasRisen (D.fault_count disk.old) (D.fault_count disk.new) }
-    ensures any_moment { LeavesOnly D.moment D.left_since disk.old disk.new (λ c. D.may_leave disk.old c ⊎ StandsFor limit (option_map stands_for (D.content disk.old)) c) }
+    ensures any_moment { LeavesOnly D.Disk disk.old disk.new (λ c. D.may_leave disk.old c ⊎ StandsFor limit (option_map stands_for (D.content disk.old)) c) }
 {
     disk.sync(alloc)?;
     let len = disk.len(alloc)?;
@@ -206,7 +208,7 @@ pub(crate) fn read_payload<D: Disk>(
 ) -> Result<Vec<u8>, DiskStop>
     ensures size { IfOk result (λ payload. length payload.items ≡ place.size) }
     ensures payload { IfOk result (λ payload. IfSome (D.content disk.old) (λ bytes. payload.items ≡ take place.size (drop place.at bytes))) }
-    ensures rests { Rests D.content D.may_leave D.moment D.left_since disk.old disk.new }
+    ensures rests { Rests D.Disk disk.old disk.new }
     ensures faults { CountsFaults (D.fault_count disk.old) (D.fault_count disk.new) result }
 {
     let size = place.size as usize;

@@ -2,7 +2,8 @@
 ghost use Rattle.std.specs.Prelude.{◌≡◌, ◌≤◌, ◌<◌, ◌+◌, ◌++◌, [], ◌∷◌, ℕ, length, vec_len, vec_capacity, IfSome, OnOk};
 ghost use Rattle.std.specs.Option.{option_map};
 ghost use Rattle.disk_api.specs.Content.{BothTold};
-ghost use Rattle.disk_api.specs.Images.{LeavesOnly, IsOnly};
+ghost use Rattle.disk_api.specs.Images.{IsOnly};
+ghost use Rattle.disk_api.specs.Runs.{LeavesOnly};
 ghost use Rattle.disk_api.specs.Faults.{CountsStops};
 ghost use Rattle.gate_journal.specs.Format.{spelled};
 ghost use Rattle.gate_journal.specs.Storing.{stored, entry_bytes, IsStoring, IsStoringTold};
@@ -53,7 +54,7 @@ pub(crate) fn store<D: Disk>(
     ensures stored { OnOk result (D.content disk.new ≡ option_map (stored held entry.now) (D.content disk.old)) }
     ensures durable { OnOk result (IsOnly (D.content disk.new) (D.may_leave disk.new)) }
     ensures within { BothTold (IsStoring held entry.now) (D.content disk.old) (D.content disk.new) }
-    ensures any_moment { LeavesOnly D.moment D.left_since disk.old disk.new (IsStoringTold held entry.now (D.content disk.old)) }
+    ensures any_moment { LeavesOnly D.Disk disk.old disk.new (IsStoringTold held entry.now (D.content disk.old)) }
     ensures faults { CountsStops (D.fault_count disk.old) (D.fault_count disk.new) result }
 {
     disk.write_at(alloc, held, entry)?;

@@ -34,8 +34,8 @@ impl Session {
         anchor: &mut Anchor<D>,
         ends: &mut SessionEnds<S, K, C>,
     ) -> SessionEnd
-        ensures session { (before : State) → IsIn D.content D.fault_count anchor.old.desk before
-            → Served D.content D.fault_count S.Source K.Sink ends.old ends.new before anchor.new.desk result }
+        ensures session { (before : State) → IsIn D.Disk anchor.old.desk before
+            → Served D.Disk S.Source K.Sink ends.old ends.new before anchor.new.desk result }
         ensures source_fault { result ≡ SessionEnd.SourceFault →
             HasRisen (S.faults ends.old.source) (S.faults ends.new.source) }
         ensures sink_fault { result ≡ SessionEnd.SinkFault →

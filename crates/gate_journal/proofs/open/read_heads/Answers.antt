@@ -7,7 +7,7 @@ use Rattle.gate_journal.specs.declared.open.Head.TheVariants.{Closed, Record}
 use Rattle.gate_journal.specs.declared.open.Layout.{Layout}
 use Rattle.gate_journal.specs.declared.fault.JournalFault.{JournalFault}
 use Rattle.gate_journal.specs.declared.fault.JournalFault.TheVariants.{Damaged}
-use Rattle.gate_journal.proofs.Moments.{rests_started, rests_far}
+use Rattle.disk_api.specs.RunLaws.{rests_started, rests_far}
 use Rattle.gate_journal.proofs.Opened.{read_none_told, read_more_told, read_all_told, closed_only}
 use Rattle.gate_journal.proofs.Damage.{damaged_told}
 use Rattle.gate_journal.proofs.Sizes.{none_in_turn, more_in_turn, all_measured}
@@ -20,7 +20,7 @@ loop-places-init g c = record {
   turn = none_in_turn c.new-places.result.items c.new-places.ensures.items;
   window = empty_window (g.D.Disk.content c.args.disk.now) c.empty-window.result.start c.empty-window.result.bytes.items c.empty-window.ensures;
   told = read_none_told (g.D.Disk.content c.args.disk.now) c.args.limit c.args.len c.new-places.result.items c.new-places.ensures.items c.requires.long c.requires.told;
-  rests = rests_started g.D.Disk.content g.D.Disk.may_leave g.D.Disk.moment g.D.Disk.left_since c.args.disk.now g.met.D.Disk.only_now;
+  rests = rests_started g.D.Disk c.args.disk.now g.met.D.Disk.only_now;
   later = omega arith;
 }
 
@@ -40,7 +40,7 @@ loop-places-preserved g c =
       turn = more_in_turn at _ c.loop-places.places.items c.push.new.self.items _ so_far.turn c.in_ok-push.ensures.items refl refl;
       window = subst (λ (o : Option (List ℕ)). IfSome o (IsWindow c.read_head.new.window.start c.read_head.new.window.bytes.items)) same c.in_ok-size.ensures.window;
       told = read_more_told content c.args.limit c.args.len at size c.loop-places.places.items c.push.new.self.items _ so_far.told stands c.requires.told (omega (arith, so_far.within, head.0)) head.1 (omega (arith, head.1, c.ranges.limit.fits)) refl c.in_ok-push.ensures.items;
-      rests = rests_far g.D.Disk.content g.D.Disk.may_leave g.D.Disk.moment g.D.Disk.left_since c.args.disk.now c.loop-places.disk c.read_head.new.disk so_far.rests c.in_ok-size.ensures.rests;
+      rests = rests_far g.D.Disk c.args.disk.now c.loop-places.disk c.read_head.new.disk so_far.rests c.in_ok-size.ensures.rests;
       later = omega (arith, so_far.later, c.in_ok-size.ensures.later);
     }
 

@@ -8,5 +8,5 @@ pub returns : goal.returns
 returns g c =
     let inside = c.self.inside in
     c.held.ensures.held
-    ∙ ap held_for (kept_sizes g.D.Disk.content g.D.Disk.may_leave inside.number inside.config.settings inside.body.items inside.journal c.self.invariant)
+    ∙ ap held_for (kept_sizes g.D.Disk inside.number inside.config.settings inside.body.items inside.journal c.self.invariant)
     ∙ ap (λ (v : View _). held_by v.records) c.self.view_is

@@ -1,11 +1,11 @@
 use Rattle.std.proofs.Common.{◌≡◌, ◌∙◌, ◌<◌, ◌≤◌, ◌^◌, ◌-◌, ◌+◌, ℕ, List, [], ◌∷◌, ◌++◌, None, length, vec_capacity, refl, sym, ap, subst, rules, arith}
 use Rattle.std.specs.Option.{option_map}
-use Rattle.disk_api.specs.Images.{LeavesOnly}
+use Rattle.disk_api.specs.Runs.{LeavesOnly}
 use Rattle.gate_journal.specs.Kept.{shows, doubt_of, IsGuarded}
 use Rattle.gate_journal.specs.Storing.{stored, entry_bytes, IsStoringTold}
 use Rattle.gate_journal.specs.View.{View, StandsForOrWith}
 use Rattle.gate_journal.specs.declared.place.Place.{Place}
-use Rattle.gate_journal.proofs.Moments.{weaker}
+use Rattle.disk_api.specs.RunLaws.{weaker}
 use Rattle.gate_journal.proofs.Keeping.{kept_long, open_failed, open_failed_shows, open_stored, open_stored_shows, place_free}
 use Rattle.gate_journal.proofs.Guarding.{told_of_images, shown_told, in_doubt, open_stands, storing_stands, guarded_failed, guarded_stored}
 use Rattle.gate_journal.proofs.journal.Journal.put.Goals as goal
@@ -96,8 +96,8 @@ returns-in-Ok-clause-any_moment g c =
     let opened : j.shut ≡ None = ap (λ (v : View _). v.shut) c.self.view_is ∙ c.requires.place.is_open in
     let few : length payload < 2 ^ 64 = search rules in
     let fits : length payload ≤ j.limit = omega (arith, c.requires.place.fits, ap (λ (v : View _). v.limit) c.self.view_is) in
-    subst (λ (v : View _). LeavesOnly g.D.Disk.moment g.D.Disk.left_since v.disk c.store.new.disk (StandsForOrWith v.limit v.records payload)) c.self.view_is
-    (weaker g.D.Disk.content g.D.Disk.may_leave g.D.Disk.moment g.D.Disk.left_since j.disk c.store.new.disk (IsStoringTold j.held c.deref.result.now content) (StandsForOrWith j.limit (shows j.count content) payload) c.store.ensures.any_moment
+    subst (λ (v : View _). LeavesOnly g.D.Disk v.disk c.store.new.disk (StandsForOrWith v.limit v.records payload)) c.self.view_is
+    (weaker g.D.Disk j.disk c.store.new.disk (IsStoringTold j.held c.deref.result.now content) (StandsForOrWith j.limit (shows j.count content) payload) c.store.ensures.any_moment
     (λ image storing. storing_stands j.limit j.count payload few fits content may_leave j.held j.places.items (doubt_of j.buffer.items) j.shut opened c.self.invariant.0 c.self.invariant.1 image (subst (λ (l : List ℕ). IsStoringTold j.held l content image) entry storing)))
 
 pub returns-in-Err-clause-kept : goal.returns-in-Err-clause-kept
@@ -123,8 +123,8 @@ returns-in-Err-clause-any_moment g c =
     let opened : j.shut ≡ None = ap (λ (v : View _). v.shut) c.self.view_is ∙ c.requires.place.is_open in
     let few : length payload < 2 ^ 64 = search rules in
     let fits : length payload ≤ j.limit = omega (arith, c.requires.place.fits, ap (λ (v : View _). v.limit) c.self.view_is) in
-    subst (λ (v : View _). LeavesOnly g.D.Disk.moment g.D.Disk.left_since v.disk c.store.new.disk (StandsForOrWith v.limit v.records payload)) c.self.view_is
-    (weaker g.D.Disk.content g.D.Disk.may_leave g.D.Disk.moment g.D.Disk.left_since j.disk c.store.new.disk (IsStoringTold j.held c.deref.result.now content) (StandsForOrWith j.limit (shows j.count content) payload) c.store.ensures.any_moment
+    subst (λ (v : View _). LeavesOnly g.D.Disk v.disk c.store.new.disk (StandsForOrWith v.limit v.records payload)) c.self.view_is
+    (weaker g.D.Disk j.disk c.store.new.disk (IsStoringTold j.held c.deref.result.now content) (StandsForOrWith j.limit (shows j.count content) payload) c.store.ensures.any_moment
     (λ image storing. storing_stands j.limit j.count payload few fits content may_leave j.held j.places.items (doubt_of j.buffer.items) j.shut opened c.self.invariant.0 c.self.invariant.1 image (subst (λ (l : List ℕ). IsStoringTold j.held l content image) entry storing)))
 
 pub returns-in-Ok-clause-safe : goal.returns-in-Ok-clause-safe
