@@ -1,0 +1,5 @@
+mod Clauses
+mod EachEntry
+mod Lists
+mod RoaClauses
+mod TwoLists

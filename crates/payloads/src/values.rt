@@ -1,0 +1,14 @@
+//! What bodies hold.
+
+ghost use Rattle.origins.specs.Prefix.{IsMaximum};
+
+use origins::Prefix;
+
+/// A prefix that an AS may announce.
+#[derive(Clone, Copy, Debug, PartialEq, Eq)]
+pub struct RoaEntry {
+    pub prefix: Prefix,
+    /// The greatest length that may be announced, from the prefix's length to 32 or 128.
+    pub max: u8,
+    ghost maximum: { IsMaximum prefix.v6 prefix.length max },
+}
