@@ -15,7 +15,7 @@ use Rattle.krill_top.specs.Replies.{State, anchor_desk}
 use Rattle.krill_top.specs.Stands.{IsIn}
 use Rattle.krill_top.specs.Ended.{Served}
 use Rattle.krill_top.specs.Ends.{run_status, fault_of}
-use Rattle.krill_top.specs.Desks.{IsLeft, AreKept}
+use Rattle.krill_top.specs.Desks.{IsSafe, AreKept}
 use Rattle.krill_top.specs.Opened.{IsOpened, IsClosed, AreOpened, AreClosed}
 use Rattle.krill_top.specs.Run.{IsOpenedOn, IsClosedOn, ServesOne}
 use Rattle.krill_top.proofs.Desks.{opened_stood_for, closed_left, kept_all}
@@ -68,9 +68,9 @@ module _ {D S K C : Type 0} (disk_of : DiskGhosts D) (source_of : SourceGhosts S
       → AreOpened disk_of 0 (first ∷ others) desks → desks ≡ desk ∷ rest → closed ≡ served ∷ rest → AreClosed disk_of closed run.desks.items
       → ((state : State) → IsIn disk_of desk state → Served disk_of source_of sink_of before after state served end)
       → run.sessions.items ≡ after ∷ [] → run.status ≡ run_status (fault_of end) → run.fault ≡ fault_of end
-      → (end ≡ SourceFault → HasRisen (source_of.faults before.source) (source_of.faults after.source))
-      → (end ≡ SinkFault → HasRisen (sink_of.faults before.sink) (sink_of.faults after.sink))
-      → source_of.faults before.source ≤ source_of.faults after.source → sink_of.faults before.sink ≤ sink_of.faults after.sink
+      → (end ≡ SourceFault → HasRisen (source_of.fault_count before.source) (source_of.fault_count after.source))
+      → (end ≡ SinkFault → HasRisen (sink_of.fault_count before.sink) (sink_of.fault_count after.sink))
+      → source_of.fault_count before.source ≤ source_of.fault_count after.source → sink_of.fault_count before.sink ≤ sink_of.fault_count after.sink
       → after.clock ≡ before.clock
       → ServesOne disk_of source_of sink_of first others before run
   serves first others before after end run desk served rest desks closed opened desks_are closed_are back session sessions status fault source_fault sink_fault source_later sink_later clock =

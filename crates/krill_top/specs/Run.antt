@@ -17,7 +17,7 @@ use Rattle.krill_top.specs.declared.serving.SessionEnds.{SessionEnds}
 use Rattle.krill_top.specs.declared.running.RunEnd.{RunEnd}
 use Rattle.krill_top.specs.Replies.{State, anchor_desk}
 use Rattle.krill_top.specs.Ended.{Converses}
-use Rattle.krill_top.specs.Desks.{StoodFor, IsLeft, AreKept, IsOpeningRefused}
+use Rattle.krill_top.specs.Desks.{RecoveredTo, IsSafe, AreKept, IsOpeningRefused}
 use Rattle.krill_top.specs.Ends.{fault_status, run_status, fault_of, opening_fault}
 
 -- A run that was refused at once: nothing was read or written, and no device was called.
@@ -37,7 +37,7 @@ pub record IsRefusedAtOpening {D S K C : Type 0} (disk_of : DiskGhosts D) (desks
 
 -- The state of the anchor's desk once it was opened over a disk.
 pub record IsOpenedOn {D : Type 0} (disk_of : DiskGhosts D) (disk : D) (begun : State) : Type 0 where
-  pub found : StoodFor (disk_of.content disk) anchor_desk begun.commands
+  pub found : RecoveredTo (disk_of.content disk) anchor_desk begun.commands
   pub recorded : Records anchor_desk (map spelling begun.commands) begun.commands
   pub bytes : begun.content ≡ option_map opened (disk_of.content disk)
   pub is_open : begun.doubt ≡ None
@@ -48,7 +48,7 @@ pub record IsOpenedOn {D : Type 0} (disk_of : DiskGhosts D) (disk : D) (begun : 
 pub record IsClosedOn {D : Type 0} (disk_of : DiskGhosts D) (disk : D) (ended : State) : Type 0 where
   pub recorded : Records anchor_desk (map spelling ended.commands) ended.commands
   pub next : IfSome ended.doubt (λ command. Records anchor_desk (map spelling (ended.commands ++ command ∷ [])) (ended.commands ++ command ∷ []))
-  pub left : IsLeft disk_of ended.commands ended.doubt disk
+  pub left : IsSafe disk_of ended.commands ended.doubt disk
   pub bytes : disk_of.content disk ≡ ended.content
   pub counted : disk_of.fault_count disk ≡ ended.faults
 
@@ -74,7 +74,7 @@ pub record ServesOne {D S K C : Type 0} (disk_of : DiskGhosts D) (source_of : So
   pub grows : ended.commands ≡ begun.commands ++ accepted
   pub closing : IsClosedOn disk_of first' ended
   pub others_kept : AreKept disk_of 1 others others'
-  pub source_fault : end ≡ SourceFault → HasRisen (source_of.faults before.source) (source_of.faults after.source)
-  pub sink_fault : end ≡ SinkFault → HasRisen (sink_of.faults before.sink) (sink_of.faults after.sink)
-  pub source_later : source_of.faults before.source ≤ source_of.faults after.source
-  pub sink_later : sink_of.faults before.sink ≤ sink_of.faults after.sink
+  pub source_fault : end ≡ SourceFault → HasRisen (source_of.fault_count before.source) (source_of.fault_count after.source)
+  pub sink_fault : end ≡ SinkFault → HasRisen (sink_of.fault_count before.sink) (sink_of.fault_count after.sink)
+  pub source_later : source_of.fault_count before.source ≤ source_of.fault_count after.source
+  pub sink_later : sink_of.fault_count before.sink ≤ sink_of.fault_count after.sink

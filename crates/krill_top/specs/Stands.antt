@@ -47,7 +47,7 @@ abbrev pub MayText : {D : Type 0} → DiskGhosts D → Anchor D → List ℕ →
 MayText disk_of old line text accepted new =
     (before : State) → IsIn disk_of old.desk before → Goes disk_of (λ b a. IsText b line text accepted a) new.desk before
 
--- A command may get this text: from the desk, or because memory was wanting.
+-- A command may get this text: from the desk, or because memory ran out.
 abbrev pub MayAnswer : {D : Type 0} → DiskGhosts D → Anchor D → List ℕ → Command → List ℕ → Bool → Anchor D → Type 0
 MayAnswer disk_of old name command text accepted new =
     (before : State) → IsIn disk_of old.desk before → Goes disk_of

@@ -156,7 +156,7 @@ fn append_journal_line(out: &mut Vec<u8>, refusal: JournalRefusal)
     append(out, "\n");
 }
 
-// Appends the line of a refusal, or of want of memory where that finds none.
+// Appends the line of a refusal, or that memory ran out, where there is none for it.
 fn append_refusal(alloc: Global, refusal: &Refusal, out: &mut Vec<u8>)
     requires { vec_len out.old + REPLY_ROOM ≤ vec_capacity out.old }
     ensures { (text : List ℕ) × (out.new.items ≡ out.old.items ++ text ++ 10 ∷ [])
