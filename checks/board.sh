@@ -24,8 +24,8 @@ race_of() {
 }
 
 # Long races, and many short ones, in which threads start and end beside what is shown.
-race_of 100000
-race_of 100000
+race_of 40000
+race_of 40000
 turn=0
 while [ "$turn" -lt 200 ]; do
     race_of "$turn"
