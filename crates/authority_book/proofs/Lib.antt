@@ -1,9 +1,4 @@
 mod OriginOrder
 mod Repeats
 mod Indexed
-mod Distinct
-mod Sorted
-mod Changes
-mod Folds
-mod Inserted
 mod Same

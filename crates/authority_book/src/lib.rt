@@ -3,16 +3,13 @@
 #![tactic(auto)]
 
 mod commands;
-mod configs;
 mod laws;
 mod origin_lists;
 mod refusals;
-mod sorted_origins;
-mod verdicts;
+mod rows;
 
 pub use commands::Command;
-pub use configs::Config;
 pub use laws::membership_is_by_equality;
 pub use origin_lists::OriginList;
 pub use refusals::Refusal;
-pub use verdicts::{verdict, verdict_on_the_fold};
+pub use rows::{Child, NameRow};
