@@ -1,6 +1,9 @@
+pub mod InTurn
+pub mod Standing
+pub mod Granted
+pub mod Commanding
+pub mod Reading
 pub mod Answering
 pub mod Sessions
-pub mod Desks
+pub mod Served
 pub mod Removed
-pub mod ServedOver
-pub mod Grows

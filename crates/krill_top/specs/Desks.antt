@@ -13,10 +13,6 @@ use Rattle.desk_core.specs.Images.{RecoversTo, RecoversToKnown}
 use Rattle.krill_top.specs.declared.faults.OpenFault.{OpenFault}
 use Rattle.krill_top.specs.declared.faults.OpenFault.TheVariants.{WrongCount, Damaged, BadRecord, DiskFault, Memory}
 
--- How many desks there are.
-abbrev pub most_desks : ℕ
-most_desks = 64
-
 -- The disk, if it is known, recovers to the records of these commands of the desk.
 abbrev pub RecoveredTo : Option (List ℕ) → ℕ → List Command → Type 0
 RecoveredTo content number commands =

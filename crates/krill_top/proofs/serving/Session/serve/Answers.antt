@@ -7,6 +7,7 @@ returns-clause-session g c before stands =
     let e = serves_over g.D.Disk c.serve_lines.result s.0 s.1 _ _ _ before s.4 stands in
     record {
       after = e.after;
-      session = record { given = s.0; written = s.1; source = s.2; sink = s.3; replies = e.so };
+      step = record { given = s.0; written = s.1; source = s.2; sink = s.3; replies = e.step };
       stands = e.stands;
+      disks = e.disks;
     }
