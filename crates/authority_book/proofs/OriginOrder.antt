@@ -1,6 +1,6 @@
 -- The order of origins is total, and looking an origin up in a sorted list finds its members.
 use Rattle.std.proofs.Common.{◌≡◌, ℕ, ◌+◌, false, sym, ◌∙◌, ap, arith, length, get_or, List, inl, inr}
-use Rattle.std.specs.Cmp.{IsTotalOrder, IsEquivalence, then_total, on_total, nat_cmp_total, bool_cmp_total}
+use Rattle.std.specs.Cmp.{IsEquivalence}
 use Rattle.std.specs.Result.{is_ok}
 use Rattle.std.specs.Prelude.{Result, Ok, Err}
 use Rattle.std.specs.declared.cmp.Ordering.TheVariants.{Less, Greater}
@@ -11,15 +11,9 @@ use Rattle.std.proofs.lemmas.Cmp.{eq_by_cmp_equiv, tied_back}
 use Rattle.std.proofs.lemmas.List.Folds.{list_any_none, list_any_at}
 use Rattle.std.proofs.lemmas.List.Sorted.{searchable_from_sorted}
 use Rattle.std.proofs.lemmas.Map.Keys.{Less-from_sorted}
+pub use Rattle.origins.specs.Ordered.{origin_total}
 use Rattle.origins.specs.declared.Origin.{Origin}
 use Rattle.authority_book.specs.Origins.{origin_cmp, is_same, is_there, IsAscending}
-
-pub origin_total : IsTotalOrder origin_cmp
-unfolding origin_cmp
-origin_total =
-    then_total (on_total (λ o. o.prefix) (then_total (on_total (λ p. p.v6) bool_cmp_total)
-    (then_total (on_total (λ p. p.address) nat_cmp_total) (on_total (λ p. p.length) nat_cmp_total))))
-    (then_total (on_total (λ o. o.max) nat_cmp_total) (on_total (λ o. o.asn) nat_cmp_total))
 
 pub same_laws : IsEquivalence is_same
 same_laws = eq_by_cmp_equiv origin_total

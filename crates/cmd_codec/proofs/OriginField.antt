@@ -2,12 +2,10 @@
 use Rattle.std.proofs.Common.{◌≡◌, ℕ, ◌<◌, ◌^◌, ◌++◌, Bool, true, false, List, ◌∷◌, length, get_or, take, drop, refl, sym, ap, subst, ◌∙◌, arith, Option, None, Some}
 use Rattle.std.specs.Prelude.{MatchOption}
 use Rattle.std.specs.Int.{w32, w128, from_be_bytes, to_be_bytes}
-use Rattle.std.proofs.Props.{props}
 use Rattle.std.proofs.lemmas.List.{take-append-drop, length-take, length-drop, drop-drop, drop_more, drop_all, append-nil}
 use Rattle.std.proofs.lemmas.Nat.{be_bytes_4, from_be_bytes-to_be_bytes_4}
-use mathlib.Core.HLevel.{Σ_prop_path}
 use Rattle.origins.specs.Prefix.{IsPrefix, IsMaximum, address_bits}
-use Rattle.origins.specs.declared.Prefix.{Prefix}
+use Rattle.origins.specs.Same.{same_prefix, same_origin}
 use Rattle.origins.specs.declared.Origin.{Origin}
 use Rattle.cmd_codec.specs.Spelling.{family, origin_spelling}
 use Rattle.cmd_codec.specs.Places.{IsOrigin, HasNumbers}
@@ -58,37 +56,9 @@ spelled_from field o len fits family_is is =
     let asn_is : asn ≡ to_be_bytes w32 o.asn = sym (be_bytes_4 asn o.asn (omega (arith, length-take 4 (drop 19 field), length-drop 19 field)) (IsBytes-take 4 (drop 19 field) (IsBytes-drop 19 field fits)) is.asn_is) in
     parts_of field len ∙ (λ i. family_is i ∷ address_is i ++ sym is.length_is i ∷ sym is.max_is i ∷ asn_is i)
 
-prefix_prop : (v6 : Bool) (address len : ℕ) → IsProp (IsPrefix v6 address len)
-prefix_prop v6 address len = hlevel props
-
-maximum_prop : (v6 : Bool) (len max : ℕ) → IsProp (IsMaximum v6 len max)
-maximum_prop v6 len max = hlevel props
-
-prefix_from : (t : (n : Bool × ℕ × ℕ) × IsPrefix n.0 n.1 n.2) → Prefix
-prefix_from t = record { v6 = t.0.0; address = t.0.1; length = t.0.2; prefix = t.1 }
-
-prefix_same : (p q : Prefix) → p.v6 ≡ q.v6 → p.address ≡ q.address → p.length ≡ q.length → p ≡ q
-unfolding prefix_from
-prefix_same p q a b c =
-    let one : (n : Bool × ℕ × ℕ) × IsPrefix n.0 n.1 n.2 = ((p.v6, p.address, p.length), p.prefix) in
-    let other : (n : Bool × ℕ × ℕ) × IsPrefix n.0 n.1 n.2 = ((q.v6, q.address, q.length), q.prefix) in
-    let numbers : one.0 ≡ other.0 = λ i. (a i, b i, c i) in
-    let e : one ≡ other = Σ_prop_path (λ (n : Bool × ℕ × ℕ). prefix_prop n.0 n.1 n.2) numbers in
-    ap prefix_from e
-
-origin_from : (t : (n : Prefix × ℕ × ℕ) × IsMaximum n.0.v6 n.0.length n.1) → Origin
-origin_from t = record { prefix = t.0.0; max = t.0.1; asn = t.0.2; maximum = t.1 }
-
 -- Two origins with the same numbers are one.
 pub origin_same : (o p : Origin) → o.prefix.v6 ≡ p.prefix.v6 → o.prefix.address ≡ p.prefix.address → o.prefix.length ≡ p.prefix.length → o.max ≡ p.max → o.asn ≡ p.asn → o ≡ p
-unfolding origin_from
-origin_same o p a b c d e =
-    let prefixes = prefix_same o.prefix p.prefix a b c in
-    let one : (n : Prefix × ℕ × ℕ) × IsMaximum n.0.v6 n.0.length n.1 = ((o.prefix, o.max, o.asn), o.maximum) in
-    let other : (n : Prefix × ℕ × ℕ) × IsMaximum n.0.v6 n.0.length n.1 = ((p.prefix, p.max, p.asn), p.maximum) in
-    let numbers : one.0 ≡ other.0 = λ i. (prefixes i, d i, e i) in
-    let is : one ≡ other = Σ_prop_path (λ (n : Prefix × ℕ × ℕ). maximum_prop n.0.v6 n.0.length n.1) numbers in
-    ap origin_from is
+origin_same o p a b c d e = same_origin o p (same_prefix o.prefix p.prefix a b c) d e
 
 family_apart : (a b : Bool) → family a ≡ family b → a ≡ b
 family_apart true true e = refl

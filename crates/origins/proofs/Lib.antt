@@ -7,3 +7,4 @@ pub mod RangeLemmas
 pub mod Printed
 pub mod Same
 pub mod Told
+pub mod ReadPrefix

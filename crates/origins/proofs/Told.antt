@@ -1,5 +1,5 @@
 -- What a maximum makes is known of it as 64 bits tell it.
-use Rattle.std.proofs.Common.{◌≡◌, ℕ, ◌≤◌, List, Bool, true, false, Option, Some, None, unwrap_or, Result, Ok, Err, ap, subst, ◌∙◌, arith}
+use Rattle.std.proofs.Common.{◌≡◌, ℕ, ◌≤◌, List, Bool, true, false, Option, Some, None, unwrap_or, Result, Ok, Err, refl, ap, subst, ◌∙◌, arith}
 use Rattle.ip_text.specs.Number.{saturated}
 use Rattle.origins.specs.Prefix.{address_bits, IsMaximum}
 use Rattle.origins.specs.Text.{Parts, IsOriginText}
@@ -41,3 +41,12 @@ reads_made text parts (Ok origin) is made = (parts, is, made)
 reads_made text parts (Err BadOrigin) is made = absurd made
 reads_made text parts (Err HostBits) is made = (parts, is, made)
 reads_made text parts (Err MaxLength) is made = (parts, is, made)
+
+-- no maximum is written exactly where none is told
+pub told_none : (told maximum : Option ℕ) → IsTold told maximum → maximum ≡ None → told ≡ None
+told_none told None is e = is
+told_none told (Some m) is e = absurd (cc)
+
+pub none_told : (told maximum : Option ℕ) → IsTold told maximum → told ≡ None → maximum ≡ None
+none_told told None is e = refl
+none_told told (Some m) is e = absurd (cc)

@@ -1,9 +1,10 @@
 -- Which origin a text spells, and the one text that is printed of an origin.
-use Rattle.std.specs.Prelude.{◌≡◌, ◌≢◌, ℕ, ◌-◌, ◌%◌, ◌^◌, Bool, true, false, List, [], ◌++◌, Option, unwrap_or, codes, decimal, Result, Ok, Err, ◌==◌, if◌then◌else◌}
+use Rattle.std.specs.Prelude.{◌≡◌, ◌≢◌, ℕ, ◌-◌, ◌%◌, ◌^◌, Bool, true, false, List, [], ◌++◌, Option, None, unwrap_or, codes, decimal, Result, Ok, Err, ◌==◌, if◌then◌else◌}
 use Rattle.ip_text.specs.Ipv4.{dotted}
 use Rattle.ip_text.specs.Ipv6.{ipv6_text}
 use Rattle.origins.specs.Prefix.{address_bits, IsMaximum}
-use Rattle.origins.specs.Text.{Parts, IsOriginText}
+use Rattle.origins.specs.Text.{Parts, IsPrefixText, IsOriginText}
+use Rattle.origins.specs.declared.Prefix.{Prefix}
 use Rattle.origins.specs.declared.Origin.{Origin}
 use Rattle.origins.specs.declared.grammar.WrittenPrefix.{WrittenPrefix}
 use Rattle.origins.specs.declared.reading.OriginFault.{OriginFault}
@@ -45,6 +46,10 @@ ReadsOrigin text (Ok origin) = (parts : Parts) × IsOriginText text parts × Mak
 -- the text spells the origin: reading answers it
 abbrev pub SpellsOrigin : List ℕ → Origin → Type 0
 SpellsOrigin text origin = ReadsOrigin text (Ok origin)
+
+-- the text spells the prefix, without a maximum
+abbrev pub SpellsPrefix : List ℕ → Prefix → Type 0
+SpellsPrefix text prefix = IsPrefixText text prefix.v6 prefix.address prefix.length None
 
 -- what was written, as parts with this maximum
 abbrev pub parts_of : WrittenPrefix → ℕ → Option ℕ → Parts

@@ -19,6 +19,7 @@ impl Prefix {
     pub fn last(&self) -> u128
         ensures member { IsAddressOf self.now.v6 self.now.address self.now.length result }
         ensures greatest { (a : ℕ) → IsAddressOf self.now.v6 self.now.address self.now.length a → a ≤ result }
+        ensures behind { self.now.address ≤ result }
         ensures between { (a : ℕ) → self.now.address ≤ a → a ≤ result
             → IsAddressOf self.now.v6 self.now.address self.now.length a }
     {

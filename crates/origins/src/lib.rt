@@ -1,14 +1,18 @@
 //! Route origins: which AS may announce a prefix, and how far it may be split (RFC 9582).
 #![tactic(auto)]
 
+ghost use Rattle.std.specs.Prelude.{◌<◌, ◌^◌};
 ghost use Rattle.origins.specs.Prefix.{IsPrefix, IsMaximum};
 
 mod addresses;
 mod fronts;
 mod grammar;
+mod laws;
+mod making;
 mod reading;
 mod writing;
 
+pub use laws::{orders_origins, same_numbers_same_origin};
 pub use reading::{OriginFault, read_origin, reads_origin_once};
 pub use writing::reads_own_text;
 
@@ -37,4 +41,5 @@ pub struct Origin {
     pub max: u8,
     pub asn: u32,
     ghost maximum: { IsMaximum prefix.v6 prefix.length max },
+    ghost number: { asn < 2 ^ 32 },
 }

@@ -9,7 +9,7 @@ ghost use Rattle.origins.specs.declared.Origin.{Origin};
 ghost use Rattle.origins.specs.Origin.{ReadsOrigin, MakesOrigin, SpellsOrigin, parts_of};
 
 use crate::fronts::{after, skip_blanks, split_before};
-use crate::grammar::{WrittenPrefix, address_bits, read_prefix};
+use crate::grammar::{WrittenPrefix, read_prefix};
 use crate::{Origin, Prefix};
 use ip_text::read_as_number;
 use thiserror::Error;
@@ -49,46 +49,19 @@ fn read_parts(text: &[u8]) -> Option<(WrittenPrefix, u32)>
     Some((read_prefix(prefix)?, read_as_number(asn)?))
 }
 
-// Whether a bit is set below the length.
-fn has_host_bits(prefix: &WrittenPrefix) -> bool
-    requires { prefix.now.length ≤ bits.address_bits prefix.now.v6 }
-    ensures { IsTrue result
-        ↔ (prefix.now.address % 2 ^ (bits.address_bits prefix.now.v6 - prefix.now.length) ≢ 0) }
-{
-    let host = address_bits(prefix.v6) - prefix.length;
-    match 1u128.checked_shl(u32::from(host)) {
-        Some(size) => prefix.address % size != 0,
-        None => prefix.address != 0,
-    }
-}
-
 fn make_origin(prefix: WrittenPrefix, asn: u32) -> Result<Origin, OriginFault>
     requires short { prefix.length ≤ bits.address_bits prefix.v6 }
     requires fits { prefix.address < 2 ^ bits.address_bits prefix.v6 }
     ensures { MakesOrigin (parts_of prefix asn prefix.maximum) result }
 {
-    if has_host_bits(&prefix) {
-        return Err(OriginFault::HostBits);
-    }
     let max = prefix.maximum.unwrap_or(u64::from(prefix.length));
-    if max < u64::from(prefix.length) || max > u64::from(address_bits(prefix.v6)) {
+    let Some(prefix) = Prefix::new(prefix.v6, prefix.address, prefix.length) else {
+        return Err(OriginFault::HostBits);
+    };
+    if max > u64::from(u8::MAX) {
         return Err(OriginFault::MaxLength);
     }
-    let WrittenPrefix {
-        v6,
-        address,
-        length,
-        ..
-    } = prefix;
-    Ok(Origin {
-        prefix: Prefix {
-            v6,
-            address,
-            length,
-        },
-        max: max as u8,
-        asn,
-    })
+    Origin::new(prefix, max as u8, asn).ok_or(OriginFault::MaxLength)
 }
 
 /// Reads an origin, as `10.0.0.0/16-24 => 64496`.
@@ -104,6 +77,24 @@ pub fn read_origin(text: &str) -> Result<Origin, OriginFault>
         return Err(OriginFault::BadOrigin);
     };
     make_origin(prefix, asn)
+}
+
+impl Prefix {
+    ghost use Rattle.std.specs.Prelude.{MatchOption};
+    ghost use Rattle.origins.specs.declared.Prefix.{Prefix};
+    ghost use Rattle.origins.specs.Origin.{SpellsPrefix};
+
+    /// Reads a prefix, as `10.0.0.0/16`. It takes no memory.
+    pub fn read(text: &str) -> Option<Prefix>
+        ensures { MatchOption result ((prefix : Prefix) → ¬ SpellsPrefix text.now prefix)
+            (λ prefix. SpellsPrefix text.now prefix) }
+    {
+        let written = read_prefix(text.as_bytes())?;
+        match written.maximum {
+            Some(_) => None,
+            None => Prefix::new(written.v6, written.address, written.length),
+        }
+    }
 }
 
 /// A law, with nothing to run: a text is read in one way, so the answers exclude each other.
