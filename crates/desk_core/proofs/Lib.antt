@@ -1,5 +1,5 @@
 pub mod Recorded
-pub mod Moments
+mod Refusals
 pub mod Loading
 pub mod Listed
 pub mod Committed

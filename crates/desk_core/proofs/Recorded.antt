@@ -1,8 +1,9 @@
 -- Records of commands, and lists of them.
 use Rattle.std.proofs.Common.{◌≡◌, ℕ, ◌+◌, ◌*◌, ◌++◌, List, [], ◌∷◌, Result, Ok, true, false, length, map, refl, sym, ap, ◌∙◌, arith, length-append}
 use Rattle.std.specs.Prelude.{is_err}
-use Rattle.std.specs.List.{All, AllByRecursion}
+use Rattle.std.specs.List.{All, AllByRecursion, flat_map}
 use Rattle.std.proofs.lemmas.List.{map-append}
+use Rattle.std.proofs.lemmas.List.Concat.{flat_map-cons}
 use Rattle.std.proofs.lemmas.List.Elements.{All-append, All-from_recursion, recursion_from_All}
 use Rattle.authority_book.specs.declared.commands.Command.{Command}
 use Rattle.authority_book.specs.declared.commands.Command.TheVariants.{UpdateRoas}
@@ -10,8 +11,8 @@ use Rattle.authority_book.specs.declared.refusals.Refusal.{Refusal}
 use Rattle.authority_book.specs.Settings.{Settings}
 use Rattle.authority_book.specs.Verdict.{refused_or_ok, verdict_of, IsAccepted}
 use Rattle.authority_book.specs.Fold.{IsFoldOf, Taken}
-use Rattle.cmd_codec.specs.Spelling.{spelling, list_spelling, IsRecordable}
-use Rattle.cmd_codec.proofs.Spelled.{length-counted}
+use Rattle.origins.specs.declared.Origin.{Origin}
+use Rattle.cmd_codec.specs.Spelling.{spelling, list_spelling, origin_spelling, counted_spelling, IsRecordable}
 use Rattle.desk_core.specs.Commands.{Records}
 use Rattle.desk_core.specs.Kept.{IsLoaded}
 
@@ -41,8 +42,22 @@ determined apart number records one other p q =
 abbrev pub origins_of : Command → ℕ
 origins_of (UpdateRoas added removed) = length added + length removed
 
+length_origin : (origin : Origin) → length (origin_spelling origin) ≡ 23
+unfolding origin_spelling
+length_origin origin = refl
+
+length_origins : (origins : List Origin) → length (flat_map origin_spelling origins) ≡ 23 * length origins
+length_origins [] = refl
+length_origins (origin ∷ origins) =
+    let one : length (flat_map origin_spelling (origin ∷ origins)) ≡ length (origin_spelling origin ++ flat_map origin_spelling origins) = ap length (flat_map-cons origin_spelling origin origins) in
+    omega (arith, one, length-append (origin_spelling origin) (flat_map origin_spelling origins), length_origin origin, length_origins origins)
+
+length_counted : (count : ℕ) (origins : List Origin) → length (counted_spelling count origins) ≡ 4 + 23 * length origins
+unfolding counted_spelling
+length_counted count origins = omega (arith, length_origins origins)
+
 pub length_spelling : (command : Command) → length (spelling command) ≡ 9 + 23 * origins_of command
-length_spelling (UpdateRoas added removed) = omega (arith, length-counted (length added) added, length-counted (length removed) removed, length-append (list_spelling added) (list_spelling removed))
+length_spelling (UpdateRoas added removed) = omega (arith, length_counted (length added) added, length_counted (length removed) removed, length-append (list_spelling added) (list_spelling removed))
 
 -- What a refused command's verdict rules out.
 pub refused : (settings fold : Settings) (command : Command) (signers : ℕ) (r : Result (Unit {0}) Refusal) → r ≡ verdict_of settings command signers →

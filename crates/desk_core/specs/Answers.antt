@@ -1,6 +1,7 @@
 -- When a command is refused, and what each refusal leaves.
 use Rattle.std.specs.Prelude.{◌≡◌, ◌<◌, ◌≤◌, ◌+◌, ℕ, Some, None, Ok, Err, Result, length}
 use Rattle.fault_count.specs.Rise.{HasRisen}
+use Rattle.disk_api.specs.declared.disk.Disk.{Ghosts as DiskGhosts}
 use Rattle.authority_book.specs.declared.commands.Command.{Command}
 use Rattle.authority_book.specs.declared.refusals.Refusal.{Refusal}
 use Rattle.authority_book.specs.Verdict.{verdict_of}
@@ -49,11 +50,11 @@ pub record IsFullAnswer {D : Type 0} (held needed : ℕ) (command : Command) (si
   pub same : new ≡ old
 
 -- the disk failed in this call; the record may stand on it
-pub record IsFaultAnswer {D : Type 0} (fault_count : D → ℕ) (rose : ℕ × (ℕ × ℕ)) (command : Command) (signers : ℕ) (old new : View D) : Type 0 where
+pub record IsFaultAnswer {D : Type 0} (disk_of : DiskGhosts D) (rose : ℕ × (ℕ × ℕ)) (command : Command) (signers : ℕ) (old new : View D) : Type 0 where
   pub place : HasPlace old command signers
   pub desk : rose.0 ≡ old.number
-  pub before : rose.1.0 ≡ fault_count old.disk
-  pub after : rose.1.1 ≡ fault_count new.disk
+  pub before : rose.1.0 ≡ disk_of.fault_count old.disk
+  pub after : rose.1.1 ≡ disk_of.fault_count new.disk
   pub risen : HasRisen rose.1.0 rose.1.1
   pub recordable : IsRecordable command
   pub same : new ≡ record old { disk = new.disk; shut = Some rose.1; doubt = Some (spelling command) }
@@ -63,12 +64,12 @@ pub record IsMemoryAnswer {D : Type 0} (command : Command) (signers : ℕ) (old 
   pub place : HasPlace old command signers
   pub same : new ≡ old
 
-abbrev pub IsDeskFault : {D : Type 0} → (D → ℕ) → DeskFault D → Command → ℕ → View D → View D → Type 0
-IsDeskFault fault_count (Shut rose) command signers old new = IsShutAnswer rose old new
-IsDeskFault fault_count (Verdict refusal) command signers old new = IsVerdictAnswer refusal command signers old new
-IsDeskFault fault_count (JournalFull held needed) command signers old new = IsFullAnswer held needed command signers old new
-IsDeskFault fault_count (DiskFault rose) command signers old new = IsFaultAnswer fault_count rose command signers old new
-IsDeskFault fault_count Memory command signers old new = IsMemoryAnswer command signers old new
+abbrev pub IsDeskFault : {D : Type 0} → DiskGhosts D → DeskFault D → Command → ℕ → View D → View D → Type 0
+IsDeskFault disk_of (Shut rose) command signers old new = IsShutAnswer rose old new
+IsDeskFault disk_of (Verdict refusal) command signers old new = IsVerdictAnswer refusal command signers old new
+IsDeskFault disk_of (JournalFull held needed) command signers old new = IsFullAnswer held needed command signers old new
+IsDeskFault disk_of (DiskFault rose) command signers old new = IsFaultAnswer disk_of rose command signers old new
+IsDeskFault disk_of Memory command signers old new = IsMemoryAnswer command signers old new
 
 -- what a journal's fault is called here
 abbrev pub open_fault_of : JournalFault → DeskOpenFault

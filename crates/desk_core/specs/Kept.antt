@@ -1,5 +1,6 @@
 -- What a desk keeps true of its parts.
 use Rattle.std.specs.Prelude.{◌≡◌, ℕ, Option, List, length, IfSome}
+use Rattle.disk_api.specs.declared.disk.Disk.{Ghosts as DiskGhosts}
 use Rattle.authority_book.specs.declared.commands.Command.{Command}
 use Rattle.authority_book.specs.Settings.{Settings}
 use Rattle.authority_book.specs.Fold.{IsFoldOf}
@@ -14,11 +15,11 @@ pub record IsLoaded (number : ℕ) (settings : Settings) (records : List (List �
   pub recorded : Records number records commands
   pub fold : IsFoldOf settings number commands
 
--- The bytes have the payloads of the journal's records, where its disk tells these, and as many of the same
+-- The bytes have the payloads of the journal's records, where its disk is known, and as many of the same
 -- sizes in any case. They record the commands of the configuration.
-pub record IsKept {D : Type 0} (content : D → Option (List ℕ)) (may_leave : D → List ℕ → Type 0) (number : ℕ) (settings : Settings) (body : List ℕ) (journal : View D) : Type 0 where
+pub record IsKept {D : Type 0} (disk_of : DiskGhosts D) (number : ℕ) (settings : Settings) (body : List ℕ) (journal : View D) : Type 0 where
   pub loaded : IsLoaded number settings (payloads journal.sizes body)
-  pub told : IfSome journal.records (λ all. all ≡ payloads journal.sizes body)
+  pub known : IfSome journal.records (λ all. all ≡ payloads journal.sizes body)
   pub size : length body ≡ taken_by journal.sizes
   pub limit : journal.limit ≡ journal_limit
-  pub safe : IsSafe content may_leave journal
+  pub safe : IsSafe disk_of journal

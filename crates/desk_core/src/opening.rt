@@ -6,7 +6,7 @@ ghost use Rattle.fault_count.specs.Rise.{HasRisen};
 ghost use Rattle.gate_journal.specs.Format.{taken_by, payloads};
 ghost use Rattle.gate_journal.specs.View.{IsSafe, HasSizes};
 ghost use Rattle.gate_journal.specs.Answers.{IsSameButDisk};
-ghost use Rattle.gate_journal.specs.Reading.{Rests};
+ghost use Rattle.disk_api.specs.Runs.{Rests};
 ghost use Rattle.desk_core.specs.Commands.{RecordsNoNext, IsFirstBad};
 ghost use Rattle.desk_core.specs.Kept.{IsLoaded};
 
@@ -86,10 +86,10 @@ pub(crate) fn load<D: Disk>(
     journal: &mut Journal<D>,
 ) -> Result<Loaded, DeskOpenFault>
     requires sizes { HasSizes journal.old }
-    requires safe { IsSafe D.content D.may_leave journal.old }
+    requires safe { IsSafe D.Disk journal.old }
 
     ensures loaded { IfOk result (λ loaded. IsLoaded number loaded.config.settings (payloads journal.old.sizes loaded.body.items)) }
-    ensures told { IfOk result (λ loaded. IfSome journal.old.records (λ all. all ≡ payloads journal.old.sizes loaded.body.items)) }
+    ensures known { IfOk result (λ loaded. IfSome journal.old.records (λ all. all ≡ payloads journal.old.sizes loaded.body.items)) }
     ensures size { IfOk result (λ loaded. length loaded.body.items ≡ taken_by journal.old.sizes) }
     ensures open { OnOk result (journal.new.shut ≡ journal.old.shut) }
 
@@ -98,9 +98,9 @@ pub(crate) fn load<D: Disk>(
     ensures failed { IfErr result (λ fault. fault ≡ DeskOpenFault.DiskFault → HasRisen (D.fault_count journal.old.disk) (D.fault_count journal.new.disk)) }
 
     ensures same { IsSameButDisk journal.old journal.new }
-    ensures disk { Rests D.content D.may_leave D.moment D.left_since journal.old.disk journal.new.disk }
+    ensures disk { Rests D.Disk journal.old.disk journal.new.disk }
     ensures later { D.fault_count journal.old.disk ≤ D.fault_count journal.new.disk }
-    ensures safe { IsSafe D.content D.may_leave journal.new }
+    ensures safe { IsSafe D.Disk journal.new }
 {
     let body = journal.body(alloc)?;
     let config = fold(alloc, number, journal, body.as_slice())?;

@@ -6,5 +6,7 @@ pub mod Memory
 pub mod MemoryLaws
 pub mod Over
 pub mod Played
+pub mod RunLaws
+pub mod Runs
 pub mod Steps
 pub mod Stops

@@ -2,6 +2,7 @@
 use Rattle.std.specs.Prelude.{◌≡◌, ◌<◌, ◌≤◌, ℕ, ◌+◌, Some, None, Result, Ok, Err, List, length}
 use Rattle.std.specs.Option.{unwrap_or}
 use Rattle.fault_count.specs.Rise.{HasRisen}
+use Rattle.disk_api.specs.declared.disk.Disk.{Ghosts as DiskGhosts}
 use Rattle.gate_journal.specs.Format.{held_for}
 use Rattle.gate_journal.specs.View.{View}
 use Rattle.gate_journal.specs.declared.fault.OpenRefused.{OpenRefused}
@@ -19,32 +20,37 @@ pub record IsShutAnswer {D : Type 0} (rose : ℕ × ℕ) (old new : View D) : Ty
   pub shut : old.shut ≡ Some rose
   pub same : new ≡ old
 
-pub record IsFullAnswer {D : Type 0} (held needed : ℕ) (payload : List ℕ) (old new : View D) : Type 0 where
+pub record IsFullAnswer {D : Type 0} (held needed asked : ℕ) (old new : View D) : Type 0 where
   pub is_open : old.shut ≡ None
   pub held_is : held ≡ held_for old.sizes
-  pub needed_is : needed ≡ length payload + 9
+  pub needed_is : needed ≡ asked
   pub past : old.limit < held + needed
   pub same : new ≡ old
 
-pub record IsFaultAnswer {D : Type 0} (fault_count : D → ℕ) (rose : ℕ × ℕ) (payload : List ℕ) (old new : View D) : Type 0 where
+pub record IsFaultAnswer {D : Type 0} (disk_of : DiskGhosts D) (rose : ℕ × ℕ) (payload : List ℕ) (old new : View D) : Type 0 where
   pub place : HasPlace old (length payload + 9)
-  pub before : rose.0 ≡ fault_count old.disk
-  pub after : rose.1 ≡ fault_count new.disk
+  pub before : rose.0 ≡ disk_of.fault_count old.disk
+  pub after : rose.1 ≡ disk_of.fault_count new.disk
   pub risen : HasRisen rose.0 rose.1
   pub shut : new.shut ≡ Some rose
   pub doubt : new.doubt ≡ Some payload
-  pub room : old.room ≤ new.room
 
-abbrev pub IsAppendFault : {D : Type 0} → (D → ℕ) → AppendFault D → List ℕ → View D → View D → Type 0
-IsAppendFault fault_count (Shut rose) payload old new = IsShutAnswer rose old new
-IsAppendFault fault_count (JournalFull held needed) payload old new = IsFullAnswer held needed payload old new
-IsAppendFault fault_count (DiskFault rose) payload old new = IsFaultAnswer fault_count rose payload old new
+-- why a record that takes so many bytes isn't appended
+abbrev pub IsRefusal : {D : Type 0} → AppendFault D → ℕ → View D → Type 0
+IsRefusal (Shut rose) asked journal = IsShutAnswer rose journal journal
+IsRefusal (JournalFull held needed) asked journal = IsFullAnswer held needed asked journal journal
+IsRefusal (DiskFault rose) asked journal = ⊥
+
+abbrev pub IsAppendFault : {D : Type 0} → DiskGhosts D → AppendFault D → List ℕ → View D → View D → Type 0
+IsAppendFault disk_of (Shut rose) payload old new = IsShutAnswer rose old new
+IsAppendFault disk_of (JournalFull held needed) payload old new = IsFullAnswer held needed (length payload + 9) old new
+IsAppendFault disk_of (DiskFault rose) payload old new = IsFaultAnswer disk_of rose payload old new
 
 -- a fault of the disk shuts the journal, if it wasn't; a record that was found is never answered as damaged
-abbrev pub IsReadFault : {D : Type 0} → (D → ℕ) → JournalFault → View D → View D → Type 0
-IsReadFault fault_count ReadFault old new = HasRisen (fault_count old.disk) (fault_count new.disk) × (new.shut ≡ Some (unwrap_or old.shut (fault_count old.disk, fault_count new.disk)))
-IsReadFault fault_count (Damaged at) old new = ⊥
-IsReadFault fault_count Memory old new = new.shut ≡ old.shut
+abbrev pub IsReadFault : {D : Type 0} → DiskGhosts D → JournalFault → View D → View D → Type 0
+IsReadFault disk_of ReadFault old new = HasRisen (disk_of.fault_count old.disk) (disk_of.fault_count new.disk) × (new.shut ≡ Some (unwrap_or old.shut (disk_of.fault_count old.disk, disk_of.fault_count new.disk)))
+IsReadFault disk_of (Damaged at) old new = ⊥
+IsReadFault disk_of Memory old new = new.shut ≡ old.shut
 
 -- the same but for the disk and whether it is shut
 abbrev pub IsSameButDisk : {D : Type 0} → View D → View D → Type 0

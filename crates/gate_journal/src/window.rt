@@ -1,9 +1,10 @@
 // A part of the file, read in one piece, in which heads are looked for.
 ghost use Rattle.std.specs.Prelude.{◌≡◌, ◌≤◌, ◌<◌, ◌+◌, ◌-◌, ◌^◌, ◌↔◌, ℕ, List, min, length, take, drop, IsTrue, IfSome, IfOk, OnOk, slice_index};
 ghost use Rattle.disk_api.specs.Faults.{CountsFaults};
-ghost use Rattle.gate_journal.specs.Reading.{Rests, IsWindow};
+ghost use Rattle.gate_journal.specs.Reading.{IsWindow};
+ghost use Rattle.disk_api.specs.Runs.{Rests};
 
-use crate::open::read_payload;
+use crate::open::read_part;
 use crate::place::Place;
 use disk_api::{Disk, DiskStop};
 use std::alloc::Global;
@@ -66,11 +67,11 @@ fn read_window<D: Disk>(alloc: Global, disk: &mut D, at: u64, left: u64) -> Resu
     ensures start { IfOk result (λ window. window.start ≡ at) }
     ensures filled { IfOk result (λ window. length window.bytes.items ≡ min left 65536) }
     ensures window { IfOk result (λ window. IfSome (D.content disk.old) (IsWindow window.start window.bytes.items)) }
-    ensures rests { Rests D.content D.may_leave D.moment D.left_since disk.old disk.new }
+    ensures rests { Rests D.Disk disk.old disk.new }
     ensures faults { CountsFaults (D.fault_count disk.old) (D.fault_count disk.new) result }
 {
     let size = left.min(WINDOW);
-    let bytes = read_payload(alloc, alloc, disk, Place { at, size })?;
+    let bytes = read_part(alloc, disk, Place { at, size })?;
     Ok(Window { start: at, bytes })
 }
 
@@ -88,7 +89,7 @@ pub(crate) fn reach<D: Disk>(
     requires window { IfSome (D.content disk.old) (IsWindow window.old.start window.old.bytes.items) }
     ensures inside { OnOk result ((window.new.start ≤ at) × (at + want ≤ window.new.start + length window.new.bytes.items)) }
     ensures window { OnOk result (IfSome (D.content disk.old) (IsWindow window.new.start window.new.bytes.items)) }
-    ensures rests { Rests D.content D.may_leave D.moment D.left_since disk.old disk.new }
+    ensures rests { Rests D.Disk disk.old disk.new }
     ensures faults { CountsFaults (D.fault_count disk.old) (D.fault_count disk.new) result }
 {
     if window.has(at, want) {

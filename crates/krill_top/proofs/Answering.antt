@@ -25,6 +25,7 @@ use Rattle.json_api.specs.declared.line.Line.{Line}
 use Rattle.json_api.specs.declared.line.Line.TheVariants.{Command as CommandLine}
 use Rattle.json_api.specs.Name.{IsName, is_name_byte}
 use Rattle.std.proofs.lemmas.List.Sums.{AllPass-from_list_all}
+use Rattle.disk_api.specs.declared.disk.Disk.{Ghosts as DiskGhosts}
 use Rattle.json_api.specs.Line.{IsLine}
 use Rattle.json_api.specs.Reply.{accepted_spelling, refused_spelling}
 use Rattle.krill_top.specs.declared.anchor.Anchor.{Anchor}
@@ -73,34 +74,34 @@ shut_text : (doubt : Option Command) (shut : Option (ℕ × ℕ)) (rose : ℕ ×
 shut_text None shut rose before name command text same is said = absurd (none-some rose (sym (same.1 refl) ∙ is))
 shut_text (Some doubt) shut rose before name command text same is said = record { text_is = said; not_accepted = refl; same = refl }
 
-module _ {D : Type 0} (content : D → Option (List ℕ)) (fault_count : D → ℕ) where
+module _ {D : Type 0} (disk_of : DiskGhosts D) where
   -- what a line may be answered, from the desk's state and to it
   abbrev Answered : List ℕ → Command → List ℕ → Bool → State → State → Type 0
   Answered name command text accepted b a = DeskText b.doubt b name command text accepted a ⊎ IsRefusedAs memory_text b text accepted a
 
   -- the verdict over the commands that the desk has
   over_fold : (law : VerdictLaw) (old : View D) (before : State) (command : Command) (v : Result (Unit {0}) Refusal)
-      → IsIn content fault_count old before → verdict_of old.settings command signers_at_hand ≡ v → verdict_of (fold_of anchor_desk before.commands) command signers_at_hand ≡ v
+      → IsIn disk_of old before → verdict_of old.settings command signers_at_hand ≡ v → verdict_of (fold_of anchor_desk before.commands) command signers_at_hand ≡ v
   over_fold law old before command v stands is =
       subst (λ (n : ℕ). verdict_of (fold_of n before.commands) command signers_at_hand ≡ v) stands.number
       (sym (law old.settings old.number before.commands command signers_at_hand stands.commands.fold) ∙ is)
 
   -- on an open journal a command gets what its verdict says
   by_verdict : (law : VerdictLaw) (old : View D) (before after : State) (name : List ℕ) (command : Command) (v : Result (Unit {0}) Refusal) (text : List ℕ) (accepted : Bool)
-      → IsIn content fault_count old before → old.shut ≡ None → verdict_of old.settings command signers_at_hand ≡ v → VerdictText before name command v text accepted after
+      → IsIn disk_of old before → old.shut ≡ None → verdict_of old.settings command signers_at_hand ≡ v → VerdictText before name command v text accepted after
       → DeskText before.doubt before name command text accepted after
   by_verdict law old before after name command v text accepted stands opened is said =
       subst (λ (d : Option Command). DeskText d before name command text accepted after) (sym (stands.shut.0 opened))
       (subst (λ (r : Result (Unit {0}) Refusal). VerdictText before name command r text accepted after) (sym (over_fold law old before command v stands is)) said)
 
   -- nothing has changed
-  unchanged : (old new : View D) (before : State) → new ≡ old → IsIn content fault_count old before → IsIn content fault_count new before
-  unchanged old new before same stands = subst (λ (d : View D). IsIn content fault_count d before) (sym same) stands
+  unchanged : (old new : View D) (before : State) → new ≡ old → IsIn disk_of old before → IsIn disk_of new before
+  unchanged old new before same stands = subst (λ (d : View D). IsIn disk_of d before) (sym same) stands
 
   -- after a fault that shut the journal
   in_doubt : (law : VerdictLaw) (old new : View D) (rose : ℕ × (ℕ × ℕ)) (command : Command) (before : State)
-      → IsFaultAnswer fault_count rose command signers_at_hand old new → IsIn content fault_count old before
-      → IsIn content fault_count new (record before { doubt = Some command; faults = fault_count new.disk; content = content new.disk })
+      → IsFaultAnswer disk_of rose command signers_at_hand old new → IsIn disk_of old before
+      → IsIn disk_of new (record before { doubt = Some command; faults = disk_of.fault_count new.disk; content = disk_of.content new.disk })
   in_doubt law old new rose command before fault stands = record {
     number = ap (λ (d : View D). d.number) fault.same ∙ stands.number;
     commands = subst (λ (d : View D). HasCommands d before.commands) (sym fault.same) (record { recorded = stands.commands.recorded; fold = stands.commands.fold });
@@ -114,8 +115,8 @@ module _ {D : Type 0} (content : D → Option (List ℕ)) (fault_count : D → �
   }
 
   pub fault_answers : (law : VerdictLaw) (old new : View D) (name : List ℕ) (command : Command) (fault : DeskFault D) (text : List ℕ)
-      → IsDeskFault fault_count fault command signers_at_hand old new → FaultText fault text
-      → (before : State) → IsIn content fault_count old before → Goes content fault_count (Answered name command text false) new before
+      → IsDeskFault disk_of fault command signers_at_hand old new → FaultText fault text
+      → (before : State) → IsIn disk_of old before → Goes disk_of (Answered name command text false) new before
   fault_answers law old new name command (Shut rose) text why said before stands = record {
     after = before;
     step = inl (shut_text before.doubt old.shut rose.1 before name command text stands.shut why.shut said);
@@ -145,15 +146,15 @@ module _ {D : Type 0} (content : D → Option (List ℕ)) (fault_count : D → �
         stands = unchanged old new before why.same stands;
       }
   fault_answers law old new name command (DiskFault rose) text why said before stands = record {
-    after = record before { doubt = Some command; faults = fault_count new.disk; content = content new.disk };
-    step = inl (by_verdict law old before (record before { doubt = Some command; faults = fault_count new.disk; content = content new.disk }) name command (Ok tt) text false stands why.place.may_come.is_open why.place.may_come.verdict
+    after = record before { doubt = Some command; faults = disk_of.fault_count new.disk; content = disk_of.content new.disk };
+    step = inl (by_verdict law old before (record before { doubt = Some command; faults = disk_of.fault_count new.disk; content = disk_of.content new.disk }) name command (Ok tt) text false stands why.place.may_come.is_open why.place.may_come.verdict
         (inr (inl (record {
           fits = subst (λ (n : ℕ). n + needed_for command ≤ journal_limit) (ap held_by stands.commands.recorded.spelled) why.place.fits;
           text_is = said ∙ ap (λ (n : ℕ). journal_refusal_spelling (journal.DiskFault n)) (why.desk ∙ stands.number);
           not_accepted = refl;
           commands = refl;
           doubt = refl;
-          risen = subst (λ (n : ℕ). HasRisen n (fault_count new.disk)) (why.before ∙ stands.faults) (subst (λ (n : ℕ). HasRisen rose.1.0 n) why.after why.risen);
+          risen = subst (λ (n : ℕ). HasRisen n (disk_of.fault_count new.disk)) (why.before ∙ stands.faults) (subst (λ (n : ℕ). HasRisen rose.1.0 n) why.after why.risen);
         }))));
     stands = in_doubt law old new rose command before why stands;
   }
@@ -171,19 +172,19 @@ module _ {D : Type 0} (content : D → Option (List ℕ)) (fault_count : D → �
     pub is_open : new.shut ≡ None
     pub settled : new.doubt ≡ None
     pub number : new.number ≡ old.number
-    pub later : fault_count old.disk ≤ fault_count new.disk
-    pub bytes : content new.disk ≡ option_map (stored (held_by old.records) (entry_bytes (spelling command))) (content old.disk)
+    pub later : disk_of.fault_count old.disk ≤ disk_of.fault_count new.disk
+    pub bytes : disk_of.content new.disk ≡ option_map (stored (held_by old.records) (entry_bytes (spelling command))) (disk_of.content old.disk)
 
   pub accepted_answers : (law : VerdictLaw) (old new : View D) (name : List ℕ) (command : Command) (count : ℕ) (text : List ℕ)
       → IsTaken old new command count → text ≡ accepted_spelling name count
-      → (before : State) → IsIn content fault_count old before → Goes content fault_count (Answered name command text true) new before
+      → (before : State) → IsIn disk_of old before → Goes disk_of (Answered name command text true) new before
   accepted_answers law old new name command count text taken said before stands =
       let commands = before.commands ++ command ∷ [] in
       let has : HasCommands new commands = taken.commands before.commands stands.commands in
       let number : new.number ≡ anchor_desk = taken.number ∙ stands.number in
       let count_is : count ≡ (fold_of anchor_desk commands).count =
       taken.counted ∙ has.fold.same_count ∙ ap (λ (n : ℕ). (fold_of n commands).count) number in
-      let after : State = record { commands = commands; doubt = None; faults = fault_count new.disk; content = content new.disk } in
+      let after : State = record { commands = commands; doubt = None; faults = disk_of.fault_count new.disk; content = disk_of.content new.disk } in
       record {
         after = after;
         step = inl (by_verdict law old before after name command (Ok tt) text true stands taken.place.may_come.is_open taken.place.may_come.verdict
@@ -193,8 +194,8 @@ module _ {D : Type 0} (content : D → Option (List ℕ)) (fault_count : D → �
               is_accepted = refl;
               commands = refl;
               is_open = refl;
-              later = subst (λ (n : ℕ). n ≤ fault_count new.disk) stands.faults taken.later;
-              bytes = taken.bytes ∙ ap (λ (n : ℕ). option_map (stored n (entry_bytes (spelling command))) (content old.disk)) (ap held_by stands.commands.recorded.spelled)
+              later = subst (λ (n : ℕ). n ≤ disk_of.fault_count new.disk) stands.faults taken.later;
+              bytes = taken.bytes ∙ ap (λ (n : ℕ). option_map (stored n (entry_bytes (spelling command))) (disk_of.content old.disk)) (ap held_by stands.commands.recorded.spelled)
                   ∙ ap (λ (o : Option (List ℕ)). option_map (stored (held_in before) (entry_bytes (spelling command))) o) stands.bytes;
             })));
         stands = record {
@@ -209,7 +210,7 @@ module _ {D : Type 0} (content : D → Option (List ℕ)) (fault_count : D → �
       }
 
   pub said_texts : (old new : Anchor D) (line : List ℕ) (said : Line) (text : List ℕ) (accepted : Bool)
-      → IsLine line said → MaySay content fault_count old said text accepted new → MayText content fault_count old line text accepted new
+      → IsLine line said → MaySay disk_of old said text accepted new → MayText disk_of old line text accepted new
   said_texts old new line (CommandLine name command) text accepted is may before stands =
       let g = may before stands in
       record {
@@ -218,34 +219,34 @@ module _ {D : Type 0} (content : D → Option (List ℕ)) (fault_count : D → �
         stands = g.stands;
       }
 
-  pub bad_line_texts : (old : Anchor D) (line : List ℕ) → ((said : Line) → ¬ IsLine line said) → MayText content fault_count old line bad_line_text false old
+  pub bad_line_texts : (old : Anchor D) (line : List ℕ) → ((said : Line) → ¬ IsLine line said) → MayText disk_of old line bad_line_text false old
   bad_line_texts old line none before stands = record {
     after = before;
     step = inr (inl (none, record { text_is = refl; not_accepted = refl; same = refl }));
     stands = stands;
   }
 
-  pub memory_texts : (old : Anchor D) (line : List ℕ) → MayText content fault_count old line memory_text false old
+  pub memory_texts : (old : Anchor D) (line : List ℕ) → MayText disk_of old line memory_text false old
   memory_texts old line before stands = record {
     after = before;
     step = inr (inr (record { text_is = refl; not_accepted = refl; same = refl }));
     stands = stands;
   }
 
-  pub blank_replies : (old : Anchor D) (line : List ℕ) → IsBlank line → MayReply content fault_count old line [] false old
+  pub blank_replies : (old : Anchor D) (line : List ℕ) → IsBlank line → MayReply disk_of old line [] false old
   blank_replies old line blank before stands = record {
     after = before;
     step = inl (blank, record { text_is = refl; not_accepted = refl; same = refl });
     stands = stands;
   }
 
-  pub text_replies : (old new : Anchor D) (line text : List ℕ) (accepted : Bool) → ¬ IsBlank line → MayText content fault_count old line text accepted new → MayReply content fault_count old line (text ++ 10 ∷ []) accepted new
+  pub text_replies : (old new : Anchor D) (line text : List ℕ) (accepted : Bool) → ¬ IsBlank line → MayText disk_of old line text accepted new → MayReply disk_of old line (text ++ 10 ∷ []) accepted new
   text_replies old new line text accepted not_blank may before stands =
       let g = may before stands in
       record { after = g.after; step = inr (not_blank, (text, refl, g.step)); stands = g.stands }
 
   -- a line above the limit is neither blank nor a command
-  pub long_replies : (old : Anchor D) (line : List ℕ) → 1048576 < length line → MayReply content fault_count old line (bad_line_text ++ 10 ∷ []) false old
+  pub long_replies : (old : Anchor D) (line : List ℕ) → 1048576 < length line → MayReply disk_of old line (bad_line_text ++ 10 ∷ []) false old
   long_replies old line long =
       let none : (said : Line) → ¬ IsLine line said = λ said is. omega (arith, is.short) in
       let not_blank : ¬ IsBlank line = λ blank. omega (arith, blank.short) in

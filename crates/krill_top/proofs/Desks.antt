@@ -2,68 +2,69 @@
 use Rattle.std.proofs.Common.{◌≡◌, ℕ, suc, ◌+◌, ◌≤◌, ◌⊎◌, List, [], ◌∷◌, ◌++◌, length, sym, ◌∙◌, ap, subst, refl, inl, inr, arith, append_assoc}
 use Rattle.std.specs.Prelude.{Option, None, Some, IfSome, map}
 use Rattle.std.specs.Option.{option_map}
-use Rattle.disk_api.specs.Content.{BothTold}
-use Rattle.gate_journal.specs.Format.{stands_for, damaged_at, IsUnopened}
+use Rattle.disk_api.specs.Content.{BothKnown}
+use Rattle.gate_journal.specs.Format.{recovered, damaged_at, IsUnopened}
 use Rattle.authority_book.specs.declared.commands.Command.{Command}
 use Rattle.cmd_codec.specs.Spelling.{spelling}
 use Rattle.desk_core.specs.View.{View, journal_limit}
 use Rattle.desk_core.specs.Commands.{Records, HasCommands}
-use Rattle.desk_core.specs.Images.{Holds, HoldsTold}
+use Rattle.desk_core.specs.Images.{RecoversTo, RecoversToKnown}
 use Rattle.fault_count.specs.Rise.{HasRisen}
-use Rattle.disk_api.specs.Images.{LeavesOnly}
+use Rattle.disk_api.specs.Runs.{LeavesOnly}
+use Rattle.disk_api.specs.declared.disk.Disk.{Ghosts as DiskGhosts}
 use Rattle.desk_core.specs.Commands.{IsFirstBad}
 use Rattle.desk_core.specs.declared.faults.DeskOpenFault.{DeskOpenFault}
 use Rattle.desk_core.specs.declared.faults.DeskOpenFault.TheVariants.{Damaged, BadRecord, DiskFault, Memory}
-use Rattle.krill_top.specs.Desks.{StoodFor, IsLeft, IsKept, AreKept, IsCause, StandsAsBefore, StopsAt}
+use Rattle.krill_top.specs.Desks.{RecoveredTo, IsSafe, IsKept, AreKept, IsCause, RecoversAsBefore, StopsAt}
 use Rattle.krill_top.specs.Stands.{MayServe}
 use Rattle.krill_top.specs.Opened.{IsOpened, IsClosed, AreOpened, AreClosed, opening_fault_of}
 
-module _ {D : Type 0} (content : D → Option (List ℕ)) (may_leave : D → List ℕ → Type 0) (fault_count : D → ℕ) where
+module _ {D : Type 0} (disk_of : DiskGhosts D) where
   -- one desk more was opened
-  pub opened_more : (number : ℕ) (disks : List D) (desks : List (View D)) (disk : D) (desk : View D) → AreOpened content fault_count number disks desks
-      → IsOpened content fault_count (number + length disks) disk desk → AreOpened content fault_count number (disks ++ disk ∷ []) (desks ++ desk ∷ [])
-  opened_more number [] [] disk desk before is = (subst (λ (n : ℕ). IsOpened content fault_count n disk desk) (omega arith) is, tt)
+  pub opened_more : (number : ℕ) (disks : List D) (desks : List (View D)) (disk : D) (desk : View D) → AreOpened disk_of number disks desks
+      → IsOpened disk_of (number + length disks) disk desk → AreOpened disk_of number (disks ++ disk ∷ []) (desks ++ desk ∷ [])
+  opened_more number [] [] disk desk before is = (subst (λ (n : ℕ). IsOpened disk_of n disk desk) (omega arith) is, tt)
   opened_more number [] (d ∷ ds) disk desk before is = absurd before
   opened_more number (d ∷ ds) [] disk desk before is = absurd before
   opened_more number (d ∷ ds) (e ∷ es) disk desk before is =
-      (before.0, opened_more (suc number) ds es disk desk before.1 (subst (λ (n : ℕ). IsOpened content fault_count n disk desk) (omega arith) is))
+      (before.0, opened_more (suc number) ds es disk desk before.1 (subst (λ (n : ℕ). IsOpened disk_of n disk desk) (omega arith) is))
 
   -- as many desks as disks were opened
-  pub opened_length : (number : ℕ) (disks : List D) (desks : List (View D)) → AreOpened content fault_count number disks desks → length desks ≡ length disks
+  pub opened_length : (number : ℕ) (disks : List D) (desks : List (View D)) → AreOpened disk_of number disks desks → length desks ≡ length disks
   opened_length number [] [] all = refl
   opened_length number [] (d ∷ ds) all = absurd all
   opened_length number (d ∷ ds) [] all = absurd all
   opened_length number (d ∷ ds) (e ∷ es) all = ap suc (opened_length (suc number) ds es all.1)
 
   -- the last desk was closed, and put before those that were closed earlier
-  pub closed_more : (desks : List (View D)) (disks : List D) (desk : View D) (disk : D) → IsClosed content may_leave desk disk → AreClosed content may_leave desks disks
-      → AreClosed content may_leave (desk ∷ desks) (disk ∷ disks)
+  pub closed_more : (desks : List (View D)) (disks : List D) (desk : View D) (disk : D) → IsClosed disk_of desk disk → AreClosed disk_of desks disks
+      → AreClosed disk_of (desk ∷ desks) (disk ∷ disks)
   closed_more desks disks desk disk is all = (is, all)
 
   -- the disk stood for the commands of the desk that was opened from it
-  stood_for : (told : Option (List ℕ)) (number : ℕ) (desk : View D) (commands : List Command) → desk.number ≡ number → HasCommands desk commands
-      → IfSome told (λ bytes. desk.records ≡ stands_for bytes) → IfSome told (λ bytes. damaged_at journal_limit bytes ≡ None) → StoodFor told number commands
+  stood_for : (known : Option (List ℕ)) (number : ℕ) (desk : View D) (commands : List Command) → desk.number ≡ number → HasCommands desk commands
+      → IfSome known (λ bytes. desk.records ≡ recovered bytes) → IfSome known (λ bytes. damaged_at journal_limit bytes ≡ None) → RecoveredTo known number commands
   stood_for None number desk commands is has records whole = tt
   stood_for (Some bytes) number desk commands is has records whole = (
     whole,
-    subst (λ (n : ℕ). Records n (stands_for bytes) commands) is (subst (λ (r : List (List ℕ)). Records desk.number r commands) records has.recorded),
+    subst (λ (n : ℕ). Records n (recovered bytes) commands) is (subst (λ (r : List (List ℕ)). Records desk.number r commands) records has.recorded),
   )
 
-  pub opened_stood_for : (number : ℕ) (disk : D) (desk : View D) (commands : List Command) → IsOpened content fault_count number disk desk → HasCommands desk commands → StoodFor (content disk) number commands
-  opened_stood_for number disk desk commands is has = stood_for (content disk) number desk commands is.number_is has is.records is.whole
+  pub opened_stood_for : (number : ℕ) (disk : D) (desk : View D) (commands : List Command) → IsOpened disk_of number disk desk → HasCommands desk commands → RecoveredTo (disk_of.content disk) number commands
+  opened_stood_for number disk desk commands is has = stood_for (disk_of.content disk) number desk commands is.number_is has is.records is.whole
 
   -- what a closed desk's disk holds, said of its commands
-  pub closed_left : (desk : View D) (disk : D) (commands : List Command) (doubt : Option Command) → IsClosed content may_leave desk disk
-      → desk.records ≡ map spelling commands → desk.doubt ≡ option_map spelling doubt → IsLeft content may_leave commands doubt disk
+  pub closed_left : (desk : View D) (disk : D) (commands : List Command) (doubt : Option Command) → IsClosed disk_of desk disk
+      → desk.records ≡ map spelling commands → desk.doubt ≡ option_map spelling doubt → IsSafe disk_of commands doubt disk
   closed_left desk disk commands doubt is records doubts = record {
-    told = subst (λ (r : List (List ℕ)). IfSome (content disk) (Holds r (option_map spelling doubt))) records
-        (subst (λ (d : Option (List ℕ)). IfSome (content disk) (Holds desk.records d)) doubts is.told);
-    images = λ c left. subst (λ (r : List (List ℕ)). HoldsTold (content disk) r (option_map spelling doubt) c) records
-        (subst (λ (d : Option (List ℕ)). HoldsTold (content disk) desk.records d c) doubts (is.images c left));
+    known = subst (λ (r : List (List ℕ)). IfSome (disk_of.content disk) (RecoversTo r (option_map spelling doubt))) records
+        (subst (λ (d : Option (List ℕ)). IfSome (disk_of.content disk) (RecoversTo desk.records d)) doubts is.known);
+    images = λ c left. subst (λ (r : List (List ℕ)). RecoversToKnown (disk_of.content disk) r (option_map spelling doubt) c) records
+        (subst (λ (d : Option (List ℕ)). RecoversToKnown (disk_of.content disk) desk.records d c) doubts (is.images c left));
   }
 
   -- a desk that was opened and closed again kept its commands
-  kept_one : (number : ℕ) (old : D) (desk : View D) (new : D) → IsOpened content fault_count number old desk → IsClosed content may_leave desk new → IsKept content may_leave fault_count number old new
+  kept_one : (number : ℕ) (old : D) (desk : View D) (new : D) → IsOpened disk_of number old desk → IsClosed disk_of desk new → IsKept disk_of number old new
   kept_one number old desk new opened closed =
       let commands = opened.commands.0 in
       let has : HasCommands desk commands = opened.commands.1 in
@@ -71,12 +72,12 @@ module _ {D : Type 0} (content : D → Option (List ℕ)) (may_leave : D → Lis
         commands = commands;
         found = opened_stood_for number old desk commands opened has;
         left = closed_left desk new commands None closed has.recorded.spelled opened.settled;
-        bytes = ap content closed.same ∙ opened.bytes;
-        later = subst (λ (d : D). fault_count old ≤ fault_count d) (sym closed.same) opened.later;
+        bytes = ap disk_of.content closed.same ∙ opened.bytes;
+        later = subst (λ (d : D). disk_of.fault_count old ≤ disk_of.fault_count d) (sym closed.same) opened.later;
       }
 
-  pub kept_all : (number : ℕ) (olds : List D) (desks : List (View D)) (news : List D) → AreOpened content fault_count number olds desks → AreClosed content may_leave desks news
-      → AreKept content may_leave fault_count number olds news
+  pub kept_all : (number : ℕ) (olds : List D) (desks : List (View D)) (news : List D) → AreOpened disk_of number olds desks → AreClosed disk_of desks news
+      → AreKept disk_of number olds news
   kept_all number [] [] [] opened closed = tt
   kept_all number [] [] (n ∷ ns) opened closed = absurd closed
   kept_all number [] (d ∷ ds) news opened closed = absurd opened
@@ -87,39 +88,39 @@ module _ {D : Type 0} (content : D → Option (List ℕ)) (may_leave : D → Lis
 
   -- why a disk wasn't opened, by what the desk says of it
   cause_of : (fault : DeskOpenFault) (number : ℕ) (old new : D)
-      → ((at : ℕ) → fault ≡ Damaged at → (content new ≡ content old) × IfSome (content old) (λ bytes. damaged_at journal_limit bytes ≡ Some at))
-      → ((at : ℕ) → fault ≡ BadRecord at → IfSome (content old) (λ bytes. (damaged_at journal_limit bytes ≡ None) × IsFirstBad number (stands_for bytes) at))
-      → (fault ≡ DiskFault → HasRisen (fault_count old) (fault_count new))
-      → IsCause content fault_count (opening_fault_of number fault) number old new
+      → ((at : ℕ) → fault ≡ Damaged at → (disk_of.content new ≡ disk_of.content old) × IfSome (disk_of.content old) (λ bytes. damaged_at journal_limit bytes ≡ Some at))
+      → ((at : ℕ) → fault ≡ BadRecord at → IfSome (disk_of.content old) (λ bytes. (damaged_at journal_limit bytes ≡ None) × IsFirstBad number (recovered bytes) at))
+      → (fault ≡ DiskFault → HasRisen (disk_of.fault_count old) (disk_of.fault_count new))
+      → IsCause disk_of (opening_fault_of number fault) number old new
   cause_of (Damaged at) number old new damaged bad failed = let d = damaged at refl in (refl, d.0, d.1)
   cause_of (BadRecord at) number old new damaged bad failed = (refl, bad at refl)
   cause_of DiskFault number old new damaged bad failed = (refl, failed refl)
   cause_of Memory number old new damaged bad failed = tt
 
   -- what a refusal leaves of the disk
-  as_before : (moment : D → ℕ) (left_since : D → ℕ → List ℕ → Type 0) (counts_now : (disk : D) (t : ℕ) (c : List ℕ) → t ≤ moment disk → may_leave disk c → left_since disk t c)
-      → (old new : D) → option_map stands_for (content new) ≡ option_map stands_for (content old) → BothTold IsUnopened (content old) (content new)
-      → LeavesOnly moment left_since old new (λ c. may_leave old c ⊎ IfSome (content old) (λ bytes. Holds (stands_for bytes) None c))
-      → fault_count old ≤ fault_count new → StandsAsBefore content may_leave fault_count old new
-  as_before moment left_since counts_now old new same bytes any later = record {
+  as_before : (counts_now : (disk : D) (t : ℕ) (c : List ℕ) → t ≤ disk_of.moment disk → disk_of.may_leave disk c → disk_of.left_since disk t c)
+      → (old new : D) → option_map recovered (disk_of.content new) ≡ option_map recovered (disk_of.content old) → BothKnown IsUnopened (disk_of.content old) (disk_of.content new)
+      → LeavesOnly disk_of old new (λ c. disk_of.may_leave old c ⊎ IfSome (disk_of.content old) (λ bytes. RecoversTo (recovered bytes) None c))
+      → disk_of.fault_count old ≤ disk_of.fault_count new → RecoversAsBefore disk_of old new
+  as_before counts_now old new same bytes any later = record {
     records = same;
     bytes = bytes;
-    images = λ c left. any.each c (counts_now new (moment old) c any.later left);
+    images = λ c left. any.each c (counts_now new (disk_of.moment old) c any.later left);
     later = later;
   }
 
   -- opening stopped behind the desks that were opened, which were closed again
-  pub stopped : (moment : D → ℕ) (left_since : D → ℕ → List ℕ → Type 0) (counts_now : (disk : D) (t : ℕ) (c : List ℕ) → t ≤ moment disk → may_leave disk c → left_since disk t c)
+  pub stopped : (counts_now : (disk : D) (t : ℕ) (c : List ℕ) → t ≤ disk_of.moment disk → disk_of.may_leave disk c → disk_of.left_since disk t c)
       → (before : List D) (desks : List (View D)) (after : List D) (old new : D) (rest : List D) (fault : DeskOpenFault) (number : ℕ) (olds news : List D)
-      → AreOpened content fault_count 0 before desks → AreClosed content may_leave desks after → length before ≡ number
+      → AreOpened disk_of 0 before desks → AreClosed disk_of desks after → length before ≡ number
       → olds ≡ before ++ old ∷ rest → news ≡ after ++ new ∷ rest
-      → ((at : ℕ) → fault ≡ Damaged at → (content new ≡ content old) × IfSome (content old) (λ bytes. damaged_at journal_limit bytes ≡ Some at))
-      → ((at : ℕ) → fault ≡ BadRecord at → IfSome (content old) (λ bytes. (damaged_at journal_limit bytes ≡ None) × IsFirstBad number (stands_for bytes) at))
-      → (fault ≡ DiskFault → HasRisen (fault_count old) (fault_count new))
-      → option_map stands_for (content new) ≡ option_map stands_for (content old) → BothTold IsUnopened (content old) (content new)
-      → LeavesOnly moment left_since old new (λ c. may_leave old c ⊎ IfSome (content old) (λ bytes. Holds (stands_for bytes) None c))
-      → fault_count old ≤ fault_count new → StopsAt content may_leave fault_count (opening_fault_of number fault) olds news
-  stopped moment left_since counts_now before desks after old new rest fault number olds news opened closed place handed_in handed_back damaged bad failed same bytes any later = record {
+      → ((at : ℕ) → fault ≡ Damaged at → (disk_of.content new ≡ disk_of.content old) × IfSome (disk_of.content old) (λ bytes. damaged_at journal_limit bytes ≡ Some at))
+      → ((at : ℕ) → fault ≡ BadRecord at → IfSome (disk_of.content old) (λ bytes. (damaged_at journal_limit bytes ≡ None) × IsFirstBad number (recovered bytes) at))
+      → (fault ≡ DiskFault → HasRisen (disk_of.fault_count old) (disk_of.fault_count new))
+      → option_map recovered (disk_of.content new) ≡ option_map recovered (disk_of.content old) → BothKnown IsUnopened (disk_of.content old) (disk_of.content new)
+      → LeavesOnly disk_of old new (λ c. disk_of.may_leave old c ⊎ IfSome (disk_of.content old) (λ bytes. RecoversTo (recovered bytes) None c))
+      → disk_of.fault_count old ≤ disk_of.fault_count new → StopsAt disk_of (opening_fault_of number fault) olds news
+  stopped counts_now before desks after old new rest fault number olds news opened closed place handed_in handed_back damaged bad failed same bytes any later = record {
     before = before;
     old = old;
     rest = rest;
@@ -128,11 +129,11 @@ module _ {D : Type 0} (content : D → Option (List ℕ)) (may_leave : D → Lis
     handed_in = handed_in;
     handed_back = handed_back;
     opened = kept_all 0 before desks after opened closed;
-    cause = subst (λ (n : ℕ). IsCause content fault_count (opening_fault_of number fault) n old new) (sym place) (cause_of fault number old new damaged bad failed);
-    stands = as_before moment left_since counts_now old new same bytes any later;
+    cause = subst (λ (n : ℕ). IsCause disk_of (opening_fault_of number fault) n old new) (sym place) (cause_of fault number old new damaged bad failed);
+    stands = as_before counts_now old new same bytes any later;
   }
 
   -- the first of the opened desks may be served over
-  pub may_serve : (disks : List D) (first : View D) (others : List (View D)) → AreOpened content fault_count 0 disks (first ∷ others) → MayServe first
+  pub may_serve : (disks : List D) (first : View D) (others : List (View D)) → AreOpened disk_of 0 disks (first ∷ others) → MayServe first
   may_serve [] first others all = absurd all
   may_serve (disk ∷ disks) first others all = record { number = all.0.number_is; is_open = all.0.is_open; settled = all.0.settled }

@@ -2,13 +2,14 @@
 use Rattle.std.specs.Prelude.{◌≡◌, ◌⊎◌, ℕ, ◌+◌, ◌≤◌, suc, Option, None, Some, List, [], ◌∷◌, ◌++◌, length, map, IfSome, ⊤}
 use Rattle.std.specs.Option.{option_map}
 use Rattle.fault_count.specs.Rise.{HasRisen}
-use Rattle.disk_api.specs.Content.{BothTold}
-use Rattle.gate_journal.specs.Format.{stands_for, damaged_at, opened, IsUnopened}
+use Rattle.disk_api.specs.Content.{BothKnown}
+use Rattle.disk_api.specs.declared.disk.Disk.{Ghosts as DiskGhosts}
+use Rattle.gate_journal.specs.Format.{recovered, damaged_at, opened, IsUnopened}
 use Rattle.authority_book.specs.declared.commands.Command.{Command}
 use Rattle.cmd_codec.specs.Spelling.{spelling}
 use Rattle.desk_core.specs.View.{journal_limit}
 use Rattle.desk_core.specs.Commands.{Records, IsFirstBad}
-use Rattle.desk_core.specs.Images.{Holds, HoldsTold}
+use Rattle.desk_core.specs.Images.{RecoversTo, RecoversToKnown}
 use Rattle.krill_top.specs.declared.faults.OpenFault.{OpenFault}
 use Rattle.krill_top.specs.declared.faults.OpenFault.TheVariants.{WrongCount, Damaged, BadRecord, DiskFault, Memory}
 
@@ -16,56 +17,55 @@ use Rattle.krill_top.specs.declared.faults.OpenFault.TheVariants.{WrongCount, Da
 abbrev pub most_desks : ℕ
 most_desks = 64
 
--- The disk, if it tells, stood for the records of these commands of the desk, and was whole.
-abbrev pub StoodFor : Option (List ℕ) → ℕ → List Command → Type 0
-StoodFor content number commands =
-    IfSome content (λ bytes. (damaged_at journal_limit bytes ≡ None) × Records number (stands_for bytes) commands)
+-- The disk, if it is known, recovers to the records of these commands of the desk.
+abbrev pub RecoveredTo : Option (List ℕ) → ℕ → List Command → Type 0
+RecoveredTo content number commands =
+    IfSome content (λ bytes. (damaged_at journal_limit bytes ≡ None) × Records number (recovered bytes) commands)
 
--- The disk holds these commands, and one more where a record is in doubt, and so does each image that a
--- crash may leave.
-pub record IsLeft {D : Type 0} (content : D → Option (List ℕ)) (may_leave : D → List ℕ → Type 0) (commands : List Command) (doubt : Option Command) (disk : D) : Type 0 where
-  pub told : IfSome (content disk) (Holds (map spelling commands) (option_map spelling doubt))
-  pub images : (c : List ℕ) → may_leave disk c → HoldsTold (content disk) (map spelling commands) (option_map spelling doubt) c
+-- The disk recovers to these commands, and perhaps the one in doubt, and so does each image.
+pub record IsSafe {D : Type 0} (disk_of : DiskGhosts D) (commands : List Command) (doubt : Option Command) (disk : D) : Type 0 where
+  pub known : IfSome (disk_of.content disk) (RecoversTo (map spelling commands) (option_map spelling doubt))
+  pub images : (c : List ℕ) → disk_of.may_leave disk c → RecoversToKnown (disk_of.content disk) (map spelling commands) (option_map spelling doubt) c
 
 -- A desk that got no command: its disk holds what it held, and its bytes are those that opening made of
 -- them.
-pub record IsKept {D : Type 0} (content : D → Option (List ℕ)) (may_leave : D → List ℕ → Type 0) (fault_count : D → ℕ) (number : ℕ) (old new : D) : Type 0 where
+pub record IsKept {D : Type 0} (disk_of : DiskGhosts D) (number : ℕ) (old new : D) : Type 0 where
   pub commands : List Command
-  pub found : StoodFor (content old) number commands
-  pub left : IsLeft content may_leave commands None new
-  pub bytes : content new ≡ option_map opened (content old)
-  pub later : fault_count old ≤ fault_count new
+  pub found : RecoveredTo (disk_of.content old) number commands
+  pub left : IsSafe disk_of commands None new
+  pub bytes : disk_of.content new ≡ option_map opened (disk_of.content old)
+  pub later : disk_of.fault_count old ≤ disk_of.fault_count new
 
 -- So of each desk, from this number on.
-abbrev pub AreKept : {D : Type 0} → (D → Option (List ℕ)) → (D → List ℕ → Type 0) → (D → ℕ) → ℕ → List D → List D → Type 0
-AreKept content may_leave fault_count number [] [] = ⊤
-AreKept content may_leave fault_count number [] (new ∷ news) = ⊥
-AreKept content may_leave fault_count number (old ∷ olds) [] = ⊥
-AreKept content may_leave fault_count number (old ∷ olds) (new ∷ news) =
-    IsKept content may_leave fault_count number old new × AreKept content may_leave fault_count (suc number) olds news
+abbrev pub AreKept : {D : Type 0} → DiskGhosts D → ℕ → List D → List D → Type 0
+AreKept disk_of number [] [] = ⊤
+AreKept disk_of number [] (new ∷ news) = ⊥
+AreKept disk_of number (old ∷ olds) [] = ⊥
+AreKept disk_of number (old ∷ olds) (new ∷ news) =
+    IsKept disk_of number old new × AreKept disk_of (suc number) olds news
 
 -- Why a disk can't be opened as the desk of that number.
-abbrev pub IsCause : {D : Type 0} → (D → Option (List ℕ)) → (D → ℕ) → OpenFault → ℕ → D → D → Type 0
-IsCause content fault_count (WrongCount what needed found) number old new = ⊥
-IsCause content fault_count (Damaged device at) number old new = (device ≡ number)
-    × (content new ≡ content old)
-    × IfSome (content old) (λ bytes. damaged_at journal_limit bytes ≡ Some at)
-IsCause content fault_count (BadRecord device at) number old new = (device ≡ number)
-    × IfSome (content old) (λ bytes. (damaged_at journal_limit bytes ≡ None) × IsFirstBad number (stands_for bytes) at)
-IsCause content fault_count (DiskFault device) number old new = (device ≡ number) × HasRisen (fault_count old) (fault_count new)
-IsCause content fault_count Memory number old new = ⊤
+abbrev pub IsCause : {D : Type 0} → DiskGhosts D → OpenFault → ℕ → D → D → Type 0
+IsCause disk_of (WrongCount what needed found) number old new = ⊥
+IsCause disk_of (Damaged device at) number old new = (device ≡ number)
+    × (disk_of.content new ≡ disk_of.content old)
+    × IfSome (disk_of.content old) (λ bytes. damaged_at journal_limit bytes ≡ Some at)
+IsCause disk_of (BadRecord device at) number old new = (device ≡ number)
+    × IfSome (disk_of.content old) (λ bytes. (damaged_at journal_limit bytes ≡ None) × IsFirstBad number (recovered bytes) at)
+IsCause disk_of (DiskFault device) number old new = (device ≡ number) × HasRisen (disk_of.fault_count old) (disk_of.fault_count new)
+IsCause disk_of Memory number old new = ⊤
 
--- A disk that wasn't opened stands for the records for which it stood, a longer file is as it was, and what
--- a crash may leave stands for them too, if it isn't what a crash might have left before.
-pub record StandsAsBefore {D : Type 0} (content : D → Option (List ℕ)) (may_leave : D → List ℕ → Type 0) (fault_count : D → ℕ) (old new : D) : Type 0 where
-  pub records : option_map stands_for (content new) ≡ option_map stands_for (content old)
-  pub bytes : BothTold IsUnopened (content old) (content new)
-  pub images : (c : List ℕ) → may_leave new c → may_leave old c ⊎ IfSome (content old) (λ bytes. Holds (stands_for bytes) None c)
-  pub later : fault_count old ≤ fault_count new
+-- A disk that wasn't opened recovers to the records that it recovered to, a longer file is as it was, and
+-- what a crash may leave recovers to them too, if it isn't what a crash might have left before.
+pub record RecoversAsBefore {D : Type 0} (disk_of : DiskGhosts D) (old new : D) : Type 0 where
+  pub records : option_map recovered (disk_of.content new) ≡ option_map recovered (disk_of.content old)
+  pub bytes : BothKnown IsUnopened (disk_of.content old) (disk_of.content new)
+  pub images : (c : List ℕ) → disk_of.may_leave new c → disk_of.may_leave old c ⊎ IfSome (disk_of.content old) (λ bytes. RecoversTo (recovered bytes) None c)
+  pub later : disk_of.fault_count old ≤ disk_of.fault_count new
 
 -- The desks before one were opened and closed again, that one wasn't opened, and those behind it are
 -- untouched.
-pub record StopsAt {D : Type 0} (content : D → Option (List ℕ)) (may_leave : D → List ℕ → Type 0) (fault_count : D → ℕ) (fault : OpenFault) (olds news : List D) : Type 0 where
+pub record StopsAt {D : Type 0} (disk_of : DiskGhosts D) (fault : OpenFault) (olds news : List D) : Type 0 where
   pub before : List D
   pub old : D
   pub rest : List D
@@ -73,11 +73,11 @@ pub record StopsAt {D : Type 0} (content : D → Option (List ℕ)) (may_leave :
   pub new : D
   pub handed_in : olds ≡ before ++ old ∷ rest
   pub handed_back : news ≡ after ++ new ∷ rest
-  pub opened : AreKept content may_leave fault_count 0 before after
-  pub cause : IsCause content fault_count fault (length before) old new
-  pub stands : StandsAsBefore content may_leave fault_count old new
+  pub opened : AreKept disk_of 0 before after
+  pub cause : IsCause disk_of fault (length before) old new
+  pub stands : RecoversAsBefore disk_of old new
 
--- Opening was refused: at one of the disks, or for want of memory before the first.
-abbrev pub IsOpeningRefused : {D : Type 0} → (D → Option (List ℕ)) → (D → List ℕ → Type 0) → (D → ℕ) → OpenFault → List D → List D → Type 0
-IsOpeningRefused content may_leave fault_count fault olds news =
-    ((fault ≡ Memory) × (news ≡ olds)) ⊎ StopsAt content may_leave fault_count fault olds news
+-- Opening was refused: at one of the disks, or because memory ran out before the first.
+abbrev pub IsOpeningRefused : {D : Type 0} → DiskGhosts D → OpenFault → List D → List D → Type 0
+IsOpeningRefused disk_of fault olds news =
+    ((fault ≡ Memory) × (news ≡ olds)) ⊎ StopsAt disk_of fault olds news

@@ -1,6 +1,7 @@
 -- What a session does from one state of the anchor's desk on.
 use Rattle.std.specs.Prelude.{ℕ, List, Option}
 use Rattle.std.specs.Io.KnownBytes.{Consumes, Appends, IsAtEnd}
+use Rattle.disk_api.specs.declared.disk.Disk.{Ghosts as DiskGhosts}
 use Rattle.line_loop.specs.declared.traits.Source.{Ghosts as SourceGhosts}
 use Rattle.line_loop.specs.declared.traits.Sink.{Ghosts as SinkGhosts}
 use Rattle.line_loop.specs.Session.{Serves}
@@ -21,9 +22,9 @@ pub record Converses {S K C : Type 0} (source_of : SourceGhosts S) (sink_of : Si
   pub replies : Serves IsReply begun given (IsAtEnd (source_of.left after.source)) written ended end
 
 -- The session was served from a state before, and the desk is in the state after.
-pub record Served {D S K C : Type 0} (content : D → Option (List ℕ)) (fault_count : D → ℕ)
+pub record Served {D S K C : Type 0} (disk_of : DiskGhosts D)
     (source_of : SourceGhosts S) (sink_of : SinkGhosts K) (ends ends' : SessionEnds S K C)
     (before : State) (desk : View D) (end : SessionEnd) : Type 0 where
   pub after : State
   pub session : Converses source_of sink_of ends ends' before after end
-  pub stands : IsIn content fault_count desk after
+  pub stands : IsIn disk_of desk after

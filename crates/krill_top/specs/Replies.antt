@@ -35,7 +35,7 @@ pub record State : Type 0 where
   pub doubt : Option Command
   -- how often the disk has failed
   pub faults : ℕ
-  -- the disk's bytes, where it tells them
+  -- the disk's bytes, where it is known
   pub content : Option (List ℕ)
 
 -- Space, tab and carriage return.
@@ -47,7 +47,7 @@ pub record IsBlank (line : List ℕ) : Type 0 where
   pub short : length line ≤ 1048576
   pub blank : IsTrue (list_all is_blank_byte line)
 
--- The texts where memory was wanting, and where a line is no command.
+-- The texts where memory ran out, and where a line is no command.
 abbrev pub memory_text : List ℕ
 memory_text = refusal_spelling 40 [] (codes "Memory")
 
@@ -110,7 +110,7 @@ DeskText None before name command text accepted after =
 abbrev pub CommandText : State → Line → List ℕ → Bool → State → Type 0
 CommandText before (CommandLine name command) text accepted after = DeskText before.doubt before (string_bytes name) command text accepted after
 
--- A line gets this text: what its command gets, or that it is no command, or that memory was wanting.
+-- A line gets this text: what its command gets, or that it is no command, or that memory ran out.
 abbrev pub IsText : State → List ℕ → List ℕ → Bool → State → Type 0
 IsText before line text accepted after =
     ((said : Line) × IsLine line said × CommandText before said text accepted after)

@@ -3,6 +3,7 @@ use Rattle.std.specs.Prelude.{◌≡◌, ℕ, ◌≤◌, List, [], ◌∷◌, �
 use Rattle.std.specs.Option.{option_map}
 use Rattle.gate_journal.specs.Format.{opened}
 use Rattle.fault_count.specs.Rise.{HasRisen}
+use Rattle.disk_api.specs.declared.disk.Disk.{Ghosts as DiskGhosts}
 use Rattle.line_loop.specs.declared.traits.Source.{Ghosts as SourceGhosts}
 use Rattle.line_loop.specs.declared.traits.Sink.{Ghosts as SinkGhosts}
 use Rattle.line_loop.specs.declared.session.SessionEnd.{SessionEnd}
@@ -16,7 +17,7 @@ use Rattle.krill_top.specs.declared.serving.SessionEnds.{SessionEnds}
 use Rattle.krill_top.specs.declared.running.RunEnd.{RunEnd}
 use Rattle.krill_top.specs.Replies.{State, anchor_desk}
 use Rattle.krill_top.specs.Ended.{Converses}
-use Rattle.krill_top.specs.Desks.{StoodFor, IsLeft, AreKept, IsOpeningRefused}
+use Rattle.krill_top.specs.Desks.{RecoveredTo, IsSafe, AreKept, IsOpeningRefused}
 use Rattle.krill_top.specs.Ends.{fault_status, run_status, fault_of, opening_fault}
 
 -- A run that was refused at once: nothing was read or written, and no device was called.
@@ -27,34 +28,34 @@ pub record IsRefused {D S K C : Type 0} (desks : List D) (sessions : List (Sessi
   pub untouched : run.sessions.items ≡ sessions
 
 -- A run whose desks weren't all opened: no source was read, and no sink was given anything.
-pub record IsRefusedAtOpening {D S K C : Type 0} (content : D → Option (List ℕ)) (may_leave : D → List ℕ → Type 0) (fault_count : D → ℕ) (desks : List D) (sessions : List (SessionEnds S K C)) (run : RunEnd D S K C) : Type 0 where
+pub record IsRefusedAtOpening {D S K C : Type 0} (disk_of : DiskGhosts D) (desks : List D) (sessions : List (SessionEnds S K C)) (run : RunEnd D S K C) : Type 0 where
   pub fault : OpenFault
   pub status_is : run.status ≡ fault_status (opening_fault fault)
   pub fault_is : run.fault ≡ Some (opening_fault fault)
-  pub refused : IsOpeningRefused content may_leave fault_count fault desks run.desks.items
+  pub refused : IsOpeningRefused disk_of fault desks run.desks.items
   pub untouched : run.sessions.items ≡ sessions
 
 -- The state of the anchor's desk once it was opened over a disk.
-pub record IsOpenedOn {D : Type 0} (content : D → Option (List ℕ)) (fault_count : D → ℕ) (disk : D) (begun : State) : Type 0 where
-  pub found : StoodFor (content disk) anchor_desk begun.commands
+pub record IsOpenedOn {D : Type 0} (disk_of : DiskGhosts D) (disk : D) (begun : State) : Type 0 where
+  pub found : RecoveredTo (disk_of.content disk) anchor_desk begun.commands
   pub recorded : Records anchor_desk (map spelling begun.commands) begun.commands
-  pub bytes : begun.content ≡ option_map opened (content disk)
+  pub bytes : begun.content ≡ option_map opened (disk_of.content disk)
   pub is_open : begun.doubt ≡ None
-  pub later : fault_count disk ≤ begun.faults
+  pub later : disk_of.fault_count disk ≤ begun.faults
 
 -- The state of the anchor's desk when it was closed, and its disk: the disk holds the commands, and perhaps
 -- the one in doubt, and so does each image; all can be opened again.
-pub record IsClosedOn {D : Type 0} (content : D → Option (List ℕ)) (may_leave : D → List ℕ → Type 0) (fault_count : D → ℕ) (disk : D) (ended : State) : Type 0 where
+pub record IsClosedOn {D : Type 0} (disk_of : DiskGhosts D) (disk : D) (ended : State) : Type 0 where
   pub recorded : Records anchor_desk (map spelling ended.commands) ended.commands
   pub next : IfSome ended.doubt (λ command. Records anchor_desk (map spelling (ended.commands ++ command ∷ [])) (ended.commands ++ command ∷ []))
-  pub left : IsLeft content may_leave ended.commands ended.doubt disk
-  pub bytes : content disk ≡ ended.content
-  pub counted : fault_count disk ≡ ended.faults
+  pub left : IsSafe disk_of ended.commands ended.doubt disk
+  pub bytes : disk_of.content disk ≡ ended.content
+  pub counted : disk_of.fault_count disk ≡ ended.faults
 
 -- A run that opened its desks, served its session over the first, and hands all back. The first disk holds
 -- the commands that it held and those that were accepted; the others hold what they held. A fault of the
 -- source or the sink comes only where it failed in this run.
-pub record ServesOne {D S K C : Type 0} (content : D → Option (List ℕ)) (may_leave : D → List ℕ → Type 0) (fault_count : D → ℕ) (source_of : SourceGhosts S) (sink_of : SinkGhosts K)
+pub record ServesOne {D S K C : Type 0} (disk_of : DiskGhosts D) (source_of : SourceGhosts S) (sink_of : SinkGhosts K)
     (first : D) (others : List D) (before : SessionEnds S K C) (run : RunEnd D S K C) : Type 0 where
   pub first' : D
   pub others' : List D
@@ -67,13 +68,13 @@ pub record ServesOne {D S K C : Type 0} (content : D → Option (List ℕ)) (may
   pub handed_back : run.sessions.items ≡ after ∷ []
   pub status : run.status ≡ run_status (fault_of end)
   pub fault : run.fault ≡ fault_of end
-  pub opening : IsOpenedOn content fault_count first begun
+  pub opening : IsOpenedOn disk_of first begun
   pub served : Converses source_of sink_of before after begun ended end
   pub clock : after.clock ≡ before.clock
   pub grows : ended.commands ≡ begun.commands ++ accepted
-  pub closing : IsClosedOn content may_leave fault_count first' ended
-  pub others_kept : AreKept content may_leave fault_count 1 others others'
-  pub source_fault : end ≡ SourceFault → HasRisen (source_of.faults before.source) (source_of.faults after.source)
-  pub sink_fault : end ≡ SinkFault → HasRisen (sink_of.faults before.sink) (sink_of.faults after.sink)
-  pub source_later : source_of.faults before.source ≤ source_of.faults after.source
-  pub sink_later : sink_of.faults before.sink ≤ sink_of.faults after.sink
+  pub closing : IsClosedOn disk_of first' ended
+  pub others_kept : AreKept disk_of 1 others others'
+  pub source_fault : end ≡ SourceFault → HasRisen (source_of.fault_count before.source) (source_of.fault_count after.source)
+  pub sink_fault : end ≡ SinkFault → HasRisen (sink_of.fault_count before.sink) (sink_of.fault_count after.sink)
+  pub source_later : source_of.fault_count before.source ≤ source_of.fault_count after.source
+  pub sink_later : sink_of.fault_count before.sink ≤ sink_of.fault_count after.sink

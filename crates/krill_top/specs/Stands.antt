@@ -1,6 +1,7 @@
 -- The anchor's state, and what of it replies rest on.
 use Rattle.std.specs.Prelude.{◌≡◌, ◌⊎◌, ◌↔◌, ℕ, Bool, List, [], ◌∷◌, ◌++◌, Option, None, Ok, IfSome, map, string_bytes}
 use Rattle.std.specs.Option.{option_map}
+use Rattle.disk_api.specs.declared.disk.Disk.{Ghosts as DiskGhosts}
 use Rattle.authority_book.specs.declared.commands.Command.{Command}
 use Rattle.authority_book.specs.Verdict.{verdict_of}
 use Rattle.authority_book.specs.Fold.{fold_of}
@@ -14,13 +15,13 @@ use Rattle.krill_top.specs.declared.anchor.Anchor.{Anchor}
 use Rattle.krill_top.specs.Replies.{State, anchor_desk, signers_at_hand, memory_text, DeskText, IsRefusedAs, IsText, IsReply}
 
 -- The desk is the anchor's, and is in this state.
-pub record IsIn {D : Type 0} (content : D → Option (List ℕ)) (fault_count : D → ℕ) (desk : View D) (state : State) : Type 0 where
+pub record IsIn {D : Type 0} (disk_of : DiskGhosts D) (desk : View D) (state : State) : Type 0 where
   pub number : desk.number ≡ anchor_desk
   pub commands : HasCommands desk state.commands
   pub doubt : desk.doubt ≡ option_map spelling state.doubt
   pub shut : (desk.shut ≡ None) ↔ (state.doubt ≡ None)
-  pub faults : fault_count desk.disk ≡ state.faults
-  pub bytes : content desk.disk ≡ state.content
+  pub faults : disk_of.fault_count desk.disk ≡ state.faults
+  pub bytes : disk_of.content desk.disk ≡ state.content
   -- the command in doubt would be the next of the desk's
   pub next : IfSome state.doubt (λ command. Records anchor_desk (map spelling (state.commands ++ command ∷ [])) (state.commands ++ command ∷ []))
 
@@ -31,31 +32,31 @@ pub record MayServe {D : Type 0} (desk : View D) : Type 0 where
   pub settled : desk.doubt ≡ None
 
 -- From a desk in one state, P leads to a state in which the other desk is.
-pub record Goes {D : Type 0} (content : D → Option (List ℕ)) (fault_count : D → ℕ) (P : State → State → Type 0) (new : View D) (before : State) : Type 0 where
+pub record Goes {D : Type 0} (disk_of : DiskGhosts D) (P : State → State → Type 0) (new : View D) (before : State) : Type 0 where
   pub after : State
   pub step : P before after
-  pub stands : IsIn content fault_count new after
+  pub stands : IsIn disk_of new after
 
 -- A line may get this reply.
-abbrev pub MayReply : {D : Type 0} → (D → Option (List ℕ)) → (D → ℕ) → Anchor D → List ℕ → List ℕ → Bool → Anchor D → Type 0
-MayReply content fault_count old line reply accepted new =
-    (before : State) → IsIn content fault_count old.desk before → Goes content fault_count (λ b a. IsReply b line reply accepted a) new.desk before
+abbrev pub MayReply : {D : Type 0} → DiskGhosts D → Anchor D → List ℕ → List ℕ → Bool → Anchor D → Type 0
+MayReply disk_of old line reply accepted new =
+    (before : State) → IsIn disk_of old.desk before → Goes disk_of (λ b a. IsReply b line reply accepted a) new.desk before
 
 -- A line that isn't blank may get this text.
-abbrev pub MayText : {D : Type 0} → (D → Option (List ℕ)) → (D → ℕ) → Anchor D → List ℕ → List ℕ → Bool → Anchor D → Type 0
-MayText content fault_count old line text accepted new =
-    (before : State) → IsIn content fault_count old.desk before → Goes content fault_count (λ b a. IsText b line text accepted a) new.desk before
+abbrev pub MayText : {D : Type 0} → DiskGhosts D → Anchor D → List ℕ → List ℕ → Bool → Anchor D → Type 0
+MayText disk_of old line text accepted new =
+    (before : State) → IsIn disk_of old.desk before → Goes disk_of (λ b a. IsText b line text accepted a) new.desk before
 
--- A command may get this text: from the desk, or because memory was wanting.
-abbrev pub MayAnswer : {D : Type 0} → (D → Option (List ℕ)) → (D → ℕ) → Anchor D → List ℕ → Command → List ℕ → Bool → Anchor D → Type 0
-MayAnswer content fault_count old name command text accepted new =
-    (before : State) → IsIn content fault_count old.desk before → Goes content fault_count
+-- A command may get this text: from the desk, or because memory ran out.
+abbrev pub MayAnswer : {D : Type 0} → DiskGhosts D → Anchor D → List ℕ → Command → List ℕ → Bool → Anchor D → Type 0
+MayAnswer disk_of old name command text accepted new =
+    (before : State) → IsIn disk_of old.desk before → Goes disk_of
     (λ b a. DeskText b.doubt b name command text accepted a ⊎ IsRefusedAs memory_text b text accepted a)
     new.desk before
 
 -- What a line says may get this text.
-abbrev pub MaySay : {D : Type 0} → (D → Option (List ℕ)) → (D → ℕ) → Anchor D → Line → List ℕ → Bool → Anchor D → Type 0
-MaySay content fault_count old (CommandLine name command) text accepted new = MayAnswer content fault_count old (string_bytes name) command text accepted new
+abbrev pub MaySay : {D : Type 0} → DiskGhosts D → Anchor D → Line → List ℕ → Bool → Anchor D → Type 0
+MaySay disk_of old (CommandLine name command) text accepted new = MayAnswer disk_of old (string_bytes name) command text accepted new
 
 -- The authority that a line names has a name.
 abbrev pub NamesOne : Line → Type 0

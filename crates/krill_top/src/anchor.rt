@@ -67,7 +67,7 @@ impl<D: Disk> Anchor<D> {
     ) -> Result<bool, AllocError>
         requires { IsName name.now }
         ensures ok { IfOk result (λ accepted. (text : List ℕ) × (out.new.items ≡ out.old.items ++ text ++ 10 ∷ [])
-            × MayAnswer D.content D.fault_count self.old name.now command text accepted self.new) }
+            × MayAnswer D.Disk self.old name.now command text accepted self.new) }
         ensures err { OnErr result ((self.new ≡ self.old) × (out.new.items ≡ out.old.items)) }
     {
         verdict_on_the_fold();
@@ -94,7 +94,7 @@ impl<D: Disk> Anchor<D> {
     ) -> Result<bool, AllocError>
         requires { NamesOne said }
         ensures ok { IfOk result (λ accepted. (text : List ℕ) × (out.new.items ≡ out.old.items ++ text ++ 10 ∷ [])
-            × MaySay D.content D.fault_count self.old said text accepted self.new) }
+            × MaySay D.Disk self.old said text accepted self.new) }
         ensures err { OnErr result ((self.new ≡ self.old) × (out.new.items ≡ out.old.items)) }
     {
         match said {
@@ -110,7 +110,7 @@ impl<D: Disk> Anchor<D> {
         out: &mut Vec<u8>,
     ) -> Result<bool, AllocError>
         ensures ok { IfOk result (λ accepted. (text : List ℕ) × (out.new.items ≡ out.old.items ++ text ++ 10 ∷ [])
-            × MayText D.content D.fault_count self.old line.now text accepted self.new) }
+            × MayText D.Disk self.old line.now text accepted self.new) }
         ensures err { OnErr result ((self.new ≡ self.old) × (out.new.items ≡ out.old.items)) }
     {
         match self.reader.read(alloc, line) {
@@ -156,7 +156,7 @@ fn append_journal_line(out: &mut Vec<u8>, refusal: JournalRefusal)
     append(out, "\n");
 }
 
-// Appends the line of a refusal, or of want of memory where that finds none.
+// Appends the line of a refusal, or that memory ran out, where there is none for it.
 fn append_refusal(alloc: Global, refusal: &Refusal, out: &mut Vec<u8>)
     requires { vec_len out.old + REPLY_ROOM ≤ vec_capacity out.old }
     ensures { (text : List ℕ) × (out.new.items ≡ out.old.items ++ text ++ 10 ∷ [])
@@ -237,7 +237,7 @@ fn is_blank_byte(byte: u8) -> bool
 impl<D: Disk> LineHandler for Anchor<D> {
     ghost use Rattle.krill_top.specs.Stands.{MayReply};
 
-    ghost answers = { MayReply D.content D.fault_count };
+    ghost answers = { MayReply D.Disk };
 
     fn answer(
         &mut self,

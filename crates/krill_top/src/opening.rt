@@ -45,10 +45,10 @@ pub(crate) fn open_desks<D: Disk>(
     disks: Vec<D>,
 ) -> Result<Desks<D>, OpeningRefused<D>>
     requires { length disks.items < 2 ^ 32 }
-    ensures opened { IfOk result (λ opened. AreOpened D.content D.fault_count 0 disks.items opened.desks.items) }
+    ensures opened { IfOk result (λ opened. AreOpened D.Disk 0 disks.items opened.desks.items) }
     ensures empty { IfOk result (λ opened. opened.disks.items ≡ []) }
     ensures room { IfOk result (λ opened. vec_len opened.desks ≤ vec_capacity opened.disks) }
-    ensures refused { IfErr result (λ refused. IsOpeningRefused D.content D.may_leave D.fault_count refused.fault disks.items refused.disks.items) }
+    ensures refused { IfErr result (λ refused. IsOpeningRefused D.Disk refused.fault disks.items refused.disks.items) }
 {
     let mut disks = disks;
     let Ok(mut desks) = Vec::with_capacity(alloc, disks.len()) else {
@@ -73,7 +73,7 @@ pub(crate) fn open_desks<D: Disk>(
 pub(crate) fn close_desks<D: Disk>(desks: Desks<D>) -> Vec<D>
     requires empty { desks.disks.items ≡ [] }
     requires room { vec_len desks.desks ≤ vec_capacity desks.disks }
-    ensures { AreClosed D.content D.may_leave desks.desks.items result.items }
+    ensures { AreClosed D.Disk desks.desks.items result.items }
 {
     let Desks { desks, mut disks } = desks;
     close_in_front(&mut disks, desks);
@@ -83,7 +83,7 @@ pub(crate) fn close_desks<D: Disk>(desks: Desks<D>) -> Vec<D>
 // Closes the desks, the last first, and puts their disks in front of the others.
 fn close_in_front<D: Disk>(disks: &mut Vec<D>, desks: Vec<Desk<D>>)
     requires { vec_len desks + vec_len disks.old ≤ vec_capacity disks.old }
-    ensures { (closed : List D) × AreClosed D.content D.may_leave desks.items closed × (disks.new.items ≡ closed ++ disks.old.items) }
+    ensures { (closed : List D) × AreClosed D.Disk desks.items closed × (disks.new.items ≡ closed ++ disks.old.items) }
 {
     let mut desks = desks;
     while let Some(desk) = desks.pop() {

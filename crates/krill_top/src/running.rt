@@ -89,15 +89,15 @@ fn serve_first<D: Disk, S: Source, K: Sink, C: Clock>(
     requires fresh { (first : View D) (others : List (View D)) → desks.old.items ≡ first ∷ others → MayServe first }
     ensures desks { (first : View D) × (served : View D) × (others : List (View D))
         × (desks.old.items ≡ first ∷ others) × (desks.new.items ≡ served ∷ others)
-        × ((before : State) → IsIn D.content D.fault_count first before
-        → Served D.content D.fault_count S.Source K.Sink ends.old ends.new before served result) }
+        × ((before : State) → IsIn D.Disk first before
+        → Served D.Disk S.Source K.Sink ends.old ends.new before served result) }
     ensures len { vec_len desks.new ≡ vec_len desks.old }
     ensures source_fault { result ≡ SessionEnd.SourceFault →
-        HasRisen (S.faults ends.old.source) (S.faults ends.new.source) }
+        HasRisen (S.fault_count ends.old.source) (S.fault_count ends.new.source) }
     ensures sink_fault { result ≡ SessionEnd.SinkFault →
-        HasRisen (K.faults ends.old.sink) (K.faults ends.new.sink) }
-    ensures source_later { S.faults ends.old.source ≤ S.faults ends.new.source }
-    ensures sink_later { K.faults ends.old.sink ≤ K.faults ends.new.sink }
+        HasRisen (K.fault_count ends.old.sink) (K.fault_count ends.new.sink) }
+    ensures source_later { S.fault_count ends.old.source ≤ S.fault_count ends.new.source }
+    ensures sink_later { K.fault_count ends.old.sink ≤ K.fault_count ends.new.sink }
     ensures clock { ends.new.clock ≡ ends.old.clock }
 {
     let mut anchor = Anchor::new(alloc, take_first(desks));
@@ -118,8 +118,8 @@ fn serve_one<D: Disk, S: Source, K: Sink, C: Clock>(
     requires room { vec_len opened.desks ≤ vec_capacity opened.disks }
     requires session { length sessions.items ≡ 1 }
     ensures { (first : D) (others : List D) (before : SessionEnds S K C)
-        → AreOpened D.content D.fault_count 0 (first ∷ others) opened.desks.items → sessions.items ≡ before ∷ []
-        → ServesOne D.content D.may_leave D.fault_count S.Source K.Sink first others before result }
+        → AreOpened D.Disk 0 (first ∷ others) opened.desks.items → sessions.items ≡ before ∷ []
+        → ServesOne D.Disk S.Source K.Sink first others before result }
 {
     let mut opened = opened;
     let mut sessions = sessions;
@@ -168,8 +168,8 @@ fn run_one<D: Disk, S: Source, K: Sink, C: Clock>(
     requires session { length sessions.items ≡ 1 }
     ensures { (first : D) (others : List D) (before : SessionEnds S K C)
         → desks.items ≡ first ∷ others → sessions.items ≡ before ∷ []
-        → IsRefusedAtOpening D.content D.may_leave D.fault_count desks.items sessions.items result
-        ⊎ ServesOne D.content D.may_leave D.fault_count S.Source K.Sink first others before result }
+        → IsRefusedAtOpening D.Disk desks.items sessions.items result
+        ⊎ ServesOne D.Disk S.Source K.Sink first others before result }
 {
     match open_desks(alloc, desks) {
         Ok(opened) => serve_one(alloc, opened, sessions),
@@ -220,8 +220,8 @@ pub fn run_krill<D: Disk, S: Source, K: Sink, C: Clock>(
     ensures served { AreRunWords words.now → length desks.items ≡ most_desks
         → (first : D) (others : List D) (before : SessionEnds S K C)
         → desks.items ≡ first ∷ others → sessions.items ≡ before ∷ []
-        → IsRefusedAtOpening D.content D.may_leave D.fault_count desks.items sessions.items result
-        ⊎ ServesOne D.content D.may_leave D.fault_count S.Source K.Sink first others before result }
+        → IsRefusedAtOpening D.Disk desks.items sessions.items result
+        ⊎ ServesOne D.Disk S.Source K.Sink first others before result }
 {
     if !are_run_words(words) {
         return refused(RunFault::Words, desks, sessions);

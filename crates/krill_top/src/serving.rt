@@ -34,14 +34,14 @@ impl Session {
         anchor: &mut Anchor<D>,
         ends: &mut SessionEnds<S, K, C>,
     ) -> SessionEnd
-        ensures session { (before : State) → IsIn D.content D.fault_count anchor.old.desk before
-            → Served D.content D.fault_count S.Source K.Sink ends.old ends.new before anchor.new.desk result }
+        ensures session { (before : State) → IsIn D.Disk anchor.old.desk before
+            → Served D.Disk S.Source K.Sink ends.old ends.new before anchor.new.desk result }
         ensures source_fault { result ≡ SessionEnd.SourceFault →
-            HasRisen (S.faults ends.old.source) (S.faults ends.new.source) }
+            HasRisen (S.fault_count ends.old.source) (S.fault_count ends.new.source) }
         ensures sink_fault { result ≡ SessionEnd.SinkFault →
-            HasRisen (K.faults ends.old.sink) (K.faults ends.new.sink) }
-        ensures source_later { S.faults ends.old.source ≤ S.faults ends.new.source }
-        ensures sink_later { K.faults ends.old.sink ≤ K.faults ends.new.sink }
+            HasRisen (K.fault_count ends.old.sink) (K.fault_count ends.new.sink) }
+        ensures source_later { S.fault_count ends.old.source ≤ S.fault_count ends.new.source }
+        ensures sink_later { K.fault_count ends.old.sink ≤ K.fault_count ends.new.sink }
         ensures clock { ends.new.clock ≡ ends.old.clock }
     {
         serve_lines(alloc, anchor, &mut ends.source, &mut ends.sink)

@@ -1,5 +1,6 @@
 use Rattle.std.proofs.Common.{◌≤◌, ◌-◌, IfSome}
-use Rattle.gate_journal.specs.Reading.{Rests, IsWindow}
+use Rattle.gate_journal.specs.Reading.{IsWindow}
+use Rattle.disk_api.specs.Runs.{Rests}
 use Rattle.gate_journal.proofs.Opened.{HasRead}
 use Rattle.gate_journal.proofs.Sizes.{AreInTurn}
 use Rattle.gate_journal.proofs.open.read_heads.Given as goal
@@ -10,8 +11,8 @@ invariant-loop-places g l = record {
   within : l.at ≤ l.fn.len;
   turn : AreInTurn l.at l.places.items;
   window : IfSome (g.D.Disk.content l.fn.disk) (IsWindow l.window.start l.window.bytes.items);
-  told : IfSome (g.D.Disk.content l.fn.disk) (λ bytes. HasRead l.fn.limit l.at l.places.items bytes);
-  rests : Rests g.D.Disk.content g.D.Disk.may_leave g.D.Disk.moment g.D.Disk.left_since l.fn.disk l.disk;
+  known : IfSome (g.D.Disk.content l.fn.disk) (λ bytes. HasRead l.fn.limit l.at l.places.items bytes);
+  rests : Rests g.D.Disk l.fn.disk l.disk;
   later : g.D.Disk.fault_count l.fn.disk ≤ g.D.Disk.fault_count l.disk;
 }
 

@@ -6,7 +6,7 @@ use Rattle.krill_top.proofs.opening.close_in_front.Given as goal
 abbrev pub invariant-loop-desk : goal.invariant-loop-desk
 invariant-loop-desk g l = (rest : List (View g.row.D.Denot)) × (closed : List g.row.D.Denot)
     × (l.initial.desks.items ≡ l.desks.items ++ rest)
-    × AreClosed g.D.Disk.content g.D.Disk.may_leave rest closed
+    × AreClosed g.D.Disk rest closed
     × (l.disks.items ≡ closed ++ l.initial.disks.items)
     × (vec_len l.desks + vec_len l.disks ≤ vec_capacity l.disks)
 

@@ -6,6 +6,6 @@ abbrev pub invariant-loop-number : goal.invariant-loop-number
 invariant-loop-number g l = (before : List g.row.D.Denot)
     × (l.fn.disks.items ≡ before ++ l.disks.items)
     × (length before ≡ l.number)
-    × AreOpened g.D.Disk.content g.D.Disk.fault_count 0 before l.desks.items
+    × AreOpened g.D.Disk 0 before l.desks.items
     × (vec_len l.fn.disks ≤ vec_capacity l.desks)
     × (vec_len l.fn.disks ≤ vec_capacity l.disks)

@@ -12,9 +12,9 @@ returns-clause-desks g c = (
   c.take_first.ensures.items,
   c.put_in_front.ensures.items,
   λ before stands. subst
-      (λ (d : View g.row.D.Denot). Served g.D.Disk.content g.D.Disk.fault_count g.S.Source g.K.Sink c.args.ends.now c.serve-ended.new.ends before d c.serve-ended.result)
+      (λ (d : View g.row.D.Denot). Served g.D.Disk g.S.Source g.K.Sink c.args.ends.now c.serve-ended.new.ends before d c.serve-ended.result)
       (sym c.into_desk.ensures)
-      (c.serve-ended.ensures.session before (subst (λ (d : View g.row.D.Denot). IsIn g.D.Disk.content g.D.Disk.fault_count d before) (sym c.new-anchor.ensures) stands)),
+      (c.serve-ended.ensures.session before (subst (λ (d : View g.row.D.Denot). IsIn g.D.Disk d before) (sym c.new-anchor.ensures) stands)),
 )
 
 pub new-anchor-requires : goal.new-anchor-requires

@@ -17,11 +17,11 @@ returns g c first others before opened one =
     let after = c.serve_first-ended.new.ends in
     let desks = c.serve_first-ended.ensures.desks in
     let run = c.run_end.result in
-    subst (λ (b : Ends). ServesOne g.D.Disk.content g.D.Disk.may_leave g.D.Disk.fault_count g.S.Source g.K.Sink first others b run) taken.0
-    (serves g.D.Disk.content g.D.Disk.may_leave g.D.Disk.fault_count g.S.Source g.K.Sink first others c.take_first-ends.result after c.serve_first-ended.result run
+    subst (λ (b : Ends). ServesOne g.D.Disk g.S.Source g.K.Sink first others b run) taken.0
+    (serves g.D.Disk g.S.Source g.K.Sink first others c.take_first-ends.result after c.serve_first-ended.result run
     desks.0 desks.1 desks.2 c.args.opened.desks.items c.serve_first-ended.new.desks.items
     opened desks.3 desks.4
-    (subst (λ (l : List g.row.D.Denot). AreClosed g.D.Disk.content g.D.Disk.may_leave c.serve_first-ended.new.desks.items l) (sym c.run_end.ensures.desks) c.close_desks.ensures)
+    (subst (λ (l : List g.row.D.Denot). AreClosed g.D.Disk c.serve_first-ended.new.desks.items l) (sym c.run_end.ensures.desks) c.close_desks.ensures)
     desks.5
     (c.run_end.ensures.sessions ∙ c.put_in_front.ensures.items ∙ ap (λ (l : List Ends). after ∷ l) taken.1)
     (c.run_end.ensures.status ∙ ap run_status c.fault_of.ensures) (c.run_end.ensures.fault ∙ c.fault_of.ensures)

@@ -17,5 +17,5 @@ returns-clause-commands g c commands has = returns-clause-records g c ∙ ap len
 pub returns-clause-safe : goal.returns-clause-safe
 returns-clause-safe g c =
     let inside = c.self.inside in
-    subst (λ (v : View _). IsSafe g.D.Disk.content g.D.Disk.may_leave v) c.self.view_is
-    (safe_of g.D.Disk.content g.D.Disk.may_leave inside.number inside.config.settings inside.body.items inside.journal c.self.invariant)
+    subst (λ (v : View _). IsSafe g.D.Disk v) c.self.view_is
+    (safe_of g.D.Disk inside.number inside.config.settings inside.body.items inside.journal c.self.invariant)

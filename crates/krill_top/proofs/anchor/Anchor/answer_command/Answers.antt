@@ -9,7 +9,7 @@ returns-in-Ok-clause-ok g c =
     let text = accepted_spelling c.args.name.now c.in-Ok.count in (
       text,
       c.append.ensures.items ∙ ap (λ (l : List ℕ). l ++ 10 ∷ []) (c.accepted_into.ensures.text ∙ ap (λ (l : List ℕ). l ++ text) c.in_ok-reserve.ensures.items),
-      accepted_answers g.D.Disk.content g.D.Disk.fault_count c.verdict_on_the_fold.ensures c.args.self.now.desk c.commit.new.self c.args.name.now c.args.command c.in-Ok.count text
+      accepted_answers g.D.Disk c.verdict_on_the_fold.ensures c.args.self.now.desk c.commit.new.self c.args.name.now c.args.command c.in-Ok.count text
           (record {
             place = took.place;
             commands = took.commands;
@@ -28,5 +28,5 @@ returns-in-Err-clause-ok g c =
     let said = c.append_fault.ensures in (
       said.0,
       said.1 ∙ ap (λ (l : List ℕ). l ++ said.0 ++ 10 ∷ []) c.in_ok-reserve.ensures.items,
-      fault_answers g.D.Disk.content g.D.Disk.fault_count c.verdict_on_the_fold.ensures c.args.self.now.desk c.commit.new.self c.args.name.now c.args.command c.in-Err.fault said.0 c.in-Err.ensures.refused said.2,
+      fault_answers g.D.Disk c.verdict_on_the_fold.ensures c.args.self.now.desk c.commit.new.self c.args.name.now c.args.command c.in-Err.fault said.0 c.in-Err.ensures.refused said.2,
     )

@@ -1,0 +1,11 @@
+//! Certificate revocation lists of the RPKI (RFC 5280 section 5, RFC 6487 section 5).
+#![tactic(auto)]
+
+mod entries;
+mod reading;
+mod values;
+mod writing;
+
+pub use reading::read;
+pub use values::{Crl, CrlEntry, ReadCrl};
+pub use writing::write;

@@ -1,0 +1,144 @@
+-- Leading bits of addresses: read as spelled, and spelled as read.
+use Rattle.std.proofs.Common.{◌≡◌, ℕ, zero, suc, ◌+◌, ◌-◌, ◌*◌, ◌/◌, ◌%◌, ◌^◌, ◌<◌, ◌≤◌, List, [], ◌∷◌, length, take, refl, sym, ap, subst, ◌∙◌, arith}
+use Rattle.std.specs.Int.{bytes_high_first}
+use Rattle.std.proofs.Math.Nat.{mul-div_cancel, pow-suc, mul-mod_left}
+use Rattle.std.proofs.lemmas.Nat.{pow-add, shl_below, shr_below, div-add-mod'}
+use Rattle.std.proofs.lemmas.Int.Digits.{number_lt}
+use Rattle.der.specs.Spelling.{AreBits}
+use Rattle.der.specs.Grammar.{AreBytes}
+use Rattle.payloads.specs.Prefixes.{IsAddressSize, octets, spare, leading_bytes}
+use Rattle.payloads.specs.ByteLaws.{number, below, two_some, length-high_first, number-high_first, high_first-number, take-high_first, bits-high_first, number-clear}
+
+-- bytes in bits
+pub pow256 : (k : ℕ) → 256 ^ k ≡ 2 ^ (8 * k)
+pow256 zero = refl
+pow256 (suc k) =
+    let more : 8 * suc k ≡ 8 * k + 8 = omega arith in
+    pow-suc 256 k ∙ ap (λ (x : ℕ). x * 256) (pow256 k) ∙ sym (pow-add 2 (8 * k) 8) ∙ sym (ap (λ (e : ℕ). 2 ^ e) more)
+
+-- What is left of an address without zeros at its end, and those zeros.
+record Split (bits len n : ℕ) : Type 0 where
+  high : ℕ
+  whole : n ≡ high * 2 ^ (bits - len)
+  is : n / 2 ^ (bits - len) ≡ high
+  small : high < 2 ^ len
+
+split_of : (bits len n : ℕ) → len ≤ bits → n < 2 ^ bits → n % 2 ^ (bits - len) ≡ 0 → Split bits len n
+split_of bits len n le fits clear =
+    let p : ℕ = 2 ^ (bits - len) in
+    let parts : n / p * p + n % p ≡ n = div-add-mod' n p in
+    let sum : len + (bits - len) ≡ bits = omega arith in
+    record {
+      high = n / p;
+      whole = omega (arith, parts, clear);
+      is = refl;
+      small = shr_below n len (bits - len) (subst (λ (e : ℕ). n < 2 ^ e) (sym sum) fits);
+    }
+
+-- a shift to the left by two amounts
+shifted : (a i j k : ℕ) → i + j ≡ k → a * 2 ^ i * 2 ^ j ≡ a * 2 ^ k
+shifted a i j k sum =
+    let powers : 2 ^ i * 2 ^ j ≡ 2 ^ k = sym (pow-add 2 i j) ∙ ap (λ (e : ℕ). 2 ^ e) sum in
+    regroup a (2 ^ i) (2 ^ j) ∙ ap (λ (x : ℕ). a * x) powers
+  where
+    regroup : (a b c : ℕ) → a * b * c ≡ a * (b * c)
+    regroup a b c = omega arith
+
+-- The bytes of a bit string are the leading bits of the address that begins with them.
+pub record IsLeading (bits unused : ℕ) (bytes : List ℕ) (len first : ℕ) : Type 0 where
+  pub fits : 8 * length bytes ≤ bits
+  pub few : unused ≤ 8 * length bytes
+  pub spare : unused ≡ spare len
+  pub same : bytes ≡ leading_bytes bits len first
+  pub clear : first % 2 ^ (bits - len) ≡ 0
+  pub below : first < 2 ^ bits
+
+pub enough : (unused : ℕ) (bytes : List ℕ) → AreBits unused bytes → unused ≤ 8 * length bytes
+enough unused [] bits = let none = bits.none refl in omega (arith, none)
+enough unused (b ∷ bytes) bits = let few = bits.few in omega (arith, few)
+
+pub leading_found : (bits unused : ℕ) (bytes : List ℕ) → IsAddressSize bits → AreBits unused bytes → AreBytes bytes
+    → 8 * length bytes - unused ≤ bits
+    → IsLeading bits unused bytes (8 * length bytes - unused) (number bytes * 2 ^ (bits - 8 * length bytes))
+leading_found bits unused bytes size are fits le =
+    let k : ℕ = length bytes in
+    let whole : bits % 8 ≡ 0 = size.whole in
+    let few : unused < 8 = are.few in
+    let some : unused ≤ 8 * k = enough unused bytes are in
+    let in_range : 8 * k ≤ bits = omega (arith, le, few, whole, some) in
+    let len : ℕ = 8 * k - unused in
+    let e : ℕ = bits - 8 * k in
+    let v : ℕ = number bytes in
+    let q : ℕ = v / 2 ^ unused in
+    let v-is : v ≡ q * 2 ^ unused =
+    let parts : v / 2 ^ unused * 2 ^ unused + v % 2 ^ unused ≡ v = div-add-mod' v (2 ^ unused) in
+    omega (arith, parts, number-clear unused bytes are) in
+    let left : unused + e ≡ bits - len = omega (arith, in_range, some) in
+    let first-is : v * 2 ^ e ≡ q * 2 ^ (bits - len) = ap (λ (x : ℕ). x * 2 ^ e) v-is ∙ shifted q unused e (bits - len) left in
+    let count : octets len ≡ k = omega (arith, few, some) in
+    let over : unused ≡ spare len = omega (arith, few, some, count) in
+    let high : (v * 2 ^ e) / 2 ^ (bits - len) ≡ q = ap (λ (x : ℕ). x / 2 ^ (bits - len)) first-is ∙ mul-div_cancel q (two_some (bits - len)) in
+    let back : (v * 2 ^ e) / 2 ^ (bits - len) * 2 ^ spare len ≡ v =
+    (λ i. high i * 2 ^ sym over i) ∙ sym v-is in
+    let sum : 8 * k + e ≡ bits = omega (arith, in_range) in
+    let small : v < 2 ^ (8 * k) = subst (λ (x : ℕ). v < x) (pow256 k) (number_lt 256 bytes (below bytes fits)) in
+    record {
+      fits = in_range;
+      few = some;
+      spare = over;
+      same = sym ((λ i. bytes_high_first (count i) (back i)) ∙ high_first-number bytes (below bytes fits));
+      clear = ap (λ (x : ℕ). x % 2 ^ (bits - len)) first-is ∙ mul-mod_left q (2 ^ (bits - len));
+      below = subst (λ (x : ℕ). v * 2 ^ e < 2 ^ x) sum (shl_below v (8 * k) e small);
+    }
+
+-- What a bit string says that spells leading bits.
+pub record Says (bits unused : ℕ) (bytes : List ℕ) (len n : ℕ) : Type 0 where
+  pub few : length bytes ≤ 16
+  pub len_is : 8 * length bytes - unused ≡ len
+  pub address : number bytes * 2 ^ (bits - 8 * length bytes) ≡ n
+
+pub leading_said : (bits unused : ℕ) (bytes : List ℕ) (len n : ℕ) → IsAddressSize bits → len ≤ bits → n < 2 ^ bits → n % 2 ^ (bits - len) ≡ 0
+    → unused ≡ spare len → bytes ≡ leading_bytes bits len n → Says bits unused bytes len n
+leading_said bits unused bytes len n size le fits clear over same =
+    let short : bits ≤ 128 = size.short in
+    let whole : bits % 8 ≡ 0 = size.whole in
+    let k : ℕ = octets len in
+    let s = split_of bits len n le fits clear in
+    let v : ℕ = n / 2 ^ (bits - len) * 2 ^ spare len in
+    let count : length bytes ≡ k = ap length same ∙ length-high_first k v in
+    let in_range : 8 * k ≤ bits = omega (arith, le, whole) in
+    let sum : len + spare len ≡ 8 * k = omega arith in
+    let high-small : n / 2 ^ (bits - len) < 2 ^ len = subst (λ (x : ℕ). x < 2 ^ len) (sym s.is) s.small in
+    let small : v < 256 ^ k = subst (λ (x : ℕ). v < x) (ap (λ (e : ℕ). 2 ^ e) sum ∙ sym (pow256 k)) (shl_below (n / 2 ^ (bits - len)) len (spare len) high-small) in
+    let value : number bytes ≡ v = ap number same ∙ number-high_first k v small in
+    let left : spare len + (bits - 8 * k) ≡ bits - len = omega (arith, in_range) in
+    let address : v * 2 ^ (bits - 8 * k) ≡ n =
+    shifted (n / 2 ^ (bits - len)) (spare len) (bits - 8 * k) (bits - len) left ∙ ap (λ (x : ℕ). x * 2 ^ (bits - len)) s.is ∙ sym s.whole in
+    record {
+      few = omega (arith, count, le, short);
+      len_is = omega (arith, count, over);
+      address = (λ i. value i * 2 ^ (bits - 8 * count i)) ∙ address;
+    }
+
+-- What is written of leading bits.
+pub leading_bits : (bits len n : ℕ) → len ≤ bits → n < 2 ^ bits → n % 2 ^ (bits - len) ≡ 0 → AreBits (spare len) (leading_bytes bits len n)
+leading_bits bits len n le fits clear =
+    bits-high_first (octets len) (n / 2 ^ (bits - len) * 2 ^ spare len) (spare len) (omega arith) (λ e. omega (arith, e)) (mul-mod_left (n / 2 ^ (bits - len)) (2 ^ spare len))
+
+pub leading_written : (bits len n : ℕ) → IsAddressSize bits → len ≤ bits → n < 2 ^ bits → n % 2 ^ (bits - len) ≡ 0
+    → take (octets len) (bytes_high_first 16 (n * 2 ^ (128 - bits))) ≡ leading_bytes bits len n
+leading_written bits len n size le fits clear =
+    let short : bits ≤ 128 = size.short in
+    let whole : bits % 8 ≡ 0 = size.whole in
+    let k : ℕ = octets len in
+    let few : k ≤ 16 = omega (arith, le, short) in
+    let s = split_of bits len n le fits clear in
+    let q : ℕ = n / 2 ^ (bits - len) in
+    let n-is : n ≡ q * 2 ^ (bits - len) = s.whole ∙ ap (λ (x : ℕ). x * 2 ^ (bits - len)) (sym s.is) in
+    let up : (bits - len) + (128 - bits) ≡ 128 - len = omega (arith, le, short) in
+    let parts : spare len + 8 * (16 - k) ≡ 128 - len = omega (arith, le, short, few) in
+    let top : n * 2 ^ (128 - bits) ≡ q * 2 ^ spare len * 2 ^ (8 * (16 - k)) =
+    ap (λ (x : ℕ). x * 2 ^ (128 - bits)) n-is ∙ shifted q (bits - len) (128 - bits) (128 - len) up ∙ sym (shifted q (spare len) (8 * (16 - k)) (128 - len) parts) in
+    let down : n * 2 ^ (128 - bits) / 256 ^ (16 - k) ≡ q * 2 ^ spare len =
+    (λ i. top i / pow256 (16 - k) i) ∙ mul-div_cancel (q * 2 ^ spare len) (two_some (8 * (16 - k))) in
+    take-high_first k 16 (n * 2 ^ (128 - bits)) few ∙ ap (bytes_high_first k) down
