@@ -4,7 +4,10 @@ use crate::first_field;
 use crate::replies::{name_of, text_of};
 use anyhow::{Context, Result, bail};
 use authority_book::Child;
-use json_api::{ListLine, RoaLine, RoaWord, Shown, StageWord, list_text, roas_text, show_text};
+use json_api::{
+    Line, ListLine, RoaLine, RoaWord, Shown, StageWord, history_text, list_text, read_line,
+    roas_text, show_text,
+};
 use origins::read_origin;
 use res_sets::{Family, Ranges, Resources};
 use std::alloc::Global;
@@ -14,6 +17,7 @@ pub fn answer(alloc: Global, call: &str, arguments: &str) -> Result<String> {
         "list" => listed(alloc, arguments),
         "show" => shown(alloc, arguments),
         "roas" => roas(alloc, arguments),
+        "history" => history(alloc, arguments),
         _ => bail!("an unknown call"),
     }
 }
@@ -127,4 +131,18 @@ fn roa_of(entry: &str) -> Result<RoaLine> {
     };
     let origin = read_origin(origin).context("no origin")?;
     Ok(RoaLine { origin, state })
+}
+
+// A name, and the lines of its commands with tabs between them.
+fn history(alloc: Global, arguments: &str) -> Result<String> {
+    let mut commands = Vec::new(alloc);
+    let mut fields = arguments.split('\t');
+    let authority = name_of(fields.next().context("no name")?)?;
+    for line in fields {
+        match read_line(alloc, line.as_bytes()) {
+            Ok(Line::Command { command, .. }) => commands.push(command)?,
+            _ => bail!("no command"),
+        }
+    }
+    text_of(history_text(alloc, &authority, &commands)?)
 }
