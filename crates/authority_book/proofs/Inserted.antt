@@ -1,16 +1,14 @@
 -- One origin more at its place in an ascending list.
-use Rattle.std.proofs.Common.{◌≡◌, ℕ, ◌+◌, ◌-◌, ◌<◌, ◌≤◌, zero, suc, Bool, true, false, refl, sym, ◌∙◌, ap, arith, length, get_or, take, List, [], ◌∷◌, ◌++◌, inl, inr}
-use Rattle.std.specs.Prelude.{◌||◌, insert}
+use Rattle.std.proofs.Common.{◌≡◌, ℕ, ◌+◌, ◌-◌, ◌<◌, ◌≤◌, zero, suc, false, refl, ◌∙◌, ap, arith, length, get_or, take, List, [], ◌∷◌, ◌++◌, inl, inr}
+use Rattle.std.specs.Prelude.{insert}
 use Rattle.std.specs.declared.cmp.Ordering.TheVariants.{Less, Greater}
 use Rattle.std.specs.Ordering.{ordering_reverse}
 use Rattle.std.specs.List.{IsDistinct, AllByRecursion}
-use Rattle.std.specs.List.Sorted.{IsPermutation, IsPartitionPoint}
+use Rattle.std.specs.List.Sorted.{IsPartitionPoint}
 use Rattle.std.proofs.lemmas.Bool.{cases_lt}
-use Rattle.std.proofs.lemmas.List.{take_more, append_assoc, get_or-append-add, length-append}
+use Rattle.std.proofs.lemmas.List.{get_or-append-add, length-append}
 use Rattle.std.proofs.Math.Seq.{take-append-add}
 use Rattle.std.proofs.lemmas.List.Edits.{get_or-insert_at, get_or-insert_below, get_or-insert_above, length-insert}
-use Rattle.std.proofs.lemmas.List.Folds.{list_any-append}
-use Rattle.std.proofs.lemmas.List.Sorted.{list_any-IsPermutation}
 use Rattle.std.proofs.lemmas.Map.Keys.{IsDistinct-head, IsDistinct-tail, Less-from_sorted, sorted_from_all_adjacent}
 use Rattle.origins.specs.declared.Origin.{Origin}
 use Rattle.authority_book.specs.Origins.{origin_cmp, is_same, is_there, IsAscending}
@@ -73,27 +71,3 @@ ascending-insert xs i x up within parts = sorted_from_all_adjacent origin_total 
             (origin_total.antisymm x (get_or xs k x) ∙ ap ordering_reverse (parts.1 k x from small))
       ]
     ])
-
-or_last : (a b : Bool) → (a || b) ≡ (b || (a || false))
-or_last true true = refl
-or_last true false = refl
-or_last false true = refl
-or_last false false = refl
-
--- The members once the origin is in.
-pub members-inserted : (before xs ys : List Origin) (x : Origin) → IsPermutation (x ∷ xs) ys →
-    ((o : Origin) → is_there xs o ≡ is_there before o) → (o : Origin) → is_there ys o ≡ is_there (before ++ x ∷ []) o
-members-inserted before xs ys x moved same o =
-    sym (list_any-IsPermutation (is_same o) (x ∷ xs) ys moved)
-    ∙ (or_last (is_same o x) (is_there xs o)
-    ∙ (ap (λ b. b || (is_same o x || false)) (same o) ∙ sym (list_any-append (is_same o) before (x ∷ []))))
-
--- The members once the next of a list is in.
-pub members-next : (kept added : List Origin) (i : ℕ) (xs ys : List Origin) (x : Origin) → i < length added → x ≡ get_or added i x →
-    IsPermutation (x ∷ xs) ys → ((o : Origin) → is_there xs o ≡ is_there (kept ++ take i added) o) →
-    (o : Origin) → is_there ys o ≡ is_there (kept ++ take (i + 1) added) o
-members-next kept added i xs ys x within is moved same o =
-    let longer : kept ++ take (i + 1) added ≡ kept ++ take i added ++ x ∷ [] =
-    ap (λ l. kept ++ l) (take_more added i x within ∙ ap (λ (y : Origin). take i added ++ y ∷ []) (sym is))
-    ∙ sym (append_assoc kept (take i added) (x ∷ [])) in
-    members-inserted (kept ++ take i added) xs ys x moved same o ∙ ap (λ l. is_there l o) (sym longer)

@@ -6,4 +6,9 @@ mod Sorted
 mod Changes
 mod Folds
 mod Inserted
+mod Ascending
+mod Placed
+mod Removed
+mod ChildPlaces
+mod Limits
 mod Same

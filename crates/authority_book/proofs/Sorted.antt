@@ -7,16 +7,12 @@ use Rattle.std.specs.List.{IsDistinct}
 use Rattle.std.specs.List.Sorted.{IsStrictlySortedBy, IsSorted}
 use Rattle.std.proofs.lemmas.Map.Keys.{IsDistinct-head, IsDistinct-tail, sorted_from_all_adjacent}
 use Rattle.origins.specs.declared.Origin.{Origin}
-use Rattle.authority_book.specs.Origins.{origin_cmp, is_same, IsAscending, IsSortedFrom}
+use Rattle.authority_book.specs.Origins.{origin_cmp, is_same, IsAscending}
 use Rattle.authority_book.proofs.OriginOrder.{origin_total}
 
 pub ascending-nil : IsAscending []
 unfolding IsStrictlySortedBy
 ascending-nil = tt
-
-pub sorted-nil : IsSortedFrom [] []
-unfolding IsStrictlySortedBy IsDistinct
-sorted-nil = record { distinct = tt; members = λ o. refl; ascending = tt }
 
 -- Neighbours in a list without repetition differ.
 neighbours_differ : (xs : List Origin) (k : ℕ) (d : Origin) → IsDistinct is_same xs → suc k < length xs →

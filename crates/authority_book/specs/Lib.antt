@@ -1,6 +1,8 @@
 pub mod Origins
 pub mod Index
+pub mod Listed
 pub mod Settings
 pub mod Refusals
 pub mod Verdict
 pub mod Fold
+pub mod Limits

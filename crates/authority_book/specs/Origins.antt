@@ -1,8 +1,8 @@
 -- Lists of route origins: the order of origins, membership, and what stands twice.
-use Rattle.std.specs.Prelude.{◌≡◌, Bool, not, List, [], ◌∷◌, ◌++◌, Option, None, Some, filter, if◌then◌else◌}
-use Rattle.std.specs.List.{list_any, IsDistinct}
+use Rattle.std.specs.Prelude.{Bool, not, List, [], ◌∷◌, ◌++◌, Option, None, Some, filter, if◌then◌else◌}
+use Rattle.std.specs.List.{list_any}
 use Rattle.std.specs.List.Sorted.{IsStrictlySortedBy}
-use Rattle.std.specs.Ordering.{eq_by_cmp}
+use Rattle.std.specs.Ordering.{eq_by_cmp, is_lt}
 unfoldable pub use Rattle.origins.specs.Order.{origin_cmp}
 use Rattle.origins.specs.declared.Origin.{Origin}
 
@@ -32,8 +32,13 @@ first_repeated origins = first_repeated_after [] origins
 abbrev pub IsAscending : List Origin → Type 0
 IsAscending origins = IsStrictlySortedBy origin_cmp origins
 
--- The origins of a list, none of which stands twice in it, in ascending order.
-pub record IsSortedFrom (origins sorted : List Origin) : Type 0 where
-  pub distinct : IsDistinct is_same origins
-  pub members : (origin : Origin) → is_there sorted origin ≡ is_there origins origin
-  pub ascending : IsAscending sorted
+-- An ascending list with one origin more, at its place.
+abbrev pub with_one : List Origin → Origin → List Origin
+with_one [] origin = origin ∷ []
+with_one (first ∷ rest) origin =
+    if is_lt (origin_cmp origin first) then origin ∷ first ∷ rest else first ∷ with_one rest origin
+
+-- An ascending list with each of the added origins, at its place.
+abbrev pub with_each : List Origin → List Origin → List Origin
+with_each origins [] = origins
+with_each origins (first ∷ rest) = with_each (with_one origins first) rest

@@ -1,21 +1,76 @@
 -- Which commands a configuration accepts, and the first cause to refuse one.
-use Rattle.std.specs.Prelude.{◌≡◌, ℕ, ◌+◌, not, ◌&&◌, nat_lt, List, length, find, Option, None, Some, Result, Ok, Err, if◌then◌else◌}
+use Rattle.std.specs.Prelude.{◌≡◌, ℕ, ◌+◌, Bool, false, not, ◌&&◌, ◌==◌, nat_lt, nat_le, List, length, find, Option, None, Some, is_some, Result, Ok, Err, if◌then◌else◌}
 use Rattle.origins.specs.declared.Origin.{Origin}
+use Rattle.authority_book.specs.declared.rows.Child.{Child}
 use Rattle.authority_book.specs.declared.commands.Command.{Command}
-use Rattle.authority_book.specs.declared.commands.Command.TheVariants.{UpdateRoas}
+use Rattle.authority_book.specs.declared.commands.Command.TheVariants.{Add, Delete, AddParent, AddChild, UpdateChild, RemoveChild, SuspendChild, UnsuspendChild, UpdateRoas}
 use Rattle.authority_book.specs.declared.refusals.Refusal.{Refusal}
-use Rattle.authority_book.specs.declared.refusals.Refusal.TheVariants.{OriginThere, OriginTwice, NoSuchOrigin, TooManyOrigins}
+use Rattle.authority_book.specs.declared.refusals.Refusal.TheVariants.{Deleted, NameTaken, TooManyAuthorities, NoSuchSigner, HasParent, ChildThere, NoSuchChild, TooManyChildren, Suspended, NotSuspended, OriginThere, OriginTwice, NoSuchOrigin, TooManyOrigins, AnchorOnly, NotForAnchor}
 use Rattle.authority_book.specs.Origins.{is_there, without, first_repeated}
+use Rattle.authority_book.specs.Listed.{is_listed, is_child, child_of}
 use Rattle.authority_book.specs.Settings.{Settings}
+
+-- How many authorities a tree has at most, the anchor among them.
+abbrev pub most_authorities : ℕ
+most_authorities = 64
+
+-- How many children an authority has at most.
+abbrev pub most_children : ℕ
+most_children = 63
 
 -- How many origins an authority has at most.
 abbrev pub most_origins : ℕ
 most_origins = 1024
 
+-- The refusal, where its cause is there.
+abbrev pub refused_if : Bool → Refusal → Option Refusal
+refused_if cause refusal = if cause then Some refusal else None
+
 -- The first of these causes that there is, or none.
 abbrev pub first_cause : Option Refusal → Option Refusal → Option Refusal
 first_cause None rest = rest
 first_cause (Some refusal) rest = Some refusal
+
+-- The trust anchor has desk 0.
+abbrev pub is_anchor : Settings → Bool
+is_anchor settings = settings.desk == 0
+
+-- The signer isn't one of so many signers. Where they aren't asked for, it is.
+abbrev pub lacks_signer : ℕ → Option ℕ → Bool
+lacks_signer signer None = false
+lacks_signer signer (Some signers) = nat_le signers signer
+
+-- ---- the causes to refuse a command, in their order
+abbrev pub add_refusal : Settings → List ℕ → ℕ → Option ℕ → Option Refusal
+add_refusal settings name signer signers =
+    first_cause (refused_if (not (is_anchor settings)) AnchorOnly)
+    (first_cause (refused_if (is_listed settings.names name) NameTaken)
+    (first_cause (refused_if (nat_le most_authorities (length settings.names)) TooManyAuthorities)
+    (refused_if (lacks_signer signer signers) NoSuchSigner)))
+
+abbrev pub delete_refusal : Settings → Option Refusal
+delete_refusal settings = refused_if (is_anchor settings) NotForAnchor
+
+abbrev pub parent_refusal : Settings → Option Refusal
+parent_refusal settings =
+    first_cause (refused_if (is_anchor settings) NotForAnchor)
+    (refused_if (is_some settings.parent) HasParent)
+
+abbrev pub add_child_refusal : List Child → List ℕ → Option Refusal
+add_child_refusal children name =
+    first_cause (refused_if (is_child children name) ChildThere)
+    (refused_if (nat_le most_children (length children)) TooManyChildren)
+
+abbrev pub change_refusal : List Child → List ℕ → Option Refusal
+change_refusal children name = refused_if (not (is_child children name)) NoSuchChild
+
+abbrev pub suspend_refusal : Option Child → Option Refusal
+suspend_refusal None = Some NoSuchChild
+suspend_refusal (Some child) = refused_if child.suspended Suspended
+
+abbrev pub unsuspend_refusal : Option Child → Option Refusal
+unsuspend_refusal None = Some NoSuchChild
+unsuspend_refusal (Some child) = refused_if (not child.suspended) NotSuspended
 
 -- An origin's refusal, if there is such an origin.
 abbrev pub refused_at : (Origin → Refusal) → Option Origin → Option Refusal
@@ -37,7 +92,6 @@ count_with configured added removed = length (without configured removed) + leng
 abbrev pub too_many : ℕ → Option Refusal
 too_many after = if nat_lt most_origins after then Some (TooManyOrigins after) else None
 
--- The causes to refuse a change of the origins, in their order.
 abbrev pub roas_refusal : List Origin → List Origin → List Origin → Option Refusal
 roas_refusal configured added removed =
     first_cause (refused_at OriginThere (there_already configured added removed))
@@ -46,20 +100,35 @@ roas_refusal configured added removed =
     (first_cause (refused_at NoSuchOrigin (missing configured removed))
     (too_many (count_with configured added removed)))))
 
--- The first cause to refuse the command, leaving out the causes that ask how many signers there
--- are.
-abbrev pub refusal_of : Settings → Command → Option Refusal
-refusal_of settings (UpdateRoas added removed) = roas_refusal settings.origins added removed
+-- The first cause to refuse a command to an authority that isn't deleted.
+abbrev pub refusal_in_force : Settings → Command → Option ℕ → Option Refusal
+refusal_in_force settings (Add name signer) signers = add_refusal settings name signer signers
+refusal_in_force settings Delete signers = delete_refusal settings
+refusal_in_force settings (AddParent parent) signers = parent_refusal settings
+refusal_in_force settings (AddChild child grant) signers = add_child_refusal settings.children child
+refusal_in_force settings (UpdateChild child grant) signers = change_refusal settings.children child
+refusal_in_force settings (RemoveChild child) signers = change_refusal settings.children child
+refusal_in_force settings (SuspendChild child) signers =
+    suspend_refusal (child_of settings.children child)
+refusal_in_force settings (UnsuspendChild child) signers =
+    unsuspend_refusal (child_of settings.children child)
+refusal_in_force settings (UpdateRoas added removed) signers =
+    roas_refusal settings.origins added removed
+
+-- The first cause to refuse the command where so many signers are at hand, or where it isn't asked
+-- how many there are.
+abbrev pub refusal_of : Settings → Command → Option ℕ → Option Refusal
+refusal_of settings command signers =
+    first_cause (refused_if settings.deleted Deleted) (refusal_in_force settings command signers)
 
 -- The command is accepted, if it doesn't fail for want of a signer.
 abbrev pub IsAccepted : Settings → Command → Type 0
-IsAccepted settings command = refusal_of settings command ≡ None
+IsAccepted settings command = refusal_of settings command None ≡ None
 
 abbrev pub refused_or_ok : Option Refusal → Result (Unit {0}) Refusal
 refused_or_ok None = Ok tt
 refused_or_ok (Some refusal) = Err refusal
 
--- The verdict on a command where so many signers are at hand: its first refusal, else Ok. No
--- command of this book needs a signer yet.
-abbrev pub verdict_of : Settings → Command → ℕ → Result (Unit {0}) Refusal
-verdict_of settings command signers = refused_or_ok (refusal_of settings command)
+-- The verdict on a command: its first refusal, else Ok.
+abbrev pub verdict_of : Settings → Command → Option ℕ → Result (Unit {0}) Refusal
+verdict_of settings command signers = refused_or_ok (refusal_of settings command signers)

@@ -3,11 +3,46 @@
 ghost use Rattle.std.specs.Prelude.{◌≡◌, IfOk};
 
 use crate::origin_lists::OriginList;
+use names::Name;
+use res_sets::Resources;
 use std::alloc::{AllocError, Global};
 
 /// A command to an authority.
 #[derive(Drop)]
 pub enum Command {
+    /// Lists a new authority. The anchor alone does it.
+    Add {
+        name: Name,
+        signer: u32,
+    },
+    /// Deletes the authority for good.
+    Delete,
+    /// Names the authority's parent.
+    AddParent {
+        parent: Name,
+    },
+    /// Takes a child in, with what it is granted.
+    AddChild {
+        child: Name,
+        grant: Resources,
+    },
+    /// Grants a child something else.
+    UpdateChild {
+        child: Name,
+        grant: Resources,
+    },
+    /// Lets a child go.
+    RemoveChild {
+        child: Name,
+    },
+    /// Holds a child's grant back.
+    SuspendChild {
+        child: Name,
+    },
+    /// Grants it again.
+    UnsuspendChild {
+        child: Name,
+    },
     /// Removes route origins from the configuration, and then adds others.
     UpdateRoas {
         added: OriginList,
@@ -20,12 +55,28 @@ impl Command {
     pub fn copy(&self, alloc: Global) -> Result<Command, AllocError>
         ensures { IfOk result (λ copy. copy ≡ self.now) }
     {
-        match self {
-            Command::UpdateRoas { added, removed } => {
-                let added = added.copy(alloc)?;
-                let removed = removed.copy(alloc)?;
-                Ok(Command::UpdateRoas { added, removed })
-            }
-        }
+        Ok(match self {
+            Command::Add { name, signer } => Command::Add {
+                name: *name,
+                signer: *signer,
+            },
+            Command::Delete => Command::Delete,
+            Command::AddParent { parent } => Command::AddParent { parent: *parent },
+            Command::AddChild { child, grant } => Command::AddChild {
+                child: *child,
+                grant: grant.copy(alloc)?,
+            },
+            Command::UpdateChild { child, grant } => Command::UpdateChild {
+                child: *child,
+                grant: grant.copy(alloc)?,
+            },
+            Command::RemoveChild { child } => Command::RemoveChild { child: *child },
+            Command::SuspendChild { child } => Command::SuspendChild { child: *child },
+            Command::UnsuspendChild { child } => Command::UnsuspendChild { child: *child },
+            Command::UpdateRoas { added, removed } => Command::UpdateRoas {
+                added: added.copy(alloc)?,
+                removed: removed.copy(alloc)?,
+            },
+        })
     }
 }

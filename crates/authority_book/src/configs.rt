@@ -1,12 +1,17 @@
 //! The configuration of an authority.
 
-ghost use Rattle.std.specs.Prelude.{◌≡◌, ◌≤◌, ◌<◌, ◌^◌, ◌-◌, ◌+◌, ◌++◌, ◌∷◌, [], ℕ, List, length, IfOk, OnOk, OnErr, IsOk};
+ghost use Rattle.std.specs.Prelude.{◌≡◌, ◌≤◌, ◌<◌, ◌^◌, ◌-◌, ◌+◌, ◌++◌, ◌∷◌, [], ℕ, List, Option, length, IfOk, OnOk, OnErr, IsOk, option_map};
 ghost use Rattle.std.specs.Vec.{vec_capacity, vec_len};
-ghost use Rattle.authority_book.specs.Origins.{is_there, IsAscending, IsSortedFrom};
-ghost use Rattle.authority_book.specs.Settings.{ConfigValue};
+ghost use Rattle.authority_book.specs.Origins.{is_there, IsAscending};
+ghost use Rattle.authority_book.specs.Listed.{place_of, child_of};
+ghost use Rattle.authority_book.specs.Limits.{AreKept};
+ghost use Rattle.authority_book.specs.Settings.{ConfigValue, Covers, plus};
 
+use crate::children::{copy_children, push_child, remove_child, set_grant, set_suspended};
 use crate::commands::Command;
+use crate::rows::{Child, NameRow};
 use crate::sorted_origins::update_origins;
+use names::Name;
 use origins::Origin;
 use std::alloc::{AllocError, Global};
 use std::marker::Model;
@@ -15,7 +20,13 @@ use std::marker::Model;
 #[derive(Drop)]
 pub struct Config {
     desk: u32,
+    names: Vec<NameRow>,
+    deleted: bool,
+    parent: Option<Name>,
+    children: Vec<Child>,
     origins: Vec<Origin>,
+    inits: u32,
+    activates: u32,
     count: u64,
 }
 
@@ -23,26 +34,52 @@ impl Model for Config {
     ghost Value = { ConfigValue };
 
     ghost view = { λ config. record {
-      settings = record { desk = config.desk; origins = config.origins.items; count = config.count };
-      room = vec_capacity config.origins - vec_len config.origins;
+      settings = record {
+        desk = config.desk;
+        names = config.names.items;
+        deleted = config.deleted;
+        parent = config.parent;
+        children = config.children.items;
+        origins = config.origins.items;
+        inits = config.inits;
+        activates = config.activates;
+        count = config.count;
+      };
+      room = record {
+        names = vec_capacity config.names - vec_len config.names;
+        children = vec_capacity config.children - vec_len config.children;
+        origins = vec_capacity config.origins - vec_len config.origins;
+      };
     } };
 
-    ghost invariant = { λ config. IsAscending config.origins.items };
+    ghost invariant = { λ config. AreKept config.names.items config.children.items config.origins.items };
 }
 
 impl Config {
     ghost use Rattle.authority_book.specs.declared.commands.Command.{Command};
-    ghost use Rattle.authority_book.specs.Verdict.{IsAccepted};
-    ghost use Rattle.authority_book.specs.Fold.{empty_settings, after, added_by, IsFoldOf, Taken};
+    ghost use Rattle.authority_book.specs.Verdict.{IsAccepted, most_authorities, most_children, most_origins};
+    ghost use Rattle.authority_book.specs.Fold.{empty_settings, after, fold_of, needs, Taken};
 
     /// The configuration of a desk before its first command.
     pub fn new(alloc: Global, desk: u32) -> Result<Config, AllocError>
-        ensures empty { IfOk result (λ config. config ≡ record { settings = empty_settings desk; room = 0 }) }
-        ensures fold { IfOk result (λ config. IsFoldOf config.settings desk []) }
+        ensures { IfOk result (λ config. config.settings ≡ empty_settings desk) }
     {
+        let mut names = Vec::new(alloc);
+        if desk == 0 {
+            names.push(NameRow {
+                name: Name::read("ta").unwrap(),
+                signer: 0,
+            })?;
+        }
         Ok(Config {
             desk,
+            names,
+            deleted: false,
+            parent: None,
+            children: Vec::new(alloc),
             origins: Vec::new(alloc),
+            inits: 0,
+            activates: 0,
             count: 0,
         })
     }
@@ -54,20 +91,61 @@ impl Config {
         self.desk
     }
 
+    /// The names of the tree, each at the place of its desk. The anchor alone has them.
+    pub fn names(&self) -> &[NameRow]
+        ensures names { result.now ≡ self.now.settings.names }
+        ensures limit { length result.now ≤ most_authorities }
+    {
+        self.names.as_slice()
+    }
+
+    /// The place of the name among the names of the tree.
+    pub fn place_of(&self, name: &Name) -> Option<usize>
+        ensures { result ≡ place_of self.now.settings.names name.now }
+    {
+        self.names
+            .iter()
+            .position(|row| row.name.as_bytes() == name.as_bytes())
+    }
+
+    /// Whether the authority is deleted.
+    pub fn is_deleted(&self) -> bool
+        ensures { result ≡ self.now.settings.deleted }
+    {
+        self.deleted
+    }
+
+    /// The authority's parent.
+    pub fn parent(&self) -> Option<Name>
+        ensures { result ≡ self.now.settings.parent }
+    {
+        self.parent
+    }
+
+    /// The children in the order in which they came.
+    pub fn children(&self) -> &[Child]
+        ensures children { result.now ≡ self.now.settings.children }
+        ensures limit { length result.now ≤ most_children }
+    {
+        self.children.as_slice()
+    }
+
+    /// The child of that name.
+    pub fn child(&self, name: &Name) -> Option<&Child>
+        ensures { option_map (λ child. child.now) result ≡ child_of self.now.settings.children name.now }
+    {
+        self.children
+            .iter()
+            .find(|child| child.name.as_bytes() == name.as_bytes())
+    }
+
     /// The configured origins in ascending order.
     pub fn origins(&self) -> &[Origin]
         ensures origins { result.now ≡ self.now.settings.origins }
         ensures ascending { IsAscending result.now }
-        ensures small { length result.now < 2 ^ 63 }
+        ensures limit { length result.now ≤ most_origins }
     {
         self.origins.as_slice()
-    }
-
-    /// How many commands were accepted. It stands still at 2^64 - 1.
-    pub fn count(&self) -> u64
-        ensures { result ≡ self.now.settings.count }
-    {
-        self.count
     }
 
     /// Whether the origin is configured, found in logarithmic time.
@@ -77,35 +155,84 @@ impl Config {
         self.origins.binary_search(origin).is_ok()
     }
 
+    /// How often a key roll was begun.
+    pub fn inits(&self) -> u32
+        ensures { result ≡ self.now.settings.inits }
+    {
+        self.inits
+    }
+
+    /// How often a key roll was activated.
+    pub fn activates(&self) -> u32
+        ensures { result ≡ self.now.settings.activates }
+    {
+        self.activates
+    }
+
+    /// How many commands were accepted. It stands still at 2^64 - 1.
+    pub fn count(&self) -> u64
+        ensures { result ≡ self.now.settings.count }
+    {
+        self.count
+    }
+
+    /// The same configuration once more.
+    pub fn copy(&self, alloc: Global) -> Result<Config, AllocError>
+        ensures { IfOk result (λ copy. copy.settings ≡ self.now.settings) }
+    {
+        Ok(Config {
+            desk: self.desk,
+            names: self.names.as_slice().to_vec(alloc)?,
+            deleted: self.deleted,
+            parent: self.parent,
+            children: copy_children(alloc, self.children.as_slice())?,
+            origins: self.origins.as_slice().to_vec(alloc)?,
+            inits: self.inits,
+            activates: self.activates,
+            count: self.count,
+        })
+    }
+
     /// Takes the memory that `apply` needs for the command.
     pub fn reserve(&mut self, _alloc: Global, command: &Command) -> Result<(), AllocError>
         ensures settings { self.new.settings ≡ self.old.settings }
-        ensures room { OnOk result (added_by command.now ≤ self.new.room) }
+        ensures room { OnOk result (Covers self.new.room (needs command.now)) }
         ensures err { OnErr result (self.new.room ≡ self.old.room) }
-        ensures enough { added_by command.now ≤ self.old.room → IsOk result }
-        ensures never_less { self.old.room ≤ self.new.room }
+        ensures enough { Covers self.old.room (needs command.now) → IsOk result }
+        ensures never_less { Covers self.new.room self.old.room }
     {
         match command {
+            Command::Add { .. } => self.names.reserve(1),
+            Command::AddChild { .. } => self.children.reserve(1),
             Command::UpdateRoas { added, .. } => self.origins.reserve(added.len()),
+            _ => Ok(()),
         }
     }
 
     /// Applies an accepted command for which `reserve` made room.
     pub fn apply(&mut self, command: Command)
         requires accepted { IsAccepted self.old.settings command }
-        requires reserved { added_by command ≤ self.old.room }
-        ensures desk { self.new.settings.desk ≡ self.old.settings.desk }
-        ensures origins { IsSortedFrom (after self.old.settings command).origins self.new.settings.origins }
-        ensures count { self.new.settings.count ≡ (after self.old.settings command).count }
+        requires reserved { Covers self.old.room (needs command) }
+        ensures settings { self.new.settings ≡ after self.old.settings command }
 
-        // Adding takes the room of what is added, and no more.
-        ensures room { self.old.room ≤ self.new.room + added_by command }
+        // A command takes the room that it needs, and no more.
+        ensures room { Covers (plus self.new.room (needs command)) self.old.room }
 
         // One command more of the same desk's fold.
-        ensures fold { (desk : ℕ) (commands : List Command) → IsFoldOf self.old.settings desk commands → IsFoldOf self.new.settings desk (commands ++ command ∷ []) }
-        ensures taken { (desk : ℕ) (commands : List Command) → IsFoldOf self.old.settings desk commands → Taken desk commands → Taken desk (commands ++ command ∷ []) }
+        ensures fold { (desk : ℕ) (commands : List Command) → self.old.settings ≡ fold_of desk commands
+            → self.new.settings ≡ fold_of desk (commands ++ command ∷ []) }
+        ensures taken { (desk : ℕ) (commands : List Command) → self.old.settings ≡ fold_of desk commands
+            → Taken desk commands → Taken desk (commands ++ command ∷ []) }
     {
         match command {
+            Command::Add { name, signer } => self.names.push(NameRow { name, signer }).unwrap(),
+            Command::Delete => self.deleted = true,
+            Command::AddParent { parent } => self.parent = Some(parent),
+            Command::AddChild { child, grant } => push_child(&mut self.children, child, grant),
+            Command::UpdateChild { child, grant } => set_grant(&mut self.children, &child, grant),
+            Command::RemoveChild { child } => remove_child(&mut self.children, &child),
+            Command::SuspendChild { child } => set_suspended(&mut self.children, &child, true),
+            Command::UnsuspendChild { child } => set_suspended(&mut self.children, &child, false),
             Command::UpdateRoas { added, removed } => {
                 update_origins(&mut self.origins, &added, &removed);
             }

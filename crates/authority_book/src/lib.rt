@@ -2,11 +2,13 @@
 //! accepted ones come to.
 #![tactic(auto)]
 
+mod children;
 mod commands;
 mod configs;
 mod laws;
 mod origin_lists;
 mod refusals;
+mod rows;
 mod sorted_origins;
 mod verdicts;
 
@@ -15,4 +17,5 @@ pub use configs::Config;
 pub use laws::membership_is_by_equality;
 pub use origin_lists::OriginList;
 pub use refusals::Refusal;
-pub use verdicts::{verdict, verdict_on_the_fold};
+pub use rows::{Child, NameRow};
+pub use verdicts::{verdict, verdict_unasked};

@@ -8,6 +8,26 @@ use origins::Origin;
 /// Why a command is refused. A refused command changes nothing.
 #[derive(Clone, Copy, Debug, PartialEq)]
 pub enum Refusal {
+    /// The authority is deleted.
+    Deleted,
+    /// The name is listed already.
+    NameTaken,
+    /// As many authorities are listed as there may be.
+    TooManyAuthorities,
+    /// No signer has that number.
+    NoSuchSigner,
+    /// The authority has a parent already.
+    HasParent,
+    /// The child is there already.
+    ChildThere,
+    /// There is no such child.
+    NoSuchChild,
+    /// The authority has as many children as it may have.
+    TooManyChildren,
+    /// The child is suspended already.
+    Suspended,
+    /// The child isn't suspended.
+    NotSuspended,
     /// The origin is configured already, and the command doesn't remove it.
     OriginThere { origin: Origin },
     /// The origin stands twice in one of the command's lists.
@@ -16,6 +36,10 @@ pub enum Refusal {
     NoSuchOrigin { origin: Origin },
     /// More than 1,024 origins would be configured: so many.
     TooManyOrigins { after: u64 },
+    /// The anchor alone takes this command.
+    AnchorOnly,
+    /// The anchor doesn't take this command.
+    NotForAnchor,
 }
 
 impl Refusal {
@@ -24,10 +48,22 @@ impl Refusal {
         ensures { result ≡ code_of self.now }
     {
         match self {
+            Refusal::Deleted => 1,
+            Refusal::NameTaken => 2,
+            Refusal::TooManyAuthorities => 3,
+            Refusal::NoSuchSigner => 4,
+            Refusal::HasParent => 5,
+            Refusal::ChildThere => 7,
+            Refusal::NoSuchChild => 8,
+            Refusal::TooManyChildren => 9,
+            Refusal::Suspended => 10,
+            Refusal::NotSuspended => 11,
             Refusal::OriginThere { .. } => 12,
             Refusal::OriginTwice { .. } => 13,
             Refusal::NoSuchOrigin { .. } => 14,
             Refusal::TooManyOrigins { .. } => 15,
+            Refusal::AnchorOnly => 18,
+            Refusal::NotForAnchor => 19,
         }
     }
 
@@ -36,10 +72,22 @@ impl Refusal {
         ensures { result.now ≡ name_of self.now }
     {
         match self {
+            Refusal::Deleted => "Deleted",
+            Refusal::NameTaken => "NameTaken",
+            Refusal::TooManyAuthorities => "TooManyAuthorities",
+            Refusal::NoSuchSigner => "NoSuchSigner",
+            Refusal::HasParent => "HasParent",
+            Refusal::ChildThere => "ChildThere",
+            Refusal::NoSuchChild => "NoSuchChild",
+            Refusal::TooManyChildren => "TooManyChildren",
+            Refusal::Suspended => "Suspended",
+            Refusal::NotSuspended => "NotSuspended",
             Refusal::OriginThere { .. } => "OriginThere",
             Refusal::OriginTwice { .. } => "OriginTwice",
             Refusal::NoSuchOrigin { .. } => "NoSuchOrigin",
             Refusal::TooManyOrigins { .. } => "TooManyOrigins",
+            Refusal::AnchorOnly => "AnchorOnly",
+            Refusal::NotForAnchor => "NotForAnchor",
         }
     }
 }

@@ -1,16 +1,15 @@
 //! Route origins in ascending order, changed in place and without memory.
 
-ghost use Rattle.std.specs.Prelude.{◌≡◌, ◌+◌, ◌-◌, ◌<◌, ◌≤◌, ◌++◌, ◌∷◌, false, length, None};
+ghost use Rattle.std.specs.Prelude.{◌≡◌, ◌+◌, ◌-◌, ◌<◌, ◌≤◌, ◌++◌, ◌∷◌, [], false, length, None};
 ghost use Rattle.std.specs.List.{IsDistinct};
-ghost use Rattle.std.specs.List.Sorted.{IsPermutation};
 ghost use Rattle.std.specs.Vec.{vec_capacity, vec_len};
-ghost use Rattle.authority_book.specs.Origins.{is_same, is_there, without, IsAscending, IsSortedFrom};
+ghost use Rattle.authority_book.specs.Origins.{is_same, is_there, without, with_one, with_each, IsAscending};
 ghost use Rattle.authority_book.specs.Verdict.{roas_refusal};
 
 use crate::origin_lists::OriginList;
 use origins::Origin;
 
-// So few origins are put in one by one, each at its place. More are sorted in together.
+// So few origins are looked up and moved one by one. Of more, all are gone through.
 const FEW: usize = 8;
 
 /// Removes first and adds then, within the room that is there.
@@ -18,19 +17,28 @@ pub fn update_origins(origins: &mut Vec<Origin>, added: &OriginList, removed: &O
     requires ascending { IsAscending origins.old.items }
     requires accepted { roas_refusal origins.old.items added.now removed.now ≡ None }
     requires room { length added.now ≤ vec_capacity origins.old - vec_len origins.old }
-    ensures origins { IsSortedFrom (without origins.old.items removed.now ++ added.now) origins.new.items }
+    ensures origins { origins.new.items ≡ with_each (without origins.old.items removed.now) added.now }
     ensures room { vec_capacity origins.old - vec_len origins.old ≤ vec_capacity origins.new - vec_len origins.new + length added.now }
 {
-    remove_each(origins, removed);
-    if added.len() > FEW {
-        sort_in(origins, added.as_slice());
+    remove_all(origins, removed);
+    add_all(origins, added.as_slice());
+}
+
+fn remove_all(origins: &mut Vec<Origin>, removed: &OriginList)
+    requires ascending { IsAscending origins.old.items }
+    ensures items { origins.new.items ≡ without origins.old.items removed.now }
+    ensures len { vec_len origins.new ≤ vec_len origins.old }
+    ensures capacity { vec_capacity origins.new ≡ vec_capacity origins.old }
+{
+    if removed.len() > FEW {
+        remove_many(origins, removed);
     } else {
-        insert_each(origins, added.as_slice());
+        remove_few(origins, removed.as_slice());
     }
 }
 
-// Removes the origins.
-fn remove_each(origins: &mut Vec<Origin>, removed: &OriginList)
+// Removes the origins by going through all.
+fn remove_many(origins: &mut Vec<Origin>, removed: &OriginList)
     ensures items { origins.new.items ≡ without origins.old.items removed.now }
     ensures len { vec_len origins.new ≤ vec_len origins.old }
     ensures capacity { vec_capacity origins.new ≡ vec_capacity origins.old }
@@ -38,11 +46,51 @@ fn remove_each(origins: &mut Vec<Origin>, removed: &OriginList)
     origins.retain(|origin| !removed.contains(origin));
 }
 
-// Puts the origins in by sorting all.
-fn sort_in(origins: &mut Vec<Origin>, added: &[Origin])
+// Removes the origins one after another.
+fn remove_few(origins: &mut Vec<Origin>, removed: &[Origin])
+    requires ascending { IsAscending origins.old.items }
+    ensures items { origins.new.items ≡ without origins.old.items removed.now }
+    ensures len { vec_len origins.new ≤ vec_len origins.old }
+    ensures capacity { vec_capacity origins.new ≡ vec_capacity origins.old }
+{
+    for origin in removed {
+        remove_one(origins, origin);
+    }
+}
+
+// Removes the origin, if it is there.
+fn remove_one(origins: &mut Vec<Origin>, origin: &Origin)
+    requires ascending { IsAscending origins.old.items }
+    ensures items { origins.new.items ≡ without origins.old.items (origin.now ∷ []) }
+    ensures len { vec_len origins.new ≤ vec_len origins.old }
+    ensures capacity { vec_capacity origins.new ≡ vec_capacity origins.old }
+{
+    if let Ok(place) = origins.binary_search(origin) {
+        origins.remove(place);
+    }
+}
+
+fn add_all(origins: &mut Vec<Origin>, added: &[Origin])
+    requires ascending { IsAscending origins.old.items }
     requires distinct { IsDistinct is_same (origins.old.items ++ added.now) }
     requires room { length added.now ≤ vec_capacity origins.old - vec_len origins.old }
-    ensures origins { IsSortedFrom (origins.old.items ++ added.now) origins.new.items }
+    ensures origins { origins.new.items ≡ with_each origins.old.items added.now }
+    ensures len { vec_len origins.new ≡ vec_len origins.old + length added.now }
+    ensures capacity { vec_capacity origins.old ≤ vec_capacity origins.new }
+{
+    if added.len() > FEW {
+        sort_in(origins, added);
+    } else {
+        insert_each(origins, added);
+    }
+}
+
+// Puts the origins in by sorting all.
+fn sort_in(origins: &mut Vec<Origin>, added: &[Origin])
+    requires ascending { IsAscending origins.old.items }
+    requires distinct { IsDistinct is_same (origins.old.items ++ added.now) }
+    requires room { length added.now ≤ vec_capacity origins.old - vec_len origins.old }
+    ensures origins { origins.new.items ≡ with_each origins.old.items added.now }
     ensures len { vec_len origins.new ≡ vec_len origins.old + length added.now }
     ensures capacity { vec_capacity origins.old ≤ vec_capacity origins.new }
 {
@@ -55,7 +103,7 @@ fn insert_each(origins: &mut Vec<Origin>, added: &[Origin])
     requires ascending { IsAscending origins.old.items }
     requires distinct { IsDistinct is_same (origins.old.items ++ added.now) }
     requires room { length added.now ≤ vec_capacity origins.old - vec_len origins.old }
-    ensures origins { IsSortedFrom (origins.old.items ++ added.now) origins.new.items }
+    ensures origins { origins.new.items ≡ with_each origins.old.items added.now }
     ensures len { vec_len origins.new ≡ vec_len origins.old + length added.now }
     ensures capacity { vec_capacity origins.old ≤ vec_capacity origins.new }
 {
@@ -69,8 +117,7 @@ fn insert_one(origins: &mut Vec<Origin>, origin: Origin)
     requires ascending { IsAscending origins.old.items }
     requires absent { is_there origins.old.items origin ≡ false }
     requires room { vec_len origins.old < vec_capacity origins.old }
-    ensures permutation { IsPermutation (origin ∷ origins.old.items) origins.new.items }
-    ensures ascending { IsAscending origins.new.items }
+    ensures origins { origins.new.items ≡ with_one origins.old.items origin }
     ensures len { vec_len origins.new ≡ vec_len origins.old + 1 }
     ensures capacity { vec_capacity origins.old ≤ vec_capacity origins.new }
 {

@@ -1,10 +1,9 @@
 use Rattle.std.proofs.Common.{◌≡◌, true, false, refl}
 use Rattle.std.specs.Prelude.{insert}
 use Rattle.std.specs.Result.{is_ok}
-use Rattle.std.proofs.lemmas.List.Sorted.{IsPermutation-insert}
 use Rattle.authority_book.specs.Origins.{origin_cmp, is_there, IsAscending}
 use Rattle.authority_book.proofs.OriginOrder.{found, parted}
-use Rattle.authority_book.proofs.Inserted.{ascending-insert}
+use Rattle.authority_book.proofs.Placed.{inserted_is}
 use Rattle.authority_book.proofs.sorted_origins.insert_one.Goals as goal
 
 pub unreachable-requires : goal.unreachable-requires
@@ -17,18 +16,12 @@ unreachable-requires c =
     let here : is_ok c.binary_search.result ≡ true = rw c.in-Ok.is refl in
     cc
 
-pub returns-clause-permutation : goal.returns-clause-permutation
-returns-clause-permutation c =
-    let ok : is_ok c.insert.result ≡ true = rw c.unwrap.ensures refl in
-    let put = rw ok at c.insert.ensures.items in
-    rw put (IsPermutation-insert c.args.origins.now.items c.in-Err.place c.args.origin)
-
-pub returns-clause-ascending : goal.returns-clause-ascending
+pub returns-clause-origins : goal.returns-clause-origins
 unfolding origin_cmp
-returns-clause-ascending c =
+returns-clause-origins c =
     let xs = c.args.origins.now.items in
     let same = c.deref.ensures.value in
     let ok : is_ok c.insert.result ≡ true = rw c.unwrap.ensures refl in
     let put : c.insert.new.self.items ≡ insert xs c.in-Err.place c.args.origin = rw ok at c.insert.ensures.items in
     let parts = parted c.deref.result.now c.args.origin c.in-Err.place (rw same c.requires.ascending) c.in-Err.ensures.position in
-    rw put (ascending-insert xs c.in-Err.place c.args.origin c.requires.ascending (rw same at c.in-Err.ensures.bound) (rw same at parts))
+    rw put (inserted_is xs c.in-Err.place c.args.origin c.requires.ascending c.requires.absent (rw same at c.in-Err.ensures.bound) (rw same at parts))

@@ -7,7 +7,7 @@ use Rattle.authority_book.proofs.configs.Config.contains.Goals as goal
 pub returns : goal.returns
 unfolding origin_cmp
 returns c =
-    let up : IsAscending c.deref.result.now = rw c.deref.ensures.value c.self.invariant in
+    let up : IsAscending c.deref.result.now = rw c.deref.ensures.value c.self.invariant.ascending in
     let is = found c.deref.result.now c.args.origin.now c.binary_search.result up c.binary_search.ensures.bound c.binary_search.ensures.position in
     let same : c.deref.result.now ≡ c.args.self.now.settings.origins = c.deref.ensures.value ∙ ap (λ (v : ConfigValue). v.settings.origins) c.self.view_is in
     c.is_ok.ensures.value ∙ is ∙ ap (λ xs. is_there xs c.args.origin.now) same

@@ -3,7 +3,7 @@ use Rattle.std.specs.Prelude.{not}
 use Rattle.std.proofs.lemmas.Fn.{filter_same}
 use borrow.Author.Tests.{tests}
 use Rattle.authority_book.specs.Origins.{is_there}
-use Rattle.authority_book.proofs.sorted_origins.remove_each.Goals as goal
+use Rattle.authority_book.proofs.sorted_origins.remove_many.Goals as goal
 
 pub returns-clause-items : goal.returns-clause-items
 returns-clause-items c =
