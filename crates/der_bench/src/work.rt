@@ -6,7 +6,7 @@ ghost use Rattle.res_sets.specs.declared.numbers.Family.TheVariants.{V4, V6};
 use anyhow::{Result, bail};
 use der::Reader;
 use res_ext::{read_ip, write_ip};
-use res_sets::{Family, Range, Ranges};
+use res_sets::{Family, MOST_RANGES, Range, Ranges};
 use std::alloc::{AllocError, Global};
 use std::time::{Duration, Instant};
 
@@ -47,6 +47,9 @@ fn addresses(alloc: Global) -> Result<Option<Ranges>, AllocError>
         let first = u128::from(i) * 512;
         let last = first + 255 - u128::from(i % 2);
         ranges.push(Range { first, last })?;
+    }
+    if ranges.len() > MOST_RANGES {
+        return Err(AllocError);
     }
     Ok(Ranges::from_sorted(Family::V4, ranges))
 }

@@ -47,7 +47,13 @@ fn is_name_byte(c: u8) -> bool
 pub fn is_name(text: &str) -> bool
     ensures { IsTrue result ↔ IsName text.now }
 {
-    !text.is_empty() && text.len() <= MAX_LEN && text.as_bytes().iter().all(|c| is_name_byte(*c))
+    are_of_name(text.as_bytes())
+}
+
+fn are_of_name(text: &[u8]) -> bool
+    ensures { IsTrue result ↔ IsName text.now }
+{
+    !text.is_empty() && text.len() <= MAX_LEN && text.iter().all(|c| is_name_byte(*c))
 }
 
 #[tactic(auto, using(crate::proofs::Kept::zeros_behind))]
@@ -62,16 +68,24 @@ fn padded(text: &[u8]) -> [u8; 64]
 
 impl Name {
     /// The name of that text, or `None` where the text isn't a name.
-    #[tactic(auto, using(crate::proofs::Kept::kept_of))]
     pub fn read(text: &str) -> Option<Name>
         ensures found { IsSome result ↔ IsName text.now }
         ensures name { IfSome result (λ name. name ≡ text.now) }
     {
-        if !is_name(text) {
+        Name::of_bytes(text.as_bytes())
+    }
+
+    /// The name of these bytes, or `None` where they aren't those of a name.
+    #[tactic(auto, using(crate::proofs::Kept::kept_of))]
+    pub fn of_bytes(text: &[u8]) -> Option<Name>
+        ensures found { IsSome result ↔ IsName text.now }
+        ensures name { IfSome result (λ name. name ≡ text.now) }
+    {
+        if !are_of_name(text) {
             return None;
         }
         Some(Name {
-            bytes: padded(text.as_bytes()),
+            bytes: padded(text),
             len: text.len(),
         })
     }

@@ -4,7 +4,7 @@ ghost use Rattle.std.specs.Prelude.{◌≡◌, IfOk};
 
 use crate::{first_field, plain_text};
 use anyhow::{Context, Result, bail, ensure};
-use res_sets::{Family, Range, Ranges, Resources};
+use res_sets::{Family, MOST_RANGES, Range, Ranges, Resources};
 use std::alloc::Global;
 
 /// The family of this name.
@@ -31,6 +31,9 @@ pub fn sorted(alloc: Global, family: Family, text: &str) -> Result<String> {
     let mut ranges = Vec::new(alloc);
     for range in text.split(' ') {
         ranges.push(range_of(range)?)?;
+    }
+    if ranges.len() > MOST_RANGES {
+        bail!("too many ranges");
     }
     match Ranges::from_sorted(family, ranges) {
         Some(set) => shown(alloc, &set),

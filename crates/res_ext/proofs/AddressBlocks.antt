@@ -6,7 +6,7 @@ use Rattle.der.specs.Spelling.{spelled, bits_spelling}
 use Rattle.der.specs.ElementLaws.{one_element}
 use Rattle.res_sets.specs.declared.numbers.Range.{Range}
 use Rattle.res_sets.specs.Prefixes.{IsPrefixRange}
-use Rattle.res_sets.proofs.Canonical.{same_range}
+use Rattle.res_sets.specs.Laws.{same_range}
 use Rattle.res_ext.specs.Prefixes.{octets, spare, leading_bytes, leading_spelling, kept, prefix_of}
 use Rattle.res_ext.specs.Blocks.{ends, prefix_or_ends, address_block}
 use Rattle.res_ext.proofs.Bytes.{two_some}

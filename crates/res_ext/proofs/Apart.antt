@@ -11,7 +11,7 @@ use Rattle.res_sets.specs.declared.numbers.Range.{Range}
 use Rattle.res_sets.specs.Numbers.{family_end, AreCanonical}
 use Rattle.res_sets.specs.Sets.{RangeSet, IsCanonical}
 use Rattle.res_sets.specs.Prefixes.{IsPrefixRange}
-use Rattle.res_sets.proofs.Canonical.{same_range}
+use Rattle.res_sets.specs.Laws.{same_range}
 use Rattle.res_ext.specs.declared.choices.Choice.{Choice}
 use Rattle.res_ext.specs.declared.choices.Choice.TheVariants.{Inherit, Listed}
 use Rattle.res_ext.specs.declared.values.IpRead.{IpRead}

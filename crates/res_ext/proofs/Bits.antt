@@ -10,7 +10,7 @@ use Rattle.der.specs.Spelling.{AreBits}
 use Rattle.der.specs.Grammar.{AreBytes}
 use Rattle.res_sets.specs.declared.numbers.Range.{Range}
 use Rattle.res_sets.specs.Prefixes.{IsPrefixRange}
-use Rattle.res_sets.proofs.Masks.{room_above}
+use Rattle.res_sets.specs.Laws.{room_above}
 use Rattle.res_ext.specs.Prefixes.{IsAddressSize, octets, spare, leading_bytes, kept}
 use Rattle.res_ext.proofs.Bytes.{number, below, two_some, length-high_first, number-high_first, high_first-number, take-high_first, bits-high_first, number-clear}
 

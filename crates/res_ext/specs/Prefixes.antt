@@ -2,7 +2,7 @@
 use Rattle.std.specs.Prelude.{◌≡◌, ◌<◌, ◌≤◌, ℕ, zero, suc, ◌+◌, ◌-◌, ◌*◌, ◌/◌, ◌%◌, ◌^◌, Bool, ◌&&◌, ◌==◌, nat_le, if◌then◌else◌, Option, Some, None, List}
 use Rattle.std.specs.Int.{bytes_high_first}
 use Rattle.der.specs.Spelling.{bits_spelling}
-use Rattle.res_sets.specs.declared.numbers.Range.{Range}
+pub use Rattle.res_sets.specs.Prefixes.{prefix_of}
 
 -- So many bits are whole bytes, up to 16 of them.
 pub record IsAddressSize (bits : ℕ) : Type 0 where
@@ -30,16 +30,3 @@ leading_spelling bits len address = bits_spelling (spare len) (leading_bytes bit
 abbrev pub kept : ℕ → ℕ → ℕ → ℕ
 kept bit zero n = zero
 kept bit (suc bits) n = if n % 2 == bit then kept bit bits (n / 2) else suc bits
-
--- Whether a range has just the addresses, of so many bits, that begin as its first one does in len bits.
-abbrev pub is_prefix : ℕ → ℕ → Range → Bool
-is_prefix bits len range =
-    (range.first % 2 ^ (bits - len) == 0) && (range.last + 1 == range.first + 2 ^ (bits - len))
-
-abbrev pub prefix_up_to : ℕ → ℕ → Range → Option ℕ
-prefix_up_to bits zero range = if is_prefix bits zero range then Some zero else None
-prefix_up_to bits (suc len) range = if is_prefix bits (suc len) range then Some (suc len) else prefix_up_to bits len range
-
--- The length of the prefix that a range of addresses of so many bits is, if it is one.
-unfoldable pub prefix_of : ℕ → Range → Option ℕ
-prefix_of bits range = prefix_up_to bits bits range

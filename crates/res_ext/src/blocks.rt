@@ -14,7 +14,7 @@ use crate::bit_strings::{
 };
 use crate::elements::{SEQUENCE, element, element_at, number_at};
 use crate::fault::ExtFault;
-use res_sets::{Family, Range, Ranges, prefix_length};
+use res_sets::{Family, MOST_RANGES, Range, Ranges, prefix_length};
 use std::alloc::{AllocError, Global};
 
 /// The range whose ends are all of the bytes: two numbers, the second above the first.
@@ -163,6 +163,9 @@ pub fn blocks_of(alloc: Global, family: Family, content: &[u8]) -> Result<Ranges
     ensures err { IfErr result IsOfNoFamily }
 {
     let ranges = ranges_of(alloc, family, content)?;
+    if ranges.len() > MOST_RANGES {
+        return Err(ExtFault::Memory);
+    }
     let Some(set) = Ranges::from_sorted(family, ranges) else {
         return Err(ExtFault::NotCanonical);
     };

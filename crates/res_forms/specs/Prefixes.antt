@@ -2,7 +2,8 @@
 use Rattle.std.specs.Prelude.{◌≡◌, ◌<◌, ◌≤◌, ℕ, zero, suc, ◌+◌, ◌-◌, ◌*◌, ◌/◌, ◌%◌, ◌^◌, Bool, ◌&&◌, ◌==◌, nat_le, if◌then◌else◌, Option, Some, None, List}
 use Rattle.std.specs.Int.{bytes_high_first}
 use Rattle.der.specs.Spelling.{bits_spelling}
-use Rattle.res_sets.specs.declared.numbers.Range.{Range}
+pub use Rattle.res_sets.specs.Prefixes.{is_prefix, prefix_up_to, prefix_of}
+unfoldable pub use Rattle.res_sets.specs.Prefixes.{span_length}
 
 -- So many bits are whole bytes, up to 16 of them.
 pub record IsAddressSize (bits : ℕ) : Type 0 where
@@ -30,20 +31,3 @@ leading_spelling bits len address = bits_spelling (spare len) (leading_bytes bit
 abbrev pub kept : ℕ → ℕ → ℕ → ℕ
 kept bit zero n = zero
 kept bit (suc bits) n = if n % 2 == bit then kept bit bits (n / 2) else suc bits
-
--- Whether just the addresses from the first to the last, of so many bits, begin as the first one does in
--- len bits.
-abbrev pub is_prefix : ℕ → ℕ → ℕ × ℕ → Bool
-is_prefix bits len span =
-    (span.0 % 2 ^ (bits - len) == 0) && (span.1 + 1 == span.0 + 2 ^ (bits - len))
-
-abbrev pub prefix_up_to : ℕ → ℕ → ℕ × ℕ → Option ℕ
-prefix_up_to bits zero span = if is_prefix bits zero span then Some zero else None
-prefix_up_to bits (suc len) span = if is_prefix bits (suc len) span then Some (suc len) else prefix_up_to bits len span
-
-unfoldable pub span_length : ℕ → ℕ × ℕ → Option ℕ
-span_length bits span = prefix_up_to bits bits span
-
--- The length of the prefix that a range of addresses of so many bits is, if it is one.
-abbrev pub prefix_of : ℕ → Range → Option ℕ
-prefix_of bits range = span_length bits (range.first, range.last)

@@ -15,7 +15,7 @@ ghost use Rattle.res_forms.specs.FormatLaws.{block-law};
 use crate::leading::{Leading, kept_of_first, kept_of_last, leading, range_of};
 use der_forms::tags::{BIT_STRING, INTEGER, SEQUENCE};
 use der_forms::{FrontReader, Part, ShapeFault, many, number};
-use res_sets::{Family, Range, Ranges, prefix_length};
+use res_sets::{Family, MOST_RANGES, Range, Ranges, prefix_length};
 use std::alloc::{AllocError, Global};
 
 /// The ends of AS numbers: two, the second above the first.
@@ -150,6 +150,7 @@ impl FrontReader for BlockReader {
 
 /// The set with these ranges, if they are canonical.
 fn set_of(family: Family, ranges: Vec<Range>) -> Option<Ranges>
+    requires { length ranges.items < 2 ^ 32 }
     ensures found { option_map (λ set. map span_of set.ranges) result ≡ if_canonical family (map span_of ranges.items) }
     ensures family { IfSome result (λ set. set.family ≡ family) }
 {
@@ -163,6 +164,9 @@ pub fn blocks(alloc: Global, family: Family, part: Part<'_>) -> Result<Ranges, S
     ensures family { IfOk result (λ set. set.family ≡ family) }
 {
     let ranges = many(alloc, &BlockReader { family }, part)?;
+    if ranges.len() > MOST_RANGES {
+        return Err(ShapeFault::Memory);
+    }
     match set_of(family, ranges) {
         Some(set) => Ok(set),
         None => Err(part.fault()),

@@ -1,24 +1,12 @@
 -- One canonical list has the numbers of a set.
 use Rattle.std.proofs.Common.{◌≡◌, ℕ, ◌+◌, ◌≤◌, List, [], ◌∷◌, refl, ap, sym, subst, ◌∙◌, arith}
-use Rattle.std.specs.Coded.{le_prop}
+pub use Rattle.res_sets.specs.Laws.{same_range}
 use Rattle.std.proofs.lemmas.Bool.Decides.{nat_tests}
 use Rattle.res_sets.specs.declared.numbers.Family.{Family}
 use Rattle.res_sets.specs.declared.numbers.Range.{Range}
 use Rattle.res_sets.specs.Numbers.{any_spans, RisesFrom}
 use Rattle.res_sets.specs.Sets.{RangeSet, holds, IsCanonical}
 use Rattle.res_sets.proofs.Lists.{any_spans-below, low_le, spans_first}
-
-abbrev range_of : (first last : ℕ) → first ≤ last → Range
-range_of first last ordered = record { first = first; last = last; ordered = ordered }
-
--- a range is what its ends are
-made_alike : (f l : ℕ) (h : f ≤ l) (g m : ℕ) → f ≡ g → l ≡ m → (k : g ≤ m) → range_of f l h ≡ range_of g m k
-made_alike f l h g m first last =
-    subst (λ (x : ℕ). (k : x ≤ m) → range_of f l h ≡ range_of x m k) first
-    (subst (λ (y : ℕ). (k : f ≤ y) → range_of f l h ≡ range_of f y k) last (λ k. ap (range_of f l) (le_prop h k)))
-
-pub same_range : (r s : Range) → r.first ≡ s.first → r.last ≡ s.last → r ≡ s
-same_range r s first last = made_alike r.first r.last r.ordered s.first s.last first last s.ordered
 
 -- where the first list begins, the second has begun
 first_le : (low_b : ℕ) (r s : Range) (rs ss : List Range) → RisesFrom low_b (s ∷ ss) → ((n : ℕ) → any_spans (r ∷ rs) n ≡ any_spans (s ∷ ss) n) → s.first ≤ r.first

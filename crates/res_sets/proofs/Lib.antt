@@ -8,6 +8,8 @@ pub mod Once
 pub mod Parts
 pub mod Plain
 pub mod Prints
+pub mod TextOf
+pub mod Equal
 pub mod ReadBack
 pub mod Spelled
 pub mod Told

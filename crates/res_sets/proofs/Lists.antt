@@ -5,6 +5,7 @@ use Rattle.std.proofs.lemmas.Bool.Decides.{nat_tests}
 use Rattle.res_sets.specs.declared.numbers.Range.{Range}
 use Rattle.res_sets.specs.Numbers.{spans, any_spans, RisesFrom}
 use Rattle.res_sets.specs.Merging.{room_from, last_first}
+pub use Rattle.res_sets.specs.Laws.{any_spans-push, RisesFrom-push, RisesFrom-front}
 
 pub RisesFrom-weaker : (low lower : ℕ) (ranges : List Range) → lower ≤ low → RisesFrom low ranges → RisesFrom lower ranges
 RisesFrom-weaker low lower [] below rises = rises
@@ -21,14 +22,6 @@ any_spans-below low (r ∷ rs) n rises below =
 pub low_le : (low : ℕ) (ranges : List Range) (n : ℕ) → RisesFrom low ranges → any_spans ranges n ≡ true → low ≤ n
 low_le low ranges n rises has = grind (arith, any_spans-below low ranges n rises)
 
-pub any_spans-push : (xs : List Range) (x : Range) (n : ℕ) → any_spans (xs ++ x ∷ []) n ≡ (any_spans xs n || spans x n)
-any_spans-push [] x n = grind (arith, nat_tests)
-any_spans-push (r ∷ rs) x n = grind (arith, nat_tests, any_spans-push rs x n)
-
-pub RisesFrom-push : (low : ℕ) (xs : List Range) (x : Range) → RisesFrom low xs → room_from low xs ≤ x.first → RisesFrom low (xs ++ x ∷ [])
-RisesFrom-push low [] x rises room = (room, tt)
-RisesFrom-push low (r ∷ rs) x rises room = (rises.0, RisesFrom-push (r.last + 2) rs x rises.1 room)
-
 pub room_from-push : (low : ℕ) (xs : List Range) (x : Range) → room_from low (xs ++ x ∷ []) ≡ x.last + 2
 room_from-push low [] x = refl
 room_from-push low (r ∷ rs) x = room_from-push (r.last + 2) rs x
@@ -37,12 +30,6 @@ pub last_first-push : (xs : List Range) (x : Range) → last_first (xs ++ x ∷ 
 last_first-push [] x = refl
 last_first-push (r ∷ []) x = refl
 last_first-push (r ∷ s ∷ rs) x = last_first-push (s ∷ rs) x
-
--- what rises up to its last range
-pub RisesFrom-front : (low : ℕ) (xs : List Range) (x : Range) → RisesFrom low (xs ++ x ∷ []) → RisesFrom low xs × (room_from low xs ≤ x.first)
-RisesFrom-front low [] x rises = (tt, rises.0)
-RisesFrom-front low (r ∷ rs) x rises =
-    let rest = RisesFrom-front (r.last + 2) rs x rises.1 in ((rises.0, rest.0), rest.1)
 
 -- a last range that is put in the place of one that begins as it does
 pub RisesFrom-hull : (low : ℕ) (xs : List Range) (last both : Range) → RisesFrom low (xs ++ last ∷ []) → both.first ≡ last.first → RisesFrom low (xs ++ both ∷ [])

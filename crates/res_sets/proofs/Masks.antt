@@ -4,6 +4,7 @@ use Rattle.std.proofs.Math.Nat.{mul-le-mul_right, div-add-mod}
 use Rattle.std.proofs.lemmas.Bool.{cases_lt}
 use Rattle.std.proofs.lemmas.Nat.{and_mask, pow-add, pow_below, shr_below, leading_length}
 use lib.Count.{count_leading_zeros}
+pub use Rattle.res_sets.specs.Laws.{room_above}
 use Rattle.res_sets.specs.declared.numbers.Range.{Range}
 use Rattle.res_sets.specs.Prefixes.{IsPrefixRange}
 
@@ -11,16 +12,6 @@ pub masked : (n host k : ℕ) → host + 1 ≡ 2 ^ k → bit_and n host ≡ n % 
 masked n host k is =
     let same : host ≡ 2 ^ k - 1 = omega (arith, is) in
     ap (λ m. bit_and n m) same ∙ and_mask n k
-
--- a multiple of a smaller power of two leaves room for that power
-pub room_above : (n k b : ℕ) → k ≤ b → n < 2 ^ b → n % 2 ^ k ≡ 0 → n + 2 ^ k ≤ 2 ^ b
-room_above n k b le below multiple =
-    let b_is : (b - k) + k ≡ b = omega arith in
-    let split : 2 ^ b ≡ 2 ^ (b - k) * 2 ^ k = sym (ap (λ (m : ℕ). 2 ^ m) b_is) ∙ pow-add 2 (b - k) k in
-    let quotient : n / 2 ^ k < 2 ^ (b - k) = shr_below n (b - k) k (subst (λ (m : ℕ). n < 2 ^ m) (sym b_is) below) in
-    let times : (n / 2 ^ k + 1) * 2 ^ k ≤ 2 ^ (b - k) * 2 ^ k = mul-le-mul_right (2 ^ k) (omega arith) in
-    let whole = div-add-mod n (2 ^ k) in
-    omega (arith, times, whole, split, multiple)
 
 pub IsPrefixRange-from : (bits len address host : ℕ) (range : Range) → range.first ≡ address → range.last ≡ address + host → len ≤ bits
     → host + 1 ≡ 2 ^ (bits - len) → bit_and address host ≡ 0 → IsPrefixRange bits len range

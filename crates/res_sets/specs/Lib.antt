@@ -4,5 +4,8 @@ pub mod Merging
 pub mod Triples
 pub mod Blocks
 pub mod Prefixes
+pub mod PrefixLaws
 pub mod Texts
 pub mod Printed
+pub mod Pushed
+pub mod Laws

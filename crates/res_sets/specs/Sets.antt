@@ -1,8 +1,9 @@
 -- Sets of numbers of one family, said of their members.
-use Rattle.std.specs.Prelude.{◌≡◌, ℕ, Bool, ◌&&◌, ◌||◌, not, nat_lt, IsTrue, List}
+use Rattle.std.specs.Prelude.{◌≡◌, ℕ, ◌<◌, ◌≤◌, Bool, ◌&&◌, ◌||◌, not, nat_lt, IsTrue, List, [], ◌∷◌, ◌++◌}
 use Rattle.res_sets.specs.declared.numbers.Family.{Family}
 use Rattle.res_sets.specs.declared.numbers.Range.{Range}
 use Rattle.res_sets.specs.Numbers.{family_end, any_spans, AreCanonical}
+use Rattle.res_sets.specs.Merging.{room_from}
 
 -- What contracts see of a `Ranges`.
 pub record RangeSet : Type 0 where
@@ -15,6 +16,20 @@ holds set n = any_spans set.ranges n
 
 abbrev pub IsCanonical : RangeSet → Type 0
 IsCanonical set = AreCanonical set.family set.ranges
+
+-- The set of a family that has no number.
+abbrev pub no_numbers : Family → RangeSet
+no_numbers family = record { family = family; ranges = [] }
+
+-- The range goes behind those of the set: it is of the family, and at least one number is left out
+-- between the last range, if any, and this one.
+pub record GoesBehind (set : RangeSet) (range : Range) : Type 0 where
+  pub apart : room_from 0 set.ranges ≤ range.first
+  pub within : range.last < family_end set.family
+
+-- The set with one more range behind its own.
+abbrev pub with_range : RangeSet → Range → RangeSet
+with_range set range = record set { ranges = set.ranges ++ range ∷ [] }
 
 -- No number is a member.
 abbrev pub IsEmpty : RangeSet → Type 0
@@ -47,3 +62,9 @@ pub record IsMinus (a b rest : RangeSet) : Type 0 where
 -- Each number of a is in b.
 abbrev pub IsInside : RangeSet → RangeSet → Type 0
 IsInside a b = (n : ℕ) → IsTrue (holds a n) → IsTrue (holds b n)
+
+-- All has the numbers that one of the ranges has.
+pub record IsJoinOf (numbers : Family) (ranges : List Range) (all : RangeSet) : Type 0 where
+  pub family : all.family ≡ numbers
+  pub members : (n : ℕ) → holds all n ≡ any_spans ranges n
+  pub canonical : IsCanonical all

@@ -18,7 +18,18 @@ pub struct Resources {
 
 impl Resources {
     ghost use Rattle.std.specs.Prelude.{◌↔◌, IsTrue, IfOk};
-    ghost use Rattle.res_sets.specs.Triples.{AreWhole, AreMeets, AreInside, AreEmpty};
+    ghost use Rattle.res_sets.specs.Triples.{set_of, has, HaveNone, AreWhole, AreMeets, AreInside, AreEmpty};
+
+    /// No number of any family. Takes no memory.
+    pub fn empty(alloc: Global) -> Resources
+        ensures { HaveNone result }
+    {
+        Resources {
+            asn: Ranges::empty(alloc, Family::Asn),
+            v4: Ranges::empty(alloc, Family::V4),
+            v6: Ranges::empty(alloc, Family::V6),
+        }
+    }
 
     /// Each number of each family.
     pub fn whole(alloc: Global) -> Result<Resources, AllocError>
@@ -29,6 +40,31 @@ impl Resources {
             v4: Ranges::whole(alloc, Family::V4)?,
             v6: Ranges::whole(alloc, Family::V6)?,
         })
+    }
+
+    /// The set of the family.
+    pub fn set(&self, family: Family) -> &Ranges
+        ensures { result.now ≡ set_of self.now family }
+    {
+        match family {
+            Family::Asn => &self.asn,
+            Family::V4 => &self.v4,
+            Family::V6 => &self.v6,
+        }
+    }
+
+    /// Whether the number of the family is in. Logarithmic in the number of ranges.
+    pub fn holds(&self, family: Family, n: u128) -> bool
+        ensures { result ≡ has self.now family n }
+    {
+        self.set(family).holds(n)
+    }
+
+    /// Whether the two have the same numbers in each family.
+    pub fn equals(&self, other: &Resources) -> bool
+        ensures { IsTrue result ↔ (self.now ≡ other.now) }
+    {
+        self.asn.equals(&other.asn) && self.v4.equals(&other.v4) && self.v6.equals(&other.v6)
     }
 
     /// Family by family, the numbers that are in both.

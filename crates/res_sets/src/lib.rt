@@ -11,6 +11,7 @@ mod merging;
 mod numbers;
 mod prefixes;
 mod printing;
+mod pushing;
 mod sets;
 mod texts;
 
@@ -18,5 +19,6 @@ pub use holdings::Resources;
 pub use numbers::{Family, Range};
 pub use prefixes::prefix_length;
 pub use printing::reads_own_texts;
-pub use sets::{Ranges, same_members_same_set};
+pub use pushing::PushFault;
+pub use sets::{MOST_RANGES, Ranges, same_members_same_set};
 pub use texts::{TextFault, reads_texts_once};

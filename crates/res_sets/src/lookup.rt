@@ -3,7 +3,7 @@
 ghost use Rattle.std.specs.Prelude.{◌≡◌, ℕ, ◌+◌, ◌<◌, ◌≤◌, ◌↔◌, nat_lt, length, false, is_some, IsTrue, IfOk, IfSome};
 ghost use Rattle.std.specs.List.{AllWithin};
 ghost use Rattle.res_sets.specs.Numbers.{family_end, spans, any_spans, RisesFrom, AreCanonical};
-ghost use Rattle.res_sets.specs.Merging.{low_after};
+ghost use Rattle.res_sets.specs.Merging.{low_after, room_from};
 
 use crate::numbers::{Family, Range};
 use std::alloc::{AllocError, Global};
@@ -12,6 +12,7 @@ use std::alloc::{AllocError, Global};
 pub fn all(alloc: Global, family: Family) -> Result<Vec<Range>, AllocError>
     ensures members { IfOk result (λ all. (n : ℕ) → any_spans all.items n ≡ nat_lt n (family_end family)) }
     ensures canonical { IfOk result (λ all. AreCanonical family all.items) }
+    ensures one { IfOk result (λ all. length all.items ≡ 1) }
 {
     let mut all = Vec::new(alloc);
     all.push(Range {
@@ -43,6 +44,30 @@ pub fn is_canonical(family: Family, ranges: &[Range]) -> bool
         before = Some(*range);
     }
     true
+}
+
+// Whether the range is of the family, and leaves out a number behind the last of the ranges.
+pub fn goes_behind(family: Family, ranges: &[Range], range: &Range) -> bool
+    ensures { IsTrue result
+        ↔ ((room_from 0 ranges.now ≤ range.now.first) × (range.now.last < family_end family)) }
+{
+    range.last <= family.last() && leaves_gap(last_of(ranges), range)
+}
+
+fn last_of(ranges: &[Range]) -> Option<Range>
+    ensures { low_after result ≡ room_from 0 ranges.now }
+{
+    match ranges.split_last() {
+        Some((last, _)) => Some(*last),
+        None => None,
+    }
+}
+
+// Whether the two lists are one.
+pub fn are_same(a: &[Range], b: &[Range]) -> bool
+    ensures { IsTrue result ↔ (a.now ≡ b.now) }
+{
+    a == b
 }
 
 // The place of the first range that ends at the number or later, by bisection.

@@ -1,9 +1,9 @@
 //! Texts of sets, printed.
 
-ghost use Rattle.std.specs.Prelude.{◌≡◌, ℕ, ◌++◌, ◌^◌, ◌<◌, ◌≤◌, List, codes, if◌then◌else◌, IsTrue, IfOk, OnOk};
+ghost use Rattle.std.specs.Prelude.{◌≡◌, ℕ, ◌++◌, ◌^◌, ◌<◌, ◌≤◌, codes, if◌then◌else◌, IsTrue, IfOk, OnOk};
 ghost use Rattle.std.specs.String.{string_bytes};
 ghost use Rattle.res_sets.specs.Numbers.{family_end, any_spans};
-ghost use Rattle.res_sets.specs.Printed.{number_text, as_text, PrintsAddresses, PrintsRange, Prints, Appends};
+ghost use Rattle.res_sets.specs.Printed.{number_text, as_text, PrintsAddresses, PrintsRange, ranges_text, Appends};
 ghost use Rattle.res_sets.specs.Sets.{RangeSet, IsCanonical};
 ghost use Rattle.res_sets.specs.Texts.{Spells};
 
@@ -89,7 +89,7 @@ fn push_next(
 
 pub fn print_ranges(alloc: Global, family: Family, ranges: &[Range]) -> Result<String, AllocError>
     requires { (n : ℕ) → IsTrue (any_spans ranges.now n) → n < family_end family }
-    ensures { IfOk result (λ text. Prints family ranges.now (string_bytes text)) }
+    ensures { IfOk result (λ text. string_bytes text ≡ ranges_text family ranges.now) }
 {
     let mut out = String::new(alloc);
     for (place, range) in ranges.iter().enumerate() {
@@ -100,8 +100,8 @@ pub fn print_ranges(alloc: Global, family: Family, ranges: &[Range]) -> Result<S
 
 /// A law, with nothing to run: what is printed of a set spells it, so it is read back to it.
 pub fn reads_own_texts()
-    ensures { (set : RangeSet) (text : List ℕ) → IsCanonical set
-        → Prints set.family set.ranges text → Spells set.family text set }
+    ensures { (set : RangeSet) → IsCanonical set
+        → Spells set.family (ranges_text set.family set.ranges) set }
 {
     reads_own_ipv6_text();
 }

@@ -1,7 +1,7 @@
 //! Times of the operations, printed as nanoseconds of the best of several turns.
 
 use anyhow::{Result, bail};
-use res_sets::{Family, Range, Ranges};
+use res_sets::{Family, MOST_RANGES, Range, Ranges};
 use std::alloc::{AllocError, Global};
 use std::io;
 use std::time::{Duration, Instant};
@@ -19,6 +19,9 @@ fn ladder(alloc: Global, offset: u32) -> Result<Option<Ranges>, AllocError> {
             first,
             last: first + 9,
         })?;
+    }
+    if ranges.len() > MOST_RANGES {
+        return Err(AllocError);
     }
     Ok(Ranges::from_sorted(Family::V4, ranges))
 }

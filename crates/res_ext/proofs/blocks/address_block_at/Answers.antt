@@ -1,7 +1,7 @@
 use Rattle.std.proofs.Common.{◌≡◌, ◌∙◌, ◌++◌, ◌<◌, ◌≤◌, ◌^◌, List, ℕ, sym, ap, arith, inl, inr}
 use Rattle.der.specs.Spelling.{spelled}
 use Rattle.res_sets.specs.declared.numbers.Range.{Range}
-use Rattle.res_sets.proofs.Canonical.{same_range}
+use Rattle.res_sets.specs.Laws.{same_range}
 use Rattle.res_ext.specs.Blocks.{ends}
 use Rattle.res_ext.proofs.Ranges.{no_range, same_some, one_length}
 use Rattle.res_ext.proofs.AsBlocks.{short_content}

@@ -1,6 +1,6 @@
 use Rattle.std.proofs.Common.{◌≡◌, ◌∙◌, ◌++◌, ◌<◌, ◌≤◌, ◌^◌, List, ℕ, sym, ap, arith, inl, inr}
 use Rattle.der.specs.Spelling.{spelled}
-use Rattle.res_sets.proofs.Canonical.{same_range}
+use Rattle.res_sets.specs.Laws.{same_range}
 use Rattle.res_ext.specs.Blocks.{as_ends}
 use Rattle.res_ext.proofs.Ranges.{no_range, same_some}
 use Rattle.res_ext.proofs.AsBlocks.{as_block-cases, as_block-one, as_block-more, number_no_sequence, short_content}

@@ -2,7 +2,7 @@ use Rattle.std.proofs.Common.{◌≡◌, ◌∙◌, ◌++◌, ◌<◌, ◌≤◌
 use Rattle.std.proofs.lemmas.List.{append-nil}
 use Rattle.der.specs.Spelling.{unsigned_spelling}
 use Rattle.res_sets.specs.declared.numbers.Range.{Range}
-use Rattle.res_sets.proofs.Canonical.{same_range}
+use Rattle.res_sets.specs.Laws.{same_range}
 use Rattle.res_ext.specs.Blocks.{as_ends}
 use Rattle.res_ext.proofs.blocks.as_ends_of.Goals as goal
 

@@ -2,7 +2,7 @@ use Rattle.std.proofs.Common.{◌≡◌, ◌∙◌, ◌≤◌, ℕ, Option, Some
 use Rattle.std.specs.Prelude.{MatchOption, is_some}
 use Rattle.res_sets.specs.declared.numbers.Range.{Range}
 use Rattle.res_sets.specs.Prefixes.{IsPrefixRange}
-use Rattle.res_sets.proofs.Canonical.{same_range}
+use Rattle.res_sets.specs.Laws.{same_range}
 use Rattle.res_ext.specs.Prefixes.{prefix_of}
 use Rattle.res_ext.proofs.Ranges.{prefix_of-none, none-prefix_of}
 use Rattle.res_ext.proofs.blocks.shortest_ends.Goals as goal
