@@ -8,7 +8,7 @@ use Rattle.gate_journal.specs.BodyLaws.{sizes-payloads, taken-push, length-one, 
 use Rattle.disk_api.specs.Runs.{LeavesOnly}
 use Rattle.authority_book.specs.declared.commands.Command.{Command}
 use Rattle.authority_book.specs.Settings.{Settings}
-use Rattle.authority_book.specs.Fold.{after, after_all, fold_of, empty_settings, IsFoldOf, Taken}
+use Rattle.authority_book.specs.Fold.{after, after_all, fold_of, empty_settings, Taken}
 use Rattle.cmd_codec.specs.Spelling.{spelling, IsRecordable}
 use Rattle.gate_journal.specs.View.{View, StandsForOrDoubt, stake_of, IsSameButRoom}
 use Rattle.gate_journal.specs.View.{IsSafe as IsSafeJournal}
@@ -119,8 +119,8 @@ fewer_than_bytes sizes body size = omega (arith, length-payloads sizes body size
 
 -- and its commands
 pub has_push : {D : Type 0} (number : ℕ) (settings next : Settings) (records more : List (List ℕ)) (payload : List ℕ) (command : Command) (old new : View D) → IsRecordable command → payload ≡ spelling command →
-    more ≡ records ++ payload ∷ [] → ((desk : ℕ) (commands : List Command) → IsFoldOf settings desk commands → IsFoldOf next desk (commands ++ command ∷ [])) →
-    ((desk : ℕ) (commands : List Command) → IsFoldOf settings desk commands → Taken desk commands → Taken desk (commands ++ command ∷ [])) →
+    more ≡ records ++ payload ∷ [] → ((desk : ℕ) (commands : List Command) → settings ≡ fold_of desk commands → next ≡ fold_of desk (commands ++ command ∷ [])) →
+    ((desk : ℕ) (commands : List Command) → settings ≡ fold_of desk commands → Taken desk commands → Taken desk (commands ++ command ∷ [])) →
     (commands : List Command) → HasCommands (desk_of number settings records old) commands → HasCommands (desk_of number next more new) (commands ++ command ∷ [])
 has_push number settings next records more payload command old new recordable spelled pushed folds takes commands has = record {
   recorded = subst (λ (r : List (List ℕ)). Records number r (commands ++ command ∷ [])) (sym pushed) (records_push number settings records payload commands command recordable spelled (takes number) has.recorded has.fold);
@@ -169,5 +169,5 @@ pub counts_records : (number : ℕ) (settings : Settings) (records : List (List 
 counts_records number settings records loaded small =
     let spelled : length records ≡ length loaded.commands = ap length loaded.recorded.spelled ∙ length-map loaded.commands spelling in
     let all = count_of (empty_settings number) loaded.commands (omega arith) in
-    let same : settings.count ≡ (fold_of number loaded.commands).count = loaded.fold.same_count in
+    let same : settings.count ≡ (fold_of number loaded.commands).count = ap (λ (s : Settings). s.count) loaded.fold in
     omega (arith, all, same, spelled)

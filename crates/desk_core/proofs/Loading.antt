@@ -6,7 +6,7 @@ use Rattle.std.proofs.lemmas.List.{take_more}
 use Rattle.std.proofs.lemmas.Option.{slice_get_within, get_or_from_slice_get}
 use Rattle.authority_book.specs.declared.commands.Command.{Command}
 use Rattle.authority_book.specs.Settings.{Settings}
-use Rattle.authority_book.specs.Fold.{IsFoldOf}
+use Rattle.authority_book.specs.Fold.{fold_of}
 use Rattle.gate_journal.specs.Format.{spelled, payloads}
 use Rattle.gate_journal.specs.BodyLaws.{payloads-spelled}
 use Rattle.desk_core.specs.Commands.{RecordsNoNext, IsFirstBad}
@@ -14,7 +14,7 @@ use Rattle.desk_core.specs.Kept.{IsLoaded}
 
 -- a record that is no command's is the first such, after those read
 pub first_bad : (number : ℕ) (settings : Settings) (all : List (List ℕ)) (payload : List ℕ) (index : ℕ) → IsLoaded number settings (take index all) → slice_get all index ≡ Some payload →
-    ((desk : ℕ) (commands : List Command) → IsFoldOf settings desk commands → RecordsNoNext desk commands payload) → IsFirstBad number all index
+    ((desk : ℕ) (commands : List Command) → settings ≡ fold_of desk commands → RecordsNoNext desk commands payload) → IsFirstBad number all index
 first_bad number settings all payload index loaded there bad = record {
   before = loaded.commands;
   payload = payload;

@@ -1,5 +1,5 @@
 -- Records of commands, and lists of them.
-use Rattle.std.proofs.Common.{◌≡◌, ℕ, ◌+◌, ◌*◌, ◌++◌, List, [], ◌∷◌, Result, Ok, true, false, length, map, refl, sym, ap, ◌∙◌, arith, length-append}
+use Rattle.std.proofs.Common.{◌≡◌, ℕ, ◌+◌, ◌*◌, ◌++◌, List, [], ◌∷◌, None, Result, Ok, true, false, length, map, refl, sym, ap, ◌∙◌, arith, length-append}
 use Rattle.std.specs.Prelude.{is_err}
 use Rattle.std.specs.List.{All, AllByRecursion, flat_map}
 use Rattle.std.proofs.lemmas.List.{map-append}
@@ -10,7 +10,7 @@ use Rattle.authority_book.specs.declared.commands.Command.TheVariants.{UpdateRoa
 use Rattle.authority_book.specs.declared.refusals.Refusal.{Refusal}
 use Rattle.authority_book.specs.Settings.{Settings}
 use Rattle.authority_book.specs.Verdict.{refused_or_ok, verdict_of, IsAccepted}
-use Rattle.authority_book.specs.Fold.{IsFoldOf, Taken}
+use Rattle.authority_book.specs.Fold.{fold_of, Taken}
 use Rattle.origins.specs.declared.Origin.{Origin}
 use Rattle.cmd_codec.specs.Spelling.{spelling, list_spelling, origin_spelling, counted_spelling, IsRecordable}
 use Rattle.desk_core.specs.Commands.{Records}
@@ -38,37 +38,16 @@ pub determined : SpelledApart → (number : ℕ) (records : List (List ℕ)) (on
 determined apart number records one other p q =
     determined_from apart one other (recursion_from_All IsRecordable one p.recordable) (recursion_from_All IsRecordable other q.recordable) (sym p.spelled ∙ q.spelled)
 
--- How long a command's record is.
-abbrev pub origins_of : Command → ℕ
-origins_of (UpdateRoas added removed) = length added + length removed
-
-length_origin : (origin : Origin) → length (origin_spelling origin) ≡ 23
-unfolding origin_spelling
-length_origin origin = refl
-
-length_origins : (origins : List Origin) → length (flat_map origin_spelling origins) ≡ 23 * length origins
-length_origins [] = refl
-length_origins (origin ∷ origins) =
-    let one : length (flat_map origin_spelling (origin ∷ origins)) ≡ length (origin_spelling origin ++ flat_map origin_spelling origins) = ap length (flat_map-cons origin_spelling origin origins) in
-    omega (arith, one, length-append (origin_spelling origin) (flat_map origin_spelling origins), length_origin origin, length_origins origins)
-
-length_counted : (count : ℕ) (origins : List Origin) → length (counted_spelling count origins) ≡ 4 + 23 * length origins
-unfolding counted_spelling
-length_counted count origins = omega (arith, length_origins origins)
-
-pub length_spelling : (command : Command) → length (spelling command) ≡ 9 + 23 * origins_of command
-length_spelling (UpdateRoas added removed) = omega (arith, length_counted (length added) added, length_counted (length removed) removed, length-append (list_spelling added) (list_spelling removed))
-
 -- What a refused command's verdict rules out.
-pub refused : (settings fold : Settings) (command : Command) (signers : ℕ) (r : Result (Unit {0}) Refusal) → r ≡ verdict_of settings command signers →
-    verdict_of settings command signers ≡ verdict_of fold command signers → is_err r ≡ true → IsAccepted fold command → ⊥
-refused settings fold command signers r is same err accepted =
-    let ok : r ≡ Ok tt = is ∙ (same ∙ ap refused_or_ok accepted) in
+pub refused : (settings fold : Settings) (command : Command) (r : Result (Unit {0}) Refusal) → r ≡ verdict_of settings command None →
+    settings ≡ fold → is_err r ≡ true → IsAccepted fold command → ⊥
+refused settings fold command r is same err accepted =
+    let ok : r ≡ Ok tt = is ∙ (ap (λ (s : Settings). verdict_of s command None) same ∙ ap refused_or_ok accepted) in
     let no : true ≡ false = sym err ∙ ap is_err ok in cc
 
 pub records_push : (number : ℕ) (settings : Settings) (records : List (List ℕ)) (payload : List ℕ) (commands : List Command) (command : Command) → IsRecordable command → payload ≡ spelling command →
-    ((commands : List Command) → IsFoldOf settings number commands → Taken number commands → Taken number (commands ++ command ∷ [])) →
-    Records number records commands → IsFoldOf settings number commands → Records number (records ++ payload ∷ []) (commands ++ command ∷ [])
+    ((commands : List Command) → settings ≡ fold_of number commands → Taken number commands → Taken number (commands ++ command ∷ [])) →
+    Records number records commands → settings ≡ fold_of number commands → Records number (records ++ payload ∷ []) (commands ++ command ∷ [])
 records_push number settings records payload commands command recordable spelled takes recorded fold = record {
   spelled = (λ i. recorded.spelled i ++ spelled i ∷ []) ∙ sym (map-append spelling commands (command ∷ []));
   recordable = All-append IsRecordable commands (command ∷ []) recorded.recordable (All-one IsRecordable command recordable);
@@ -77,8 +56,8 @@ records_push number settings records payload commands command recordable spelled
 
 -- One record more.
 pub loaded_push : (number : ℕ) (old new : Settings) (records : List (List ℕ)) (payload : List ℕ) (command : Command) → IsRecordable command → payload ≡ spelling command →
-    ((desk : ℕ) (commands : List Command) → IsFoldOf old desk commands → IsFoldOf new desk (commands ++ command ∷ [])) →
-    ((desk : ℕ) (commands : List Command) → IsFoldOf old desk commands → Taken desk commands → Taken desk (commands ++ command ∷ [])) →
+    ((desk : ℕ) (commands : List Command) → old ≡ fold_of desk commands → new ≡ fold_of desk (commands ++ command ∷ [])) →
+    ((desk : ℕ) (commands : List Command) → old ≡ fold_of desk commands → Taken desk commands → Taken desk (commands ++ command ∷ [])) →
     IsLoaded number old records → IsLoaded number new (records ++ payload ∷ [])
 loaded_push number old new records payload command recordable spelled folds takes loaded = record {
   commands = loaded.commands ++ command ∷ [];

@@ -25,7 +25,7 @@ needed_for command = length (spelling command) + 9
 -- the journal is open, and the verdict on the command is Ok
 pub record MayCome {D : Type 0} (desk : View D) (command : Command) (signers : ℕ) : Type 0 where
   pub is_open : desk.shut ≡ None
-  pub verdict : verdict_of desk.settings command signers ≡ Ok tt
+  pub verdict : verdict_of desk.settings command (Some signers) ≡ Ok tt
 
 -- and its record fits
 pub record HasPlace {D : Type 0} (desk : View D) (command : Command) (signers : ℕ) : Type 0 where
@@ -34,7 +34,7 @@ pub record HasPlace {D : Type 0} (desk : View D) (command : Command) (signers : 
 
 pub record IsVerdictAnswer {D : Type 0} (refusal : Refusal) (command : Command) (signers : ℕ) (old new : View D) : Type 0 where
   pub is_open : old.shut ≡ None
-  pub verdict : verdict_of old.settings command signers ≡ Err refusal
+  pub verdict : verdict_of old.settings command (Some signers) ≡ Err refusal
   pub same : new ≡ old
 
 pub record IsShutAnswer {D : Type 0} (rose : ℕ × (ℕ × ℕ)) (old new : View D) : Type 0 where

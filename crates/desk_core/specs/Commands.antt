@@ -3,7 +3,7 @@ use Rattle.std.specs.Prelude.{◌≡◌, ℕ, List, Some, map, take, slice_get}
 use Rattle.std.specs.List.{All}
 use Rattle.authority_book.specs.declared.commands.Command.{Command}
 use Rattle.authority_book.specs.Verdict.{IsAccepted}
-use Rattle.authority_book.specs.Fold.{fold_of, IsFoldOf, Taken}
+use Rattle.authority_book.specs.Fold.{fold_of, Taken}
 use Rattle.cmd_codec.specs.Spelling.{spelling, IsRecordable}
 use Rattle.desk_core.specs.View.{View}
 
@@ -16,7 +16,7 @@ pub record Records (number : ℕ) (records : List (List ℕ)) (commands : List C
 -- The desk has these commands: its journal records them, and its configuration is what they come to.
 pub record HasCommands {D : Type 0} (desk : View D) (commands : List Command) : Type 0 where
   pub recorded : Records desk.number desk.records commands
-  pub fold : IsFoldOf desk.settings desk.number commands
+  pub fold : desk.settings ≡ fold_of desk.number commands
 
 -- The payload records no command that is accepted after these.
 abbrev pub RecordsNoNext : ℕ → List Command → List ℕ → Type 0

@@ -3,7 +3,7 @@ use Rattle.std.specs.Prelude.{◌≡◌, ℕ, Option, List, length, IfSome}
 use Rattle.disk_api.specs.declared.disk.Disk.{Ghosts as DiskGhosts}
 use Rattle.authority_book.specs.declared.commands.Command.{Command}
 use Rattle.authority_book.specs.Settings.{Settings}
-use Rattle.authority_book.specs.Fold.{IsFoldOf}
+use Rattle.authority_book.specs.Fold.{fold_of}
 use Rattle.gate_journal.specs.Format.{taken_by, payloads}
 use Rattle.gate_journal.specs.View.{View, IsSafe}
 use Rattle.desk_core.specs.View.{journal_limit}
@@ -13,7 +13,7 @@ use Rattle.desk_core.specs.Commands.{Records}
 pub record IsLoaded (number : ℕ) (settings : Settings) (records : List (List ℕ)) : Type 0 where
   pub commands : List Command
   pub recorded : Records number records commands
-  pub fold : IsFoldOf settings number commands
+  pub fold : settings ≡ fold_of number commands
 
 -- The bytes have the payloads of the journal's records, where its disk tells these, and as many of the same
 -- sizes in any case. They record the commands of the configuration.

@@ -1,7 +1,7 @@
 // What a journal's records come to, read one after another.
 ghost use Rattle.std.specs.Prelude.{◌≡◌, ◌≤◌, ◌++◌, [], ◌∷◌, ℕ, List, Option, length, true, false, IfOk, IfErr, OnOk, IfSome};
 ghost use Rattle.authority_book.specs.declared.commands.Command.{Command};
-ghost use Rattle.authority_book.specs.Fold.{IsFoldOf};
+ghost use Rattle.authority_book.specs.Fold.{fold_of};
 ghost use Rattle.fault_count.specs.Rise.{HasRisen};
 ghost use Rattle.gate_journal.specs.Format.{taken_by, payloads};
 ghost use Rattle.gate_journal.specs.View.{IsSafe, HasSizes};
@@ -11,15 +11,11 @@ ghost use Rattle.desk_core.specs.Commands.{RecordsNoNext, IsFirstBad};
 ghost use Rattle.desk_core.specs.Kept.{IsLoaded};
 
 use crate::DeskOpenFault;
-use authority_book::{Config, verdict, verdict_on_the_fold};
+use authority_book::{Config, verdict_unasked};
 use cmd_codec::RecordFault;
 use disk_api::Disk;
 use gate_journal::Journal;
 use std::alloc::{AllocError, Global};
-
-/// So many signers that no command asks for one past them: a record was accepted when its signer was
-/// there.
-const ANY_SIGNERS: u32 = u32::MAX;
 
 /// The records of a journal as they lie in its file, and what their commands come to.
 #[derive(Drop)]
@@ -40,15 +36,15 @@ fn take_in(alloc: Global, config: &mut Config, payload: &[u8]) -> Result<bool, A
     ensures loaded { IfOk result (λ is_taken. is_taken ≡ true → (number : ℕ) (records : List (List ℕ))
         → IsLoaded number config.old.settings records → IsLoaded number config.new.settings (records ++ payload.now ∷ [])) }
     ensures bad { IfOk result (λ is_taken. is_taken ≡ false → (number : ℕ) (commands : List Command)
-        → IsFoldOf config.old.settings number commands → RecordsNoNext number commands payload.now) }
+        → config.old.settings ≡ fold_of number commands → RecordsNoNext number commands payload.now) }
 {
     let command = match cmd_codec::read(alloc, payload) {
         Ok(command) => command,
         Err(RecordFault::BadRecord { .. }) => return Ok(false),
         Err(RecordFault::Memory) => return Err(AllocError),
     };
-    verdict_on_the_fold();
-    if verdict(config, &command, ANY_SIGNERS).is_err() {
+    // Its signer was there when the command was accepted.
+    if verdict_unasked(config, &command).is_err() {
         return Ok(false);
     }
     config.reserve(alloc, &command)?;

@@ -1,7 +1,8 @@
 // A command as a record of the journal.
 ghost use Rattle.std.specs.Prelude.{◌≡◌, ◌≤◌, ◌<◌, ◌+◌, length, vec_len, vec_capacity, IfOk, OnOk};
 ghost use Rattle.authority_book.specs.declared.commands.Command.{Command};
-ghost use Rattle.authority_book.specs.Fold.{added_by};
+ghost use Rattle.authority_book.specs.Settings.{Covers};
+ghost use Rattle.authority_book.specs.Fold.{needs};
 ghost use Rattle.cmd_codec.specs.Spelling.{spelling, IsShort, IsRecordable};
 ghost use Rattle.gate_journal.specs.View.{IsSameButRoom};
 ghost use Rattle.desk_core.specs.Answers.{needed_for, fault_of};
@@ -13,16 +14,11 @@ use disk_api::Disk;
 use gate_journal::{AppendFault, Journal};
 use std::alloc::{AllocError, Global};
 
-/// How many bytes the command takes in the journal: its record has 9 and 23 for each origin, and
-/// the journal puts 9 before it.
+/// How many bytes the command takes in the journal, which puts 9 before its record.
 pub(crate) fn needed(command: &Command) -> u64
     ensures { result ≡ needed_for command.now }
 {
-    match command {
-        Command::UpdateRoas { added, removed } => {
-            18 + 23 * (added.len() as u64 + removed.len() as u64)
-        }
-    }
+    cmd_codec::record_len(command) as u64 + 9
 }
 
 /// Takes the memory that keeping the command needs, and puts together its record's payload.
@@ -38,7 +34,7 @@ pub(crate) fn prepare<D: Disk>(
     ensures recordable { OnOk result (IsRecordable command.now) }
     ensures journal { IsSameButRoom journal.old journal.new }
     ensures config { config.new.settings ≡ config.old.settings }
-    ensures added { OnOk result (added_by command.now ≤ config.new.room) }
+    ensures room_of { OnOk result (Covers config.new.room (needs command.now)) }
     ensures body { body.new.items ≡ body.old.items }
 {
     let payload = cmd_codec::write(alloc, command)?;

@@ -2,7 +2,7 @@ use Rattle.std.proofs.Common.{◌≡◌, ◌++◌, ◌∙◌, ◌^◌, ◌-◌, 
 use Rattle.disk_api.specs.Runs.{LeavesOnly}
 use Rattle.authority_book.specs.declared.commands.Command.{Command}
 use Rattle.authority_book.specs.Settings.{Settings}
-use Rattle.authority_book.specs.Fold.{IsFoldOf}
+use Rattle.authority_book.specs.Fold.{fold_of}
 use Rattle.cmd_codec.specs.Spelling.{spelling}
 use Rattle.gate_journal.specs.Format as format
 use Rattle.std.specs.Option.{option_map}
@@ -29,8 +29,8 @@ invariant_of-self-in-Ok-append g c =
     let records = format.payloads inside.journal.sizes inside.body.items in
     let body : c.add_to_body.new.body.items ≡ inside.body.items ++ format.spelled (payload ∷ []) = c.add_to_body.ensures ∙ ap (λ (l : List ℕ). l ++ format.spelled (payload ∷ [])) c.prepare.ensures.body in
     let loaded = loaded_push inside.number inside.config.settings c.apply.new.self.settings records payload c.args.command c.in-Ok.ensures.recordable spelled
-    (λ desk commands is. c.apply.ensures.fold desk commands (subst (λ (s : Settings). IsFoldOf s desk commands) (sym was) is))
-    (λ desk commands is taken. c.apply.ensures.taken desk commands (subst (λ (s : Settings). IsFoldOf s desk commands) (sym was) is) taken) c.self.invariant.loaded in
+    (λ desk commands is. c.apply.ensures.fold desk commands (subst (λ (s : Settings). s ≡ fold_of desk commands) (sym was) is))
+    (λ desk commands is taken. c.apply.ensures.taken desk commands (subst (λ (s : Settings). s ≡ fold_of desk commands) (sym was) is) taken) c.self.invariant.loaded in
     kept_push g.D.Disk inside.number inside.config.settings c.apply.new.self.settings inside.body.items c.add_to_body.new.body.items payload
     inside.journal c.prepare.new.journal c.append.new.self c.self.invariant c.prepare.ensures.journal c.in-Ok-append.ensures.appended c.append.ensures.limit c.in-Ok-append.ensures.sizes c.append.ensures.safe body loaded
 
@@ -59,8 +59,8 @@ returns-in-Ok-append-clause-commands g c =
     subst (λ (old : View _). (commands : List Command) → HasCommands old commands → HasCommands (desk_of inside.number c.apply.new.self.settings more c.append.new.self) (commands ++ c.args.command ∷ []))
     c.self.view_is
     (has_push inside.number inside.config.settings c.apply.new.self.settings records more payload c.args.command inside.journal c.append.new.self c.in-Ok.ensures.recordable spelled pushed
-    (λ desk commands is. c.apply.ensures.fold desk commands (subst (λ (s : Settings). IsFoldOf s desk commands) (sym was) is))
-    (λ desk commands is taken. c.apply.ensures.taken desk commands (subst (λ (s : Settings). IsFoldOf s desk commands) (sym was) is) taken))
+    (λ desk commands is. c.apply.ensures.fold desk commands (subst (λ (s : Settings). s ≡ fold_of desk commands) (sym was) is))
+    (λ desk commands is taken. c.apply.ensures.taken desk commands (subst (λ (s : Settings). s ≡ fold_of desk commands) (sym was) is) taken))
 
 pub returns-in-Ok-append-clause-counted : goal.returns-in-Ok-append-clause-counted
 returns-in-Ok-append-clause-counted g c =
