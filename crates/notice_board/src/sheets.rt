@@ -1,8 +1,12 @@
 //! What stands on the board: what an edition says of each authority.
 
+ghost use Rattle.std.specs.Prelude.{◌≡◌, IfOk, option_map};
+ghost use Rattle.notice_board.specs.Rows.{row_of, IsRowOf, IsUnknown};
+
 use items::Items;
 use origins::Origin;
-use res_sets::Resources;
+use res_sets::{Family, Ranges, Resources};
+use std::alloc::{AllocError, Global};
 
 /// What an edition says of each authority that it publishes for.
 #[derive(Debug, Drop)]
@@ -38,4 +42,75 @@ pub enum ShownStage {
     Staged,
     /// The old key stands beside the current one until it ends.
     Retiring,
+}
+
+impl SheetRow {
+    /// The same row in memory of its own.
+    pub fn copy(&self, alloc: Global) -> Result<SheetRow, AllocError>
+        ensures { IfOk result (λ copy. copy ≡ self.now) }
+    {
+        Ok(SheetRow {
+            desk: self.desk,
+            certified: self.certified.copy(alloc)?,
+            stage: self.stage,
+            published: Items::new(self.published.as_slice().to_vec(alloc)?),
+        })
+    }
+
+    // The row of an authority that the edition doesn't know. It takes no memory.
+    fn unknown(alloc: Global, desk: u32) -> SheetRow
+        ensures { IsUnknown desk result }
+    {
+        SheetRow {
+            desk,
+            certified: Resources {
+                asn: Ranges::empty(alloc, Family::Asn),
+                v4: Ranges::empty(alloc, Family::V4),
+                v6: Ranges::empty(alloc, Family::V6),
+            },
+            stage: ShownStage::Absent,
+            published: Items::new(Vec::new(alloc)),
+        }
+    }
+}
+
+impl Sheet {
+    /// The same sheet in memory of its own.
+    pub fn copy(&self, alloc: Global) -> Result<Sheet, AllocError>
+        ensures { IfOk result (λ copy. copy ≡ self.now) }
+    {
+        Ok(Sheet {
+            serial: self.serial,
+            moment: self.moment,
+            rows: Items::new(copies(alloc, self.rows.as_slice())?),
+        })
+    }
+
+    /// The row of that desk. Of an authority that the edition doesn't know it is one without a key, which
+    /// holds and publishes nothing.
+    pub fn row(&self, alloc: Global, desk: u32) -> Result<SheetRow, AllocError>
+        ensures { IfOk result (IsRowOf self.now.rows desk) }
+    {
+        match row_of(self.rows.as_slice(), desk) {
+            Some(row) => row.copy(alloc),
+            None => Ok(SheetRow::unknown(alloc, desk)),
+        }
+    }
+}
+
+// The first row of that desk.
+fn row_of<'a>(rows: &'a [SheetRow], desk: u32) -> Option<&'a SheetRow>
+    ensures { option_map (λ row. row.now) result ≡ row_of rows.now desk }
+{
+    rows.iter().find(|row| row.desk == desk)
+}
+
+fn copies(alloc: Global, rows: &[SheetRow]) -> Result<Vec<SheetRow>, AllocError>
+    ensures { IfOk result (λ copies. copies.items ≡ rows.now) }
+{
+    let mut copies = Vec::with_capacity(alloc, rows.len())?;
+    for row in rows {
+        copies.push(row.copy(alloc)?)?;
+    }
+    Ok(copies)
 }

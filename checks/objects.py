@@ -1,0 +1,121 @@
+"""Reads the written objects of the cases with openssl, and compares what it tells with the cases."""
+
+import datetime
+import hashlib
+import re
+import subprocess
+import sys
+import tempfile
+
+CRATES = sys.argv[1]
+
+# The head of the extension subjectKeyIdentifier.
+SUBJECT_KEY = "0603551d0e04160414"
+
+
+def openssl(*words, given):
+    """What openssl prints for bytes of DER, or nothing where it refuses them."""
+    ran = subprocess.run(["openssl", *words, "-inform", "DER"], input=given, capture_output=True)
+    return ran.stdout.decode("latin-1") if ran.returncode == 0 else None
+
+
+def cases(crate):
+    """Name, call, arguments and answer of each case."""
+    with open(f"{CRATES}/{crate}/stdin") as given, open(f"{CRATES}/{crate}/stdout") as answers:
+        for case, answer in zip(given, answers, strict=True):
+            name, call, *arguments = case.rstrip("\n").split("\t")
+            told, answer = answer.rstrip("\n").split("\t", 1)
+            assert told == name, name
+            yield name, call, arguments, answer
+
+
+def printed(seconds):
+    """A time as openssl prints it."""
+    time = datetime.datetime(1970, 1, 1) + datetime.timedelta(seconds=int(seconds))
+    return f"{time:%b} {time.day:2} {time:%H:%M:%S} {time.year} GMT"
+
+
+def hex_of(text):
+    """The bytes of pairs of digits with colons between them."""
+    return "".join(re.findall(r"\b[0-9a-fA-F]{2}\b", text)).lower()
+
+
+def dump(text):
+    """The bytes of openssl's dump, in hexadecimal."""
+    lines = re.findall(r"^ *[0-9a-f]{4} - ((?:[0-9a-f]{2}[ -]?){1,15})", text, re.MULTILINE)
+    return "".join(re.findall(r"[0-9a-f]{2}", " ".join(lines)))
+
+
+def wants(what, told, wanted):
+    if told != wanted:
+        sys.exit(f"checks/objects: {what}: openssl tells {told}, and the case says {wanted}")
+
+
+def check_crl(name, fields, bytes_of_crl, signature):
+    issuer, this_update, next_update, number, entries = fields
+    text = openssl("crl", "-noout", "-text", given=bytes_of_crl)
+    if text is None:
+        sys.exit(f"checks/objects: {name}: openssl doesn't read it")
+    wants(name, re.search(r"Version (\S+)", text)[1], "2")
+    wants(name, re.findall(r"Signature Algorithm: (.*)", text), ["sha256WithRSAEncryption"] * 2)
+    wants(name, re.search(r"Issuer: CN ?= ?(.*)", text)[1], issuer)
+    wants(name, re.search(r"Last Update: (.*)", text)[1], printed(this_update))
+    wants(name, re.search(r"Next Update: (.*)", text)[1], printed(next_update))
+    wants(name, hex_of(re.search(r"Authority Key Identifier: *\n(.*)", text)[1]), issuer)
+    wants(name, re.search(r"CRL Number: *\n *(.*)", text)[1], number)
+    wants(name, len(re.findall("X509v3", text)), 2)
+    told = re.findall(r"Serial Number: ([0-9A-F]+)\n *Revocation Date: (.*)", text)
+    wanted = [entry.split(":") for entry in entries.split(",") if entry]
+    wants(name, [(int(s, 16), t) for s, t in told], [(int(s), printed(t)) for s, t in wanted])
+    wants(name, hex_of(text[text.index("Signature Value"):].split("\n", 1)[1]), signature)
+
+
+def check_object(name, fields, bytes_of_object):
+    """No where the certificate is none that openssl reads, and so the object neither."""
+    kind, content, certificate, signer, moment, signature = fields
+    text = openssl("cms", "-cmsout", "-print", "-noout", given=bytes_of_object)
+    if text is None:
+        wants(name, openssl("x509", "-noout", given=bytes.fromhex(certificate)), None)
+        return False
+    oid = {"Roa": "1.2.840.113549.1.9.16.1.24", "Manifest": "1.2.840.113549.1.9.16.1.26"}[kind]
+    head, signers = text.split("signerInfos:")
+    wants(name, re.search(r"eContentType: .*\((.*)\)", head)[1], oid)
+    attributes = signers[signers.index("signedAttrs:"):signers.index("signatureAlgorithm:")]
+    wants(name, re.findall(r"object: (\S+)", attributes), ["contentType", "signingTime", "messageDigest"])
+    wants(name, re.search(r"OBJECT:.*\((.*)\)", attributes)[1], oid)
+    wants(name, re.search(r"(?:UTCTIME|GENERALIZEDTIME):(.*)", attributes)[1], printed(moment))
+    hashed = hashlib.sha256(bytes.fromhex(content)).hexdigest()
+    wants(name, dump(attributes[attributes.index("OCTET STRING"):]), hashed)
+    wants(name, dump(signers[signers.index("subjectKeyIdentifier"):signers.index("digestAlgorithm")]), signer)
+    tail = signers[signers.index("signatureAlgorithm:"):]
+    wants(name, re.search(r"algorithm: (\S+)", tail)[1], "rsaEncryption")
+    wants(name, dump(tail), signature)
+    if SUBJECT_KEY + signer not in certificate:
+        return True
+    # The certificate's key is the signer: openssl hashes the content itself, and hands it and the
+    # certificate out. No signature is RSA.
+    with tempfile.NamedTemporaryFile() as chain:
+        told = subprocess.run(
+            ["openssl", "cms", "-verify", "-noverify", "-no_attr_verify", "-binary", "-inform", "DER",
+             "-certsout", chain.name],
+            input=bytes_of_object, capture_output=True)
+        wants(name, (told.returncode, told.stdout.hex()), (0, content))
+        der = subprocess.run(["openssl", "x509", "-in", chain.name, "-outform", "DER"], capture_output=True)
+        wants(name, der.stdout.hex(), certificate)
+    return True
+
+
+crls = objects = 0
+fields = {}
+for name, call, arguments, answer in cases("crl_cases"):
+    kind = name.rsplit(": ", 1)[0]
+    if call == "tbs":
+        fields[kind] = arguments
+    if call == "write":
+        check_crl(name, fields[kind], bytes.fromhex(answer), arguments[1])
+        crls += 1
+for name, call, arguments, answer in cases("cms_cases"):
+    if call == "write" and answer != "no spelling":
+        objects += check_object(name, arguments, bytes.fromhex(answer))
+assert crls > 20 and objects > 10, (crls, objects)
+print("checks/objects: ok")

@@ -1,0 +1,185 @@
+-- The format of a signed object (RFC 6488 section 2, RFC 9589): SignedData of RFC 5652 with one
+-- digest algorithm, one certificate, one signer and three attributes.
+use Rattle.std.specs.Prelude.{◌≡◌, ℕ, Option, Some, None, List, [], ◌∷◌, length, Result, Ok, ⊤, if◌then◌else◌}
+use Rattle.sha2.specs.Sha256.{sha256}
+use Rattle.moments.specs.Civil.{IsMoment}
+use Rattle.der.specs.Tags as tag
+use Rattle.der.specs.Spelling.{spelled}
+use Rattle.der_forms.specs.declared.fault.ShapeFault.{ShapeFault}
+use Rattle.der_forms.specs.Place.{Place, ◌>>=◌, open_at, sole_at}
+use Rattle.der_forms.specs.Form.{Whole, Front}
+use Rattle.der_forms.specs.Forms.{content, leaf, within, sole, both, after, only, preceded, followed, framed, mapped, read_front_by}
+use Rattle.der_forms.specs.Leaves.{fixed, exactly, constant, are_same}
+use Rattle.object_parts.specs.declared.identifiers.TheConstants.{SIGNED_DATA, CONTENT_TYPE, MESSAGE_DIGEST, SIGNING_TIME, ROA_CONTENT, MANIFEST_CONTENT}
+use Rattle.object_parts.specs.TimeFormats.{time}
+use Rattle.object_parts.specs.FrameFormats.{identifier, key_algorithm, digest_algorithm}
+use Rattle.cms_obj.specs.declared.values.ObjectKind.{ObjectKind}
+use Rattle.cms_obj.specs.declared.values.ObjectKind.TheVariants.{Manifest, Roa}
+use Rattle.cms_obj.specs.Values.{ObjectValue, IsElement}
+
+-- ---- the content and the certificate
+
+-- The identifier of a kind of content (RFC 9286 section 4.1, RFC 9582 section 3).
+abbrev pub kind_identifier : ObjectKind → List ℕ
+kind_identifier Manifest = MANIFEST_CONTENT
+kind_identifier Roa = ROA_CONTENT
+
+abbrev pub kind_in : List ℕ → Option ObjectKind
+kind_in bytes =
+    if are_same bytes MANIFEST_CONTENT then Some Manifest
+    else if are_same bytes ROA_CONTENT then Some Roa
+    else None
+
+abbrev pub kind : Front ObjectKind
+kind = within tag.object_identifier (leaf (λ k. ⊤) kind_identifier kind_in)
+
+-- The kind and the bytes of the content (RFC 5652 section 5.2).
+unfoldable pub encapsulated : Front (ObjectKind × List ℕ)
+encapsulated = within tag.sequence (both kind (sole tag.context_0 (sole tag.octet_string content)))
+
+-- One whole element of that tag, as its bytes.
+abbrev pub element_bytes : ℕ → Whole (List ℕ)
+element_bytes tag = record {
+  good = IsElement tag;
+  spelling = λ bytes. bytes;
+  read = λ p. sole_at tag p >>= (λ q. Ok p.left);
+}
+
+-- The one certificate (RFC 6488 section 2.1.4), whose own format isn't asked.
+unfoldable pub certificates : Front (List ℕ)
+certificates = within tag.context_0 (element_bytes tag.sequence)
+
+-- ---- the attributes that are signed (RFC 6488 section 2.1.6.4, RFC 9589 section 4)
+
+-- An attribute: its identifier, and a SET with the one value, whose place comes first.
+unfoldable pub attribute_at : List ℕ → Place → Result (Place × Place) ShapeFault
+attribute_at oid p =
+    open_at tag.sequence p >>= (λ q. (identifier oid).read q.0 >>= (λ a.
+    sole_at tag.set_of a.1 >>= (λ v. Ok (v, q.1))))
+
+abbrev pub attribute : {A : Type 0} → List ℕ → Whole A → Front A
+attribute oid f =
+    read_front_by (within tag.sequence (preceded (identifier oid) (sole tag.set_of f)))
+    (λ p. attribute_at oid p >>= (λ v. f.read v.0 >>= (λ x. Ok (x, v.1))))
+
+-- The kind of the content once more.
+abbrev pub content_type : ObjectKind → Front (Unit {0})
+content_type k = attribute CONTENT_TYPE (sole tag.object_identifier (exactly (kind_identifier k)))
+
+-- When it was signed.
+abbrev pub signing_time : Front ℕ
+signing_time = attribute SIGNING_TIME (only time)
+
+-- The hash of the content.
+abbrev pub message_digest : List ℕ → Front (Unit {0})
+message_digest hash = attribute MESSAGE_DIGEST (sole tag.octet_string (exactly hash))
+
+-- The attributes of a kind of content with that hash.
+unfoldable pub attributes : ObjectKind → List ℕ → Whole ℕ
+attributes k hash = preceded (content_type k) (followed signing_time (only (message_digest hash)))
+
+-- What is signed is the SHA-256 of these bytes: the attributes as a SET (RFC 5652 section 5.4).
+unfoldable pub signed_attributes : ObjectKind → List ℕ → ℕ → List ℕ
+signed_attributes k content moment =
+    spelled tag.set_of ((attributes k (sha256 content)).spelling moment)
+
+-- The bytes of an element under the tag of a SET.
+abbrev pub under_set : List ℕ → List ℕ
+under_set [] = []
+under_set (b ∷ bytes) = tag.set_of ∷ bytes
+
+-- ---- the signer (RFC 6488 section 2.1.6)
+
+-- Version 3.
+abbrev pub version : Front (Unit {0})
+version = constant tag.integer (3 ∷ [])
+
+-- The identifier of the key that signs.
+abbrev pub signer : Front (List ℕ)
+signer = within tag.primitive_0 (fixed 20)
+
+-- The algorithm and the 256 bytes of the signature.
+abbrev pub signature : Whole (List ℕ)
+signature = preceded key_algorithm (sole tag.octet_string (fixed 256))
+
+-- What is signed for: the time, the bytes of the attributes' element, and the signature.
+abbrev pub Signed : Type 0
+Signed = ℕ × List ℕ × List ℕ
+
+-- The attributes, and the signature, which is read first.
+unfoldable pub signed : ObjectKind → List ℕ → Whole Signed
+signed k hash = framed tag.context_0 (attributes k hash) signature
+
+-- The one signer of a content of that kind and hash.
+unfoldable pub signers : ObjectKind → List ℕ → Whole (List ℕ × Signed)
+signers k hash =
+    sole tag.set_of (sole tag.sequence
+    (preceded version (both signer (preceded digest_algorithm (signed k hash)))))
+
+-- ---- the whole
+
+-- The one digest algorithm (RFC 6488 section 2.1.2).
+abbrev pub digest_algorithms : Front (Unit {0})
+digest_algorithms = within tag.set_of (only digest_algorithm)
+
+-- The certificate, and what the signer says, behind a content.
+unfoldable pub behind_content : ObjectKind × List ℕ → Whole (List ℕ × (List ℕ × Signed))
+behind_content e = both certificates (signers e.0 (sha256 e.1))
+
+-- The kind and the content, the certificate, the signer's identifier, and what it signed.
+abbrev pub Parts : Type 0
+Parts = (ObjectKind × List ℕ) × (List ℕ × (List ℕ × Signed))
+
+unfoldable pub signed_data : Whole Parts
+signed_data =
+    sole tag.sequence
+    (preceded version (preceded digest_algorithms (after encapsulated behind_content)))
+
+abbrev pub of_parts : Parts → ObjectValue
+of_parts x = record {
+  kind = x.0.0;
+  content = x.0.1;
+  certificate = x.1.0;
+  signer = x.1.1.0;
+  moment = x.1.1.1.0;
+  digest = sha256 (under_set x.1.1.1.1);
+  signature = x.1.1.1.2;
+}
+
+-- What is signed for by the attributes of that kind, hash and time.
+abbrev pub signed_of : ObjectKind → List ℕ → ℕ → List ℕ → Signed
+signed_of k hash moment bytes =
+    (moment, spelled tag.context_0 ((attributes k hash).spelling moment), bytes)
+
+abbrev pub parts_of : ObjectValue → Parts
+parts_of v = (
+  (v.kind, v.content),
+  (v.certificate, (v.signer, signed_of v.kind (sha256 v.content) v.moment v.signature)),
+)
+
+-- A signed object that has a spelling: the time lies in the years 2000 to 9999, and the digest is
+-- that of the attributes.
+pub record IsSignedObject (v : ObjectValue) : Type 0 where
+  pub certificate : IsElement tag.sequence v.certificate
+  pub signer : length v.signer ≡ 20
+  pub moment : IsMoment v.moment
+  pub digest : v.digest ≡ sha256 (signed_attributes v.kind v.content v.moment)
+  pub signature : length v.signature ≡ 256
+
+-- A signed object.
+unfoldable pub signed_object : Whole ObjectValue
+signed_object =
+    mapped (sole tag.sequence (preceded (identifier SIGNED_DATA) (sole tag.context_0 signed_data)))
+    of_parts parts_of IsSignedObject
+
+-- The value of an object that is written.
+abbrev pub object_of : ObjectKind → List ℕ → List ℕ → List ℕ → ℕ → List ℕ → ObjectValue
+object_of k content certificate signer moment signature = record {
+  kind = k;
+  content = content;
+  certificate = certificate;
+  signer = signer;
+  moment = moment;
+  digest = sha256 (signed_attributes k content moment);
+  signature = signature;
+}
