@@ -44,12 +44,16 @@ none_round xs o i parts = list_any_none (is_same o) xs (λ k d h.
     ])
 
 -- What a binary search answers is whether the origin is in the list.
+pub found_sorted : (xs : List Origin) (o : Origin) (r : Result ℕ ℕ) → IsSorted origin_cmp xs → IsSearchInRange r (length xs) →
+    IsBinarySearchResult (λ x. origin_cmp x o) xs r → is_ok r ≡ is_there xs o
+found_sorted xs o (Ok i) up bound at =
+    sym (list_any_at (is_same o) xs i o bound (ap is_eq (tied_back origin_total (get_or xs i o) o (at o))))
+found_sorted xs o (Err i) up bound at =
+    sym (none_round xs o i (at (searchable_from_sorted origin_total (λ x. x) xs o up)))
+
 pub found : (xs : List Origin) (o : Origin) (r : Result ℕ ℕ) → IsAscending xs → IsSearchInRange r (length xs) →
     IsBinarySearchResult (λ x. origin_cmp x o) xs r → is_ok r ≡ is_there xs o
-found xs o (Ok i) up bound at =
-    sym (list_any_at (is_same o) xs i o bound (ap is_eq (tied_back origin_total (get_or xs i o) o (at o))))
-found xs o (Err i) up bound at =
-    sym (none_round xs o i (at (searchable_from_sorted origin_total (λ x. x) xs o (sorted_from_ascending xs up))))
+found xs o r up bound at = found_sorted xs o r (sorted_from_ascending xs up) bound at
 
 -- Where a binary search found nothing, the origins before its place are below, and the others above.
 pub parted : (xs : List Origin) (o : Origin) (i : ℕ) → IsAscending xs → IsBinarySearchResult (λ x. origin_cmp x o) xs (Err i) →

@@ -24,7 +24,7 @@ neighbours_differ (x ∷ y ∷ xs) (suc k) d distinct within =
     neighbours_differ (y ∷ xs) k d (IsDistinct-tail is_same x (y ∷ xs) distinct) (omega arith)
 
 -- Neighbours that differ and aren't the wrong way round ascend.
-less_from : (there back : Ordering) → back ≡ ordering_reverse there → is_eq there ≡ false → is_lt back ≡ false → there ≡ Less
+pub less_from : (there back : Ordering) → back ≡ ordering_reverse there → is_eq there ≡ false → is_lt back ≡ false → there ≡ Less
 less_from Less back reverse unlike up = refl
 less_from Equal back reverse unlike up = absurd (cc)
 less_from Greater back reverse unlike up = let e = ap is_lt reverse in absurd (cc)

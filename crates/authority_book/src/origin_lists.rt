@@ -2,7 +2,8 @@
 
 ghost use Rattle.std.specs.Prelude.{◌≡◌, ◌↔◌, ◌<◌, ◌^◌, [], length, IfOk, IfSome, List, IsTrue};
 ghost use Rattle.origins.specs.declared.Origin.{Origin};
-ghost use Rattle.authority_book.specs.Origins.{is_there, first_repeated};
+ghost use Rattle.std.specs.List.Sorted.{IsSorted};
+ghost use Rattle.authority_book.specs.Origins.{origin_cmp, is_there, first_repeated, IsAscending};
 ghost use Rattle.authority_book.specs.Index.{IsIndexed};
 
 use origins::Origin;
@@ -12,18 +13,18 @@ use std::marker::Model;
 
 /// Route origins in the order in which they were given, repetitions and all.
 ///
-/// Beside a list that isn't short stands what answers look-ups in logarithmic time, so that a
-/// verdict on a command takes no memory. A clause sees the list alone.
+/// Beside a list that isn't short stands the same list in order, so that look-ups take logarithmic
+/// time and a verdict on a command takes no memory. A clause sees the list alone.
 #[derive(Drop)]
 pub struct OriginList {
     items: Vec<Origin>,
     index: Option<Box<Index>>,
 }
 
-// The members of a list as a set, and the first that stands earlier in it.
+// The origins of a list in order, and the first that stands earlier in the list.
 #[derive(Drop)]
 struct Index {
-    members: BTreeSet<Origin>,
+    sorted: Vec<Origin>,
     repeated: Option<Origin>,
 }
 
@@ -92,7 +93,14 @@ impl OriginList {
     pub fn copy(&self, alloc: Global) -> Result<OriginList, AllocError>
         ensures { IfOk result (λ copy. copy ≡ self.now) }
     {
-        OriginList::new(alloc, self.items.as_slice().to_vec(alloc)?)
+        let index = match &self.index {
+            Some(index) => Some(Box::new(alloc, copy_index(alloc, index)?)?),
+            None => None,
+        };
+        Ok(OriginList {
+            items: self.items.as_slice().to_vec(alloc)?,
+            index,
+        })
     }
 
     /// Whether the list has the origin, found in logarithmic time.
@@ -100,7 +108,7 @@ impl OriginList {
         ensures { result ≡ is_there self.now origin.now }
     {
         match &self.index {
-            Some(index) => index.members.contains(origin),
+            Some(index) => index.sorted.binary_search(origin).is_ok(),
             None => is_in(self.items.as_slice(), origin),
         }
     }
@@ -133,15 +141,50 @@ fn repeated_of_few(items: &[Origin]) -> Option<Origin>
 fn index_many(alloc: Global, items: &[Origin]) -> Result<Index, AllocError>
     ensures { IfOk result (IsIndexed items.now) }
 {
+    let mut sorted = items.to_vec(alloc)?;
+    sorted.sort_unstable();
+    let repeated = if is_ascending(&sorted) {
+        None
+    } else {
+        repeated_of_many(alloc, items)?
+    };
+    Ok(Index { sorted, repeated })
+}
+
+fn copy_index(alloc: Global, index: &Index) -> Result<Index, AllocError>
+    ensures { IfOk result (λ copy. (copy.sorted.items ≡ index.now.sorted.items) × (copy.repeated ≡ index.now.repeated)) }
+{
+    Ok(Index {
+        sorted: index.sorted.as_slice().to_vec(alloc)?,
+        repeated: index.repeated,
+    })
+}
+
+// Whether each origin of a sorted list is above the one before it.
+fn is_ascending(sorted: &[Origin]) -> bool
+    requires { IsSorted origin_cmp sorted.now }
+    ensures { IsTrue result → IsAscending sorted.now }
+{
+    for place in 1..sorted.len() {
+        if sorted[place - 1].cmp(&sorted[place]).is_eq() {
+            return false;
+        }
+    }
+    true
+}
+
+// The first origin that stands earlier in the list.
+fn repeated_of_many(alloc: Global, items: &[Origin]) -> Result<Option<Origin>, AllocError>
+    ensures { IfOk result (λ repeated. repeated ≡ first_repeated items.now) }
+{
     let mut members = BTreeSet::new(alloc);
-    let mut repeated = None;
     for origin in items {
         let is_new = members.insert(*origin)?;
         if !is_new {
-            repeated = repeated.or(Some(*origin));
+            return Ok(Some(*origin));
         }
     }
-    Ok(Index { members, repeated })
+    Ok(None)
 }
 
 // Whether the list has the origin, by looking at each.

@@ -1,31 +1,28 @@
-use Rattle.std.proofs.Common.{◌≡◌, ◌+◌, ◌++◌, ◌∷◌, [], sym, ◌∙◌, ap, take, List}
-use Rattle.std.specs.Prelude.{Option}
-use Rattle.origins.specs.declared.Origin.{Origin}
-use Rattle.std.specs.BTreeSet.{contains}
-use Rattle.std.proofs.lemmas.List.{take_more}
-use Rattle.authority_book.specs.Origins.{origin_cmp}
-use Rattle.authority_book.specs.Index.{IsIndexed}
-use Rattle.authority_book.proofs.Indexed.{indexed_new, indexed_again, fresh_from, known_from}
+use Rattle.std.proofs.Common.{◌≡◌, sym, ◌∙◌, rules}
+use Rattle.std.specs.List.Sorted.{IsPermutation}
+use Rattle.std.proofs.lemmas.List.Sorted.{list_any-IsPermutation}
+use Rattle.authority_book.specs.Origins.{origin_cmp, is_same, first_repeated}
+use Rattle.authority_book.proofs.Indexed.{none_from_ascending}
 use Rattle.authority_book.proofs.origin_lists.index_many.Goals as goal
-use Rattle.authority_book.proofs.origin_lists.index_many.Goals.{then-not-is_new, else-not-is_new}
+use Rattle.authority_book.proofs.origin_lists.index_many.Goals.{then-is_ascending, else-is_ascending+in_ok-repeated}
 
-pub loop-origin-preserved : goal.loop-origin-preserved
+pub is_ascending-requires : goal.is_ascending-requires
 unfolding origin_cmp
-loop-origin-preserved c =
-    let s = c.loop-origin.members in
-    let o = c.origin-item.result in
-    let xs = take c.loop-origin.origin-index c.args.items.now in
-    let put = c.in_ok-is_new.ensures in
-    let longer : take (c.loop-origin.origin-index + 1) c.args.items.now ≡ xs ++ o ∷ [] =
-    take_more c.args.items.now c.loop-origin.origin-index o c.loop-origin-test.true ∙ ap (λ (x : Origin). xs ++ x ∷ []) (sym c.origin-item.is) in
-    let Made : List Origin → Option Origin → Type 0 = λ l r. IsIndexed l (record { members = c.insert.new.self; repeated = r }) in
-    elim c.if-not-is_new.branch [
-      | then-not-is_new w ↦
-          let known = known_from (contains origin_cmp s o) (sym w.if-not-is_new.true ∙ put.added) in
-          let made = indexed_again xs o s c.insert.new.self c.loop-origin.repeated c.loop-origin.invariant known put.updates in
-          rw (longer, w.repeated-is, w.or-repeated.ensures) made
-      | else-not-is_new w ↦
-          let fresh = fresh_from (contains origin_cmp s o) (sym w.if-not-is_new.false ∙ put.added) in
-          let made = indexed_new xs o s c.insert.new.self c.loop-origin.repeated c.loop-origin.invariant fresh put.updates in
-          rw (longer, w.repeated-is) made
-    ]
+is_ascending-requires c = rw c.deref.ensures.value c.sort_unstable.ensures.sorted
+
+pub returns : goal.returns
+unfolding origin_cmp
+returns c =
+    let items = c.args.items.now in
+    let sorted = c.sort_unstable.new.self.items in
+    let same : c.in_ok-sorted.sorted.items ≡ items = search rules in
+    let moved : IsPermutation items sorted = rw same at c.sort_unstable.ensures.permutation in
+    let first : c.if-is_ascending.repeated ≡ first_repeated items = elim c.if-is_ascending.branch [
+      | then-is_ascending w ↦ w.repeated-is ∙ sym (none_from_ascending items sorted moved (rw c.deref.ensures.value at (c.is_ascending.ensures (search rules))))
+      | else-is_ascending+in_ok-repeated w ↦ search rules
+    ] in
+    record {
+      sorted = c.sort_unstable.ensures.sorted;
+      members = λ o. sym (list_any-IsPermutation (is_same o) items sorted moved);
+      first = first;
+    }
