@@ -4,6 +4,7 @@
 //! from an independent model, and the places of faults from an independent reading.
 #![tactic(auto)]
 
+mod manifests;
 mod roas;
 
 use anyhow::{Result, bail};
@@ -34,6 +35,8 @@ fn answer(alloc: Global, call: &str, first: &str, second: &str) -> Result<String
     match call {
         "write roa" => roas::write(alloc, first, second),
         "read roa" => roas::read(alloc, first),
+        "write manifest" => manifests::write(alloc, first, second),
+        "read manifest" => manifests::read(alloc, first),
         _ => bail!("an unknown call: {call}"),
     }
 }

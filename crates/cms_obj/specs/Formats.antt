@@ -49,7 +49,7 @@ element_bytes tag = record {
 unfoldable pub certificates : Front (List ℕ)
 certificates = within tag.context_0 (element_bytes tag.sequence)
 
--- ---- the attributes that are signed (RFC 6488 section 2.1.6.4, RFC 9589 section 4)
+-- ---- the attributes that are signed (RFC 6488 section 2.1.6.4, RFC 9589)
 
 -- An attribute: its identifier, and a SET with the one value, whose place comes first.
 unfoldable pub attribute_at : List ℕ → Place → Result (Place × Place) ShapeFault

@@ -6,8 +6,10 @@
 #![tactic(auto)]
 
 mod parts;
+mod places;
 
 use crate::parts::{bytes_of, digits_of, entries_of, fixed_of, number_of};
+use crate::places::{changes, cuts};
 use anyhow::{Context, Result, bail};
 use crl_obj::{Crl, ReadCrl};
 use key_ids::KeyId;
@@ -36,6 +38,8 @@ fn answer(alloc: Global, call: &str, arguments: &str) -> Result<String> {
         "tbs" => tbs(alloc, arguments),
         "write" => write(alloc, arguments),
         "read" => read(alloc, arguments),
+        "cuts" => cuts(alloc, &bytes_of(alloc, arguments)?),
+        "changes" => changes(alloc, bytes_of(alloc, arguments)?),
         _ => bail!("an unknown call: {call}"),
     }
 }

@@ -1,5 +1,5 @@
 -- The families of two lists.
-use Rattle.std.proofs.Common.{◌≡◌, ◌≢◌, ℕ, Bool, true, false, Option, Some, None, List, [], ◌∷◌, length, map, refl, arith}
+use Rattle.std.proofs.Common.{◌≡◌, ◌≢◌, true, false, Some, None, List, [], ◌∷◌, length, refl, arith}
 use Rattle.payloads.specs.RoaFormats.{Entry, families_of}
 
 pub first-alone : (a b : List Entry) → length b ≡ 0 → families_of a b ≡ ((false, a), None)

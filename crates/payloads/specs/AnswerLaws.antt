@@ -1,5 +1,5 @@
 -- What an answer says where the reading of a body is known: the same for every body.
-use Rattle.std.proofs.Common.{◌≡◌, ℕ, ◌<◌, ◌^◌, Bool, true, false, cond, ltb, Option, Some, None, List, length, Result, Ok, Err, refl, sym, ap, subst, ◌∙◌}
+use Rattle.std.proofs.Common.{◌≡◌, ℕ, ◌^◌, Bool, true, false, cond, ltb, Option, Some, None, List, length, Result, Ok, Err, refl, sym, ap, subst, ◌∙◌}
 use Rattle.der.specs.Grammar.{AreBytes}
 use Rattle.der_forms.specs.declared.fault.ShapeFault.{ShapeFault}
 use Rattle.der_forms.specs.declared.fault.ShapeFault.TheVariants.{Shape as NoShape, Memory as NoMemory}
@@ -8,9 +8,8 @@ use Rattle.der_forms.specs.Form.{Whole, IsWhole}
 use Rattle.der_forms.specs.Object.{Spells, read_object, IsTruePlace}
 use Rattle.der_forms.specs.ObjectLaws.{object-taken, object-again, object-fault}
 use Rattle.der_forms.specs.FormLaws.{same-ok, not-both}
-use Rattle.payloads.specs.declared.fault.BodyFault.{BodyFault}
-use Rattle.payloads.specs.declared.fault.BodyFault.TheVariants.{Shape, Order, Memory}
-use Rattle.payloads.specs.Outcome.{body_fault, value_or, ordered}
+use Rattle.payloads.specs.declared.fault.BodyFault.TheVariants.{Shape, Order}
+use Rattle.payloads.specs.Outcome.{value_or, ordered}
 use Rattle.payloads.specs.PlacedLaws.{Sees}
 
 -- A format without regard to order, its reading with places, and the test of the order.

@@ -2,7 +2,7 @@
 use Rattle.std.proofs.Common.{◌≡◌, ℕ, zero, suc, ◌+◌, ◌-◌, ◌*◌, ◌/◌, ◌%◌, ◌^◌, ◌<◌, ◌≤◌, List, [], ◌∷◌, length, take, refl, sym, ap, subst, ◌∙◌, arith}
 use Rattle.std.specs.Int.{bytes_high_first}
 use Rattle.std.proofs.Math.Nat.{mul-div_cancel, pow-suc, mul-mod_left}
-use Rattle.std.proofs.lemmas.Nat.{pow-add, shl_below, shr_below, div-mul-add, div-add-mod'}
+use Rattle.std.proofs.lemmas.Nat.{pow-add, shl_below, shr_below, div-add-mod'}
 use Rattle.std.proofs.lemmas.Int.Digits.{number_lt}
 use Rattle.der.specs.Spelling.{AreBits}
 use Rattle.der.specs.Grammar.{AreBytes}

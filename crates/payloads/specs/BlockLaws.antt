@@ -1,9 +1,9 @@
 -- The laws of the lists of families, and of bodies of ROAs.
-use Rattle.std.proofs.Common.{◌≡◌, ℕ, zero, suc, ◌^◌, ◌<◌, ◌≤◌, Bool, true, false, cond, not, ◌&&◌, ◌||◌, ltb, Option, Some, None, List, [], ◌∷◌, ◌++◌, length, take, drop, refl, sym, ap, subst, ◌∙◌, arith}
+use Rattle.std.proofs.Common.{◌≡◌, ℕ, zero, suc, ◌^◌, ◌≤◌, Bool, true, false, cond, ◌&&◌, ◌||◌, Option, Some, None, List, [], ◌∷◌, ◌++◌, length, take, drop, refl, sym, ap, subst, ◌∙◌, arith}
 use Rattle.std.proofs.lemmas.Bool.{lt-ltb, ltb-true, and_parts}
 use Rattle.std.proofs.lemmas.List.{append-nil, take-append-drop}
 use Rattle.der.specs.Tags as tag
-use Rattle.der_forms.specs.Form.{Front, Whole, IsWhole, IsFront}
+use Rattle.der_forms.specs.Form.{IsWhole}
 use Rattle.der_forms.specs.Forms.{sole, both, only, maybe, OnSomeOf, AreAll}
 use Rattle.der_forms.specs.Leaves.{short_number}
 use Rattle.der_forms.specs.LeafLaws.{short_number-law}

@@ -1,11 +1,10 @@
 -- The laws of entries and of families.
-use Rattle.std.proofs.Common.{◌≡◌, ℕ, zero, suc, ◌^◌, ◌<◌, ◌≤◌, Bool, true, false, cond, ◌&&◌, eqb, ltb, leb, Option, Some, None, List, [], ◌∷◌, ◌++◌, length, take, drop, refl, sym, ap, subst, ◌∙◌, arith}
+use Rattle.std.proofs.Common.{◌≡◌, ℕ, ◌^◌, ◌<◌, ◌≤◌, Bool, true, false, cond, ◌&&◌, eqb, ltb, leb, Option, Some, None, List, refl, sym, ap, subst, ◌∙◌, arith}
 use Rattle.std.proofs.lemmas.Bool.{eqb-true, eqb-false, eq-eqb, ne_eqb, lt-ltb, le-leb, leb-true, ltb-true, and_parts}
-use Rattle.std.proofs.lemmas.List.{append-nil, take-append-drop}
 use Rattle.der.specs.Tags as tag
 use Rattle.origins.specs.Prefix.{address_bits, IsPrefix}
 use Rattle.der_forms.specs.Form.{Front, IsWhole, IsFront}
-use Rattle.der_forms.specs.Forms.{within, sole, after, both, only, maybe, many, tested, OnSomeOf, AreAll}
+use Rattle.der_forms.specs.Forms.{sole, after, both, only, maybe, many, tested, OnSomeOf}
 use Rattle.der_forms.specs.Leaves.{number, are_same}
 use Rattle.der_forms.specs.LeafLaws.{number-law, same-lists}
 use Rattle.der_forms.specs.FormLaws.{leaf-law, within-law}

@@ -11,3 +11,6 @@ pub mod RoaReading
 pub mod RoaLaws
 pub mod Outcome
 pub mod AnswerLaws
+pub mod ManifestFormats
+pub mod ManifestReading
+pub mod ManifestLaws

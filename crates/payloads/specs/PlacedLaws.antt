@@ -1,13 +1,12 @@
 -- A reading that gives places too gives the same values.
 use Rattle.std.proofs.Common.{◌≡◌, ℕ, zero, suc, Bool, true, false, cond, Option, Some, None, List, [], ◌∷◌, map, length, Result, Ok, Err, refl, sym, ap, ◌∙◌}
-use Rattle.std.proofs.lemmas.Bool.{cases_Bool}
 use Rattle.std.specs.Prelude.{option_map}
 use Rattle.der_forms.specs.declared.fault.ShapeFault.{ShapeFault}
 use Rattle.der_forms.specs.declared.fault.ShapeFault.TheVariants.{Shape}
 use Rattle.der_forms.specs.Place.{Place, ◌>>=◌, open_at, sole_at, end_at, is_empty}
 use Rattle.der_forms.specs.Form.{Whole, Front}
 use Rattle.der_forms.specs.Forms.{there_or, within, sole, after, both, only, preceded, maybe, many_at, many, tested, through, placed}
-use Rattle.der_forms.specs.FrameLaws.{bind-assoc, bind-alike}
+use Rattle.der_forms.specs.FrameLaws.{bind-assoc}
 
 abbrev pub pair : {A B : Type 0} → A → B → Result (A × B) ShapeFault
 pair x y = Ok (x, y)

@@ -5,7 +5,7 @@ use Rattle.origins.specs.Prefix.{address_bits, IsPrefix, IsMaximum}
 use Rattle.der_forms.specs.Form.{Whole, Front}
 use Rattle.der_forms.specs.Forms.{leaf, within, sole, after, both, only, maybe, many, tested, through, placed, AreAll}
 use Rattle.der_forms.specs.Leaves.{number, short_number, are_same}
-use Rattle.payloads.specs.Prefixes.{prefix, prefix_parts}
+use Rattle.payloads.specs.Prefixes.{prefix}
 use Rattle.payloads.specs.Order.{rises}
 use Rattle.payloads.specs.declared.values.RoaEntry.{RoaEntry}
 

@@ -1,10 +1,9 @@
 -- What the reading of a ROA's body comes to.
-use Rattle.std.proofs.Common.{◌≡◌, ◌≢◌, ℕ, Bool, true, false, cond, not, ◌&&◌, Option, Some, None, List, [], ◌∷◌, ◌++◌, map, Result, Ok, Err, refl, sym, ap, ◌∙◌}
+use Rattle.std.proofs.Common.{◌≡◌, ℕ, Bool, true, false, cond, not, ◌&&◌, Option, Some, None, List, [], ◌∷◌, ◌++◌, map, refl, sym, ap}
 use Rattle.std.specs.Prelude.{option_map}
 use Rattle.std.proofs.lemmas.List.{map-append}
 use Rattle.der.specs.Tags as tag
-use Rattle.der_forms.specs.declared.fault.ShapeFault.{ShapeFault}
-use Rattle.der_forms.specs.Forms.{within, sole, after, both, only, maybe, many, tested}
+use Rattle.der_forms.specs.Forms.{sole, after, both, only, maybe, many, tested}
 use Rattle.der_forms.specs.Leaves.{short_number}
 use Rattle.payloads.specs.Order.{rises_above, rises, unordered_above, first_unordered}
 use Rattle.payloads.specs.PlacedLaws.{Sees, SeesFront, front-sees, placed-sees, within-sees, sole-sees, after-sees, both-sees, only-sees, maybe-sees, many-sees, tested-sees, through-sees}

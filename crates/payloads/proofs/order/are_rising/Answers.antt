@@ -1,4 +1,4 @@
-use Rattle.std.proofs.Common.{◌≡◌, ◌-◌, length, drop, map, sym, ◌∙◌, arith}
+use Rattle.std.proofs.Common.{◌-◌, drop, map, sym, ◌∙◌, arith}
 use Rattle.std.proofs.lemmas.List.{length-map, length-drop}
 use Rattle.payloads.proofs.Lists.{short-rises}
 use Rattle.payloads.proofs.order.are_rising.Goals as goal

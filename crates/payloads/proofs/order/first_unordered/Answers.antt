@@ -1,4 +1,4 @@
-use Rattle.std.proofs.Common.{◌≡◌, ◌-◌, ℕ, List, length, drop, map, sym, ◌∙◌, arith}
+use Rattle.std.proofs.Common.{◌-◌, ℕ, drop, map, sym, ◌∙◌, arith}
 use Rattle.std.proofs.lemmas.List.{length-map, length-drop}
 use Rattle.payloads.proofs.Lists.{short-ordered}
 use Rattle.payloads.proofs.order.first_unordered.Goals as goal

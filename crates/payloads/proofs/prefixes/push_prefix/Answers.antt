@@ -1,8 +1,8 @@
-use Rattle.std.proofs.Common.{◌≡◌, ◌++◌, ℕ, List, take, sym, subst}
+use Rattle.std.proofs.Common.{◌++◌, ℕ, List, take, sym, subst}
 use Rattle.std.proofs.lemmas.Result.{IfOk-equal}
 use Rattle.origins.specs.Prefix.{address_bits}
 use Rattle.der.specs.Spelling.{AreBits, bits_spelling}
-use Rattle.payloads.specs.Prefixes.{spare, leading_bytes}
+use Rattle.payloads.specs.Prefixes.{spare}
 use Rattle.payloads.specs.BitLaws.{leading_bits}
 use Rattle.payloads.specs.PrefixLaws.{written}
 use Rattle.payloads.proofs.prefixes.push_prefix.Goals as goal

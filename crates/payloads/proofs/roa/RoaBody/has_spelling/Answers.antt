@@ -1,9 +1,9 @@
-use Rattle.std.proofs.Common.{◌≡◌, ◌+◌, ◌<◌, ◌^◌, ◌≤◌, ℕ, List, Bool, true, length, map, sym, ap, ◌∙◌, arith, rules}
+use Rattle.std.proofs.Common.{◌≡◌, List, length, map, sym, ap, ◌∙◌, arith, rules}
 use Rattle.std.proofs.lemmas.Bool.Decides.{nat_tests}
 use Rattle.std.proofs.lemmas.List.{length-map}
 use Rattle.payloads.specs.declared.values.RoaEntry.{RoaEntry}
 use Rattle.payloads.specs.Order.{rises}
-use Rattle.payloads.specs.RoaFormats.{Entry, IsEntry, entry_view, is_below}
+use Rattle.payloads.specs.RoaFormats.{entry_view, is_below}
 use Rattle.payloads.proofs.EachEntry.{all-entries}
 use Rattle.payloads.proofs.roa.RoaBody.has_spelling.Goals as goal
 

@@ -1,4 +1,4 @@
-use Rattle.std.proofs.Common.{◌≡◌, ◌++◌, ℕ, List, [], length, take, drop, map, refl, sym, ap, ◌∙◌, vec_len, rules}
+use Rattle.std.proofs.Common.{◌≡◌, ◌++◌, ℕ, List, length, take, drop, map, sym, ap, ◌∙◌, vec_len, rules}
 use Rattle.der.specs.Tags as tag
 use Rattle.der.specs.Spelling.{spelled, unsigned_spelling}
 use Rattle.der_forms.specs.Forms.{both, only, maybe}

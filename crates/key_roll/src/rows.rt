@@ -1,0 +1,51 @@
+//! The live keys of an edition.
+
+use items::Items;
+use signer_api::PublicKey;
+
+/// What a key is for in its authority (RFC 6489 section 2).
+#[derive(Clone, Copy, Debug, PartialEq, Eq)]
+pub enum Role {
+    /// It waits for the rollover, and issues a CRL and a manifest only.
+    New,
+    /// It issues the authority's certificates and ROAs.
+    Current,
+    /// It was replaced, and issues a CRL and a manifest only.
+    Old,
+}
+
+/// A live key of an authority.
+#[derive(Debug, Drop)]
+pub struct KeyRow {
+    /// The authority's desk. The trust anchor has desk 0.
+    pub desk: u32,
+    /// The signer that holds the key.
+    pub signer: u32,
+    pub role: Role,
+    pub key: PublicKey,
+    /// The serial of the next certificate under the key. The first one has serial 1.
+    pub next_serial: u64,
+    /// The number of the key's CRL and manifest. The first ones have number 1.
+    pub number: u64,
+    /// The thisUpdate of the key's CRL, in seconds since 1970.
+    pub this_update: u64,
+    /// The moment at which the authority's new key was made, and 0 where none waits. All rows of an
+    /// authority have the same.
+    pub since: u64,
+    /// How many of the rollovers that the authority was told to begin are done. All its rows have the
+    /// same.
+    pub done: u32,
+    /// The entries of the key's CRL, by their serials.
+    pub revoked: Items<RevokedRow>,
+}
+
+/// An entry of a key's CRL.
+#[derive(Clone, Copy, Debug, PartialEq, Eq)]
+pub struct RevokedRow {
+    /// The serial of the certificate.
+    pub serial: u64,
+    /// The notAfter of the certificate, in seconds since 1970.
+    pub not_after: u64,
+    /// The moment of the edition that superseded the certificate.
+    pub revoked_at: u64,
+}
