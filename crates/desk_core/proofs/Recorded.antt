@@ -12,7 +12,7 @@ use Rattle.authority_book.specs.Settings.{Settings}
 use Rattle.authority_book.specs.Verdict.{refused_or_ok, verdict_of, IsAccepted}
 use Rattle.authority_book.specs.Fold.{fold_of, Taken}
 use Rattle.origins.specs.declared.Origin.{Origin}
-use Rattle.cmd_codec.specs.Spelling.{spelling, list_spelling, origin_spelling, counted_spelling, IsRecordable}
+use Rattle.cmd_codec.specs.Spelling.{spelling, IsRecordable}
 use Rattle.desk_core.specs.Commands.{Records}
 use Rattle.desk_core.specs.Kept.{IsLoaded}
 

@@ -3,7 +3,7 @@ ghost use Rattle.std.specs.Prelude.{◌≡◌, ◌≤◌, ◌<◌, ◌+◌, leng
 ghost use Rattle.authority_book.specs.declared.commands.Command.{Command};
 ghost use Rattle.authority_book.specs.Settings.{Covers};
 ghost use Rattle.authority_book.specs.Fold.{needs};
-ghost use Rattle.cmd_codec.specs.Spelling.{spelling, IsShort, IsRecordable};
+ghost use Rattle.cmd_codec.specs.Spelling.{spelling, IsRecordable};
 ghost use Rattle.gate_journal.specs.View.{IsSameButRoom};
 ghost use Rattle.desk_core.specs.Answers.{needed_for, fault_of};
 
@@ -18,7 +18,7 @@ use std::alloc::{AllocError, Global};
 pub(crate) fn needed(command: &Command) -> u64
     ensures { result ≡ needed_for command.now }
 {
-    cmd_codec::record_len(command) as u64 + 9
+    cmd_codec::record_len(command) + 9
 }
 
 /// Takes the memory that keeping the command needs, and puts together its record's payload.

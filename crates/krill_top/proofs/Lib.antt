@@ -1,6 +1,2 @@
-pub mod Answering
-pub mod Sessions
-pub mod Desks
+pub mod InTurn
 pub mod Removed
-pub mod ServedOver
-pub mod Grows

@@ -13,10 +13,6 @@ use Rattle.desk_core.specs.Images.{Holds, HoldsTold}
 use Rattle.krill_top.specs.declared.faults.OpenFault.{OpenFault}
 use Rattle.krill_top.specs.declared.faults.OpenFault.TheVariants.{WrongCount, Damaged, BadRecord, DiskFault, Memory}
 
--- How many desks there are.
-abbrev pub most_desks : ℕ
-most_desks = 64
-
 -- The disk, if it tells, stood for the records of these commands of the desk, and was whole.
 abbrev pub StoodFor : Option (List ℕ) → ℕ → List Command → Type 0
 StoodFor content number commands =

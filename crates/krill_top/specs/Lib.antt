@@ -1,5 +1,7 @@
+pub mod Seen
+pub mod Outcomes
+pub mod Reads
 pub mod Replies
-pub mod Faults
 pub mod Stands
 pub mod Ended
 pub mod Words

@@ -1,42 +1,25 @@
--- What a session of the anchor is answered, line by line, over its desk.
-use Rattle.std.specs.Prelude.{◌≡◌, ◌⊎◌, ℕ, ◌+◌, ◌<◌, ◌≤◌, ◌||◌, ◌==◌, Bool, true, false, List, [], ◌∷◌, ◌++◌, length, map, IsTrue, Option, None, Some, Result, Ok, Err, codes, string_bytes}
+-- What a session is answered, line by line, over the desks.
+use Rattle.std.specs.Prelude.{◌≡◌, ◌⊎◌, ℕ, ◌≤◌, ◌||◌, ◌==◌, Bool, true, false, List, [], ◌∷◌, ◌++◌, length, IsTrue, Result, Ok, Err, Vec}
+use Rattle.std.specs.declared.alloc.Global.{Global}
 use Rattle.std.specs.List.{list_all}
-use Rattle.std.specs.Option.{option_map}
-use Rattle.fault_count.specs.Rise.{HasRisen}
 use Rattle.authority_book.specs.declared.commands.Command.{Command}
-use Rattle.authority_book.specs.declared.refusals.Refusal.{Refusal}
-use Rattle.authority_book.specs.Verdict.{verdict_of}
-use Rattle.authority_book.specs.Fold.{fold_of}
-use Rattle.cmd_codec.specs.Spelling.{spelling}
-use Rattle.gate_journal.specs.Format.{held_by}
-use Rattle.gate_journal.specs.Storing.{stored, entry_bytes}
-use Rattle.desk_core.specs.View.{journal_limit}
-use Rattle.desk_core.specs.Answers.{needed_for}
 use Rattle.json_api.specs.declared.line.Line.{Line}
-use Rattle.json_api.specs.declared.line.Line.TheVariants.{Command as CommandLine}
-use Rattle.json_api.specs.declared.journal_reply.JournalRefusal.TheVariants.{Shut, JournalFull, DiskFault}
-use Rattle.json_api.specs.JournalReply.{journal_refusal_spelling}
-use Rattle.json_api.specs.Line.{IsLine}
-use Rattle.json_api.specs.Reply.{accepted_spelling, refusal_spelling, refused_spelling}
+use Rattle.json_api.specs.declared.line.Line.TheVariants as line
+use Rattle.json_api.specs.declared.line.LineFault.{LineFault}
+use Rattle.json_api.specs.declared.refusals.Refused.TheVariants as refused
+use Rattle.json_api.specs.Refused.{refused_spelling, verdict_spelling, fault_spelling}
+use Rattle.json_api.specs.Line.{ReadsLine, longest_line}
+use Rattle.json_api.specs.Reply.{accepted_spelling}
+use Rattle.krill_top.specs.Seen.{Seen}
+use Rattle.krill_top.specs.declared.command_fault.CommandFault.{CommandFault}
+use Rattle.krill_top.specs.declared.command_fault.CommandFault.TheVariants as faults
+use Rattle.krill_top.specs.Outcomes.{Outcome, Commanded, fault_outcome}
+use Rattle.krill_top.specs.Outcomes.Outcome.{Accepted, NoSuchAuthority, Shut, Verdict, JournalFull, DiskFault, Memory}
+use Rattle.krill_top.specs.Reads.{list_reply, show_reply, roas_reply, history_reply}
 
--- The anchor's desk, which is also the number of its disk.
-abbrev pub anchor_desk : ℕ
-anchor_desk = 0
-
--- How many signers a verdict is told of, while no command needs one.
+-- How many signers a verdict is told of, while nothing is signed.
 abbrev pub signers_at_hand : ℕ
 signers_at_hand = 1
-
--- What replies rest on.
-pub record State : Type 0 where
-  -- the commands accepted so far
-  pub commands : List Command
-  -- where a fault of the disk shut the journal, the command whose record may stand on the disk, or not
-  pub doubt : Option Command
-  -- how often the disk has failed
-  pub faults : ℕ
-  -- the disk's bytes, where it tells them
-  pub content : Option (List ℕ)
 
 -- Space, tab and carriage return.
 abbrev pub is_blank_byte : ℕ → Bool
@@ -44,81 +27,89 @@ is_blank_byte b = (b == 32) || (b == 9) || (b == 13)
 
 -- A line that gets no reply: one that is not too long and has nothing but blanks.
 pub record IsBlank (line : List ℕ) : Type 0 where
-  pub short : length line ≤ 1048576
+  pub short : length line ≤ longest_line
   pub blank : IsTrue (list_all is_blank_byte line)
 
--- The texts where memory was wanting, and where a line is no command.
-abbrev pub memory_text : List ℕ
-memory_text = refusal_spelling 40 [] (codes "Memory")
-
-abbrev pub bad_line_text : List ℕ
-bad_line_text = refusal_spelling 31 [] (codes "BadLine")
-
--- A refusal, which changes nothing.
-pub record IsRefusedAs (refusal : List ℕ) (before : State) (text : List ℕ) (accepted : Bool) (after : State) : Type 0 where
-  pub text_is : text ≡ refusal
+-- A refusal, or a read: the text is given, and nothing changes.
+pub record IsTold (told : List ℕ) (before : Seen) (text : List ℕ) (accepted : Bool) (after : Seen) : Type 0 where
+  pub text_is : text ≡ told
   pub not_accepted : accepted ≡ false
   pub same : after ≡ before
 
--- How many bytes the journal of the accepted commands takes.
-abbrev pub held_in : State → ℕ
-held_in state = held_by (map spelling state.commands)
+-- How an outcome is told.
+abbrev pub outcome_text : List ℕ → Outcome → List ℕ
+outcome_text name (Accepted count) = accepted_spelling name count
+outcome_text name NoSuchAuthority = refused_spelling (refused.NoSuchAuthority name)
+outcome_text name Shut = refused_spelling refused.Shut
+outcome_text name (Verdict refusal) = verdict_spelling refusal
+outcome_text name (JournalFull held needed) = refused_spelling (refused.JournalFull held needed)
+outcome_text name (DiskFault device) = refused_spelling (refused.DiskFault device)
+outcome_text name Memory = refused_spelling refused.Memory
 
--- The command's record fits into the journal.
-abbrev pub Fits : State → Command → Type 0
-Fits before command = held_in before + needed_for command ≤ journal_limit
+abbrev pub is_accepted : Outcome → Bool
+is_accepted (Accepted count) = true
+is_accepted other = false
 
--- The command is accepted: its record is kept, it stands at the end, and its reply counts it.
-pub record IsAcceptedAs (before : State) (name : List ℕ) (command : Command) (text : List ℕ) (accepted : Bool) (after : State) : Type 0 where
-  pub fits : Fits before command
-  pub text_is : text ≡ accepted_spelling name (fold_of anchor_desk after.commands).count
-  pub is_accepted : accepted ≡ true
-  pub commands : after.commands ≡ before.commands ++ command ∷ []
-  pub is_open : after.doubt ≡ None
-  pub later : before.faults ≤ after.faults
-  pub bytes : after.content ≡ option_map (stored (held_in before) (entry_bytes (spelling command))) before.content
-
--- The disk failed while the command's record was stored. It may stand there, and no more are stored.
-pub record IsInDoubt (before : State) (command : Command) (text : List ℕ) (accepted : Bool) (after : State) : Type 0 where
-  pub fits : Fits before command
-  pub text_is : text ≡ journal_refusal_spelling (DiskFault anchor_desk)
-  pub not_accepted : accepted ≡ false
-  pub commands : after.commands ≡ before.commands
-  pub doubt : after.doubt ≡ Some command
-  pub risen : HasRisen before.faults after.faults
-
--- There is no place for the command's record.
-pub record IsWithoutPlace (before : State) (command : Command) (text : List ℕ) (accepted : Bool) (after : State) : Type 0 where
-  pub no_place : journal_limit < held_in before + needed_for command
-  pub refused : IsRefusedAs (journal_refusal_spelling (JournalFull (held_in before) (needed_for command))) before text accepted after
-
--- What a command gets by its verdict, where the journal is open.
-abbrev pub VerdictText : State → List ℕ → Command → Result (Unit {0}) Refusal → List ℕ → Bool → State → Type 0
-VerdictText before name command (Ok granted) text accepted after =
-    IsAcceptedAs before name command text accepted after
-    ⊎ IsInDoubt before command text accepted after
-    ⊎ IsWithoutPlace before command text accepted after
-VerdictText before name command (Err refusal) text accepted after = IsRefusedAs (refused_spelling refusal) before text accepted after
-
--- What a command gets: that the journal is shut, if a fault shut it, else what its verdict says.
-abbrev pub DeskText : Option Command → State → List ℕ → Command → List ℕ → Bool → State → Type 0
-DeskText (Some doubt) before name command text accepted after = IsRefusedAs (journal_refusal_spelling Shut) before text accepted after
-DeskText None before name command text accepted after =
-    VerdictText before name command (verdict_of (fold_of anchor_desk before.commands) command signers_at_hand) text accepted after
+-- A command gets the text of what it comes to.
+pub record CommandText (name : List ℕ) (command : Command) (before : Seen) (text : List ℕ) (accepted : Bool) (after : Seen) : Type 0 where
+  pub outcome : Outcome
+  pub comes : Commanded name command signers_at_hand outcome before after
+  pub text_is : text ≡ outcome_text name outcome
+  pub accepted_is : accepted ≡ is_accepted outcome
 
 -- What a line says gets this text.
-abbrev pub CommandText : State → Line → List ℕ → Bool → State → Type 0
-CommandText before (CommandLine name command) text accepted after = DeskText before.doubt before (string_bytes name) command text accepted after
+abbrev pub SaidText : Line → Seen → List ℕ → Bool → Seen → Type 0
+SaidText (line.Command name command) before text accepted after = CommandText name command before text accepted after
+SaidText line.List before text accepted after = IsTold (list_reply before) before text accepted after
+SaidText (line.Show name) before text accepted after = IsTold (show_reply before name) before text accepted after
+SaidText (line.Roas name) before text accepted after = IsTold (roas_reply before name) before text accepted after
+SaidText (line.History name) before text accepted after = IsTold (history_reply before name) before text accepted after
 
--- A line gets this text: what its command gets, or that it is no command, or that memory was wanting.
-abbrev pub IsText : State → List ℕ → List ℕ → Bool → State → Type 0
-IsText before line text accepted after =
-    ((said : Line) × IsLine line said × CommandText before said text accepted after)
-    ⊎ (((said : Line) → ¬ IsLine line said) × IsRefusedAs bad_line_text before text accepted after)
-    ⊎ IsRefusedAs memory_text before text accepted after
+-- What the bytes of a line are read as gets this text.
+abbrev pub ReadText : Result Line LineFault → Seen → List ℕ → Bool → Seen → Type 0
+ReadText (Ok said) before text accepted after = SaidText said before text accepted after
+ReadText (Err fault) before text accepted after = IsTold (fault_spelling fault) before text accepted after
+
+-- The text where memory was wanting.
+abbrev pub memory_text : List ℕ
+memory_text = refused_spelling refused.Memory
+
+-- The text where a line is no line.
+abbrev pub bad_line_text : List ℕ
+bad_line_text = refused_spelling refused.BadLine
+
+-- The one, or that memory was wanting.
+abbrev pub IsToldOr : (Seen → List ℕ → Bool → Seen → Type 0) → Seen → List ℕ → Bool → Seen → Type 0
+IsToldOr P before text accepted after = P before text accepted after ⊎ IsTold memory_text before text accepted after
+
+-- The text that says why a command isn't accepted. There may be no memory for a verdict's.
+abbrev pub IsFaultText : {D : Type 0} → List ℕ → CommandFault D → List ℕ → Type 0
+IsFaultText name (faults.Verdict refusal) text = (text ≡ verdict_spelling refusal) ⊎ (text ≡ memory_text)
+IsFaultText name fault text = text ≡ outcome_text name (fault_outcome fault)
+
+-- The text of a read that found memory.
+abbrev pub IsTextIn : {E : Type 0} → Result (Vec ℕ Global) E → List ℕ → Type 0
+IsTextIn (Ok text) told = told ≡ text.items
+IsTextIn (Err wanting) told = ⊥
+
+-- The bytes are read so, and that gets this text.
+pub record IsReadText (line : List ℕ) (before : Seen) (text : List ℕ) (accepted : Bool) (after : Seen) : Type 0 where
+  pub said : Result Line LineFault
+  pub reads : ReadsLine line said
+  pub answer : ReadText said before text accepted after
+
+-- A line gets this text: what its bytes get, or that memory was wanting.
+abbrev pub IsText : List ℕ → Seen → List ℕ → Bool → Seen → Type 0
+IsText line before text accepted after = IsToldOr (IsReadText line) before text accepted after
+
+-- A text and a line feed.
+pub record IsAnswer (line : List ℕ) (before : Seen) (reply : List ℕ) (accepted : Bool) (after : Seen) : Type 0 where
+  pub not_blank : ¬ IsBlank line
+  pub text : List ℕ
+  pub reply_is : reply ≡ text ++ 10 ∷ []
+  pub answer : IsText line before text accepted after
 
 -- A line gets this reply: none where it is blank, else a text and a line feed.
-abbrev pub IsReply : State → List ℕ → List ℕ → Bool → State → Type 0
+abbrev pub IsReply : Seen → List ℕ → List ℕ → Bool → Seen → Type 0
 IsReply before line reply accepted after =
-    (IsBlank line × IsRefusedAs [] before reply accepted after)
-    ⊎ ((¬ IsBlank line) × ((text : List ℕ) × (reply ≡ text ++ 10 ∷ []) × IsText before line text accepted after))
+    (IsBlank line × IsTold [] before reply accepted after) ⊎ IsAnswer line before reply accepted after

@@ -1,5 +1,5 @@
 -- What a whole run leaves.
-use Rattle.std.specs.Prelude.{◌≡◌, ℕ, ◌≤◌, List, [], ◌∷◌, ◌++◌, Option, None, Some, IfSome, map}
+use Rattle.std.specs.Prelude.{◌≡◌, ℕ, ◌≤◌, List, [], ◌∷◌, ◌++◌, Option, None, Some, IfSome, map, slice_get, ⊤}
 use Rattle.std.specs.Option.{option_map}
 use Rattle.gate_journal.specs.Format.{opened}
 use Rattle.fault_count.specs.Rise.{HasRisen}
@@ -15,9 +15,10 @@ use Rattle.krill_top.specs.declared.faults.OpenFault.{OpenFault}
 use Rattle.krill_top.specs.declared.faults.RunFault.{RunFault}
 use Rattle.krill_top.specs.declared.serving.SessionEnds.{SessionEnds}
 use Rattle.krill_top.specs.declared.running.RunEnd.{RunEnd}
-use Rattle.krill_top.specs.Replies.{State, anchor_desk}
+use Rattle.krill_top.specs.Seen.{Seen, DeskState}
+use Rattle.krill_top.specs.Stands.{all_stored}
 use Rattle.krill_top.specs.Ended.{Converses}
-use Rattle.krill_top.specs.Desks.{StoodFor, IsLeft, AreKept, IsOpeningRefused}
+use Rattle.krill_top.specs.Desks.{StoodFor, IsLeft, IsOpeningRefused}
 use Rattle.krill_top.specs.Ends.{fault_status, run_status, fault_of, opening_fault}
 
 -- A run that was refused at once: nothing was read or written, and no device was called.
@@ -35,45 +36,55 @@ pub record IsRefusedAtOpening {D S K C : Type 0} (disk_of : DiskGhosts D) (desks
   pub refused : IsOpeningRefused disk_of fault desks run.desks.items
   pub untouched : run.sessions.items ≡ sessions
 
--- The state of the anchor's desk once it was opened over a disk.
-pub record IsOpenedOn {D : Type 0} (disk_of : DiskGhosts D) (disk : D) (begun : State) : Type 0 where
-  pub found : StoodFor (disk_of.content disk) anchor_desk begun.commands
-  pub recorded : Records anchor_desk (map spelling begun.commands) begun.commands
-  pub bytes : begun.content ≡ option_map opened (disk_of.content disk)
+-- The command in doubt would be the next one of its desk.
+abbrev pub IsNext : ℕ → DeskState → Command → Type 0
+IsNext number desk command =
+    Records number (map spelling (desk.commands ++ command ∷ [])) (desk.commands ++ command ∷ [])
+
+-- The disk of the desk of that number went through the run: it held the commands with which the desk
+-- begins, and holds these and the accepted ones, in order, with the one in doubt or without it. So does
+-- each image that a crash may leave, and all can be opened again. A known disk's bytes are those that
+-- opening made of them, with the accepted commands' records. A command is in doubt only where the disk
+-- failed in this run.
+pub record IsServed {D : Type 0} (disk_of : DiskGhosts D) (number : ℕ) (old new : D) (begun ended : DeskState) : Type 0 where
+  pub found : StoodFor (disk_of.content old) number begun.commands
   pub is_open : begun.doubt ≡ None
-  pub later : disk_of.fault_count disk ≤ begun.faults
+  pub accepted : List Command
+  pub grows : ended.commands ≡ begun.commands ++ accepted
+  pub recorded : Records number (map spelling ended.commands) ended.commands
+  pub next : IfSome ended.doubt (IsNext number ended)
+  pub left : IsLeft disk_of ended.commands ended.doubt new
+  pub bytes : ended.doubt ≡ None → disk_of.content new
+      ≡ option_map (all_stored (map spelling begun.commands) (map spelling accepted)) (option_map opened (disk_of.content old))
+  pub cause : ¬ (ended.doubt ≡ None) → HasRisen (disk_of.fault_count old) (disk_of.fault_count new)
+  pub later : disk_of.fault_count old ≤ disk_of.fault_count new
 
--- The state of the anchor's desk when it was closed, and its disk: the disk holds the commands, and perhaps
--- the one in doubt, and so does each image; all can be opened again.
-pub record IsClosedOn {D : Type 0} (disk_of : DiskGhosts D) (disk : D) (ended : State) : Type 0 where
-  pub recorded : Records anchor_desk (map spelling ended.commands) ended.commands
-  pub next : IfSome ended.doubt (λ command. Records anchor_desk (map spelling (ended.commands ++ command ∷ [])) (ended.commands ++ command ∷ []))
-  pub left : IsLeft disk_of ended.commands ended.doubt disk
-  pub bytes : disk_of.content disk ≡ ended.content
-  pub counted : disk_of.fault_count disk ≡ ended.faults
+-- So of a number's disk, if there is one.
+abbrev pub IsServedAt : {D : Type 0} → DiskGhosts D → ℕ → Option D → Option D → Option DeskState → Option DeskState → Type 0
+IsServedAt disk_of number None None None None = ⊤
+IsServedAt disk_of number (Some old) (Some new) (Some begun) (Some ended) = IsServed disk_of number old new begun ended
+IsServedAt disk_of number old new begun ended = ⊥
 
--- A run that opened its desks, served its session over the first, and hands all back. The first disk holds
--- the commands that it held and those that were accepted; the others hold what they held. A fault of the
--- source or the sink comes only where it failed in this run.
+-- So of each disk.
+abbrev pub AreServed : {D : Type 0} → DiskGhosts D → List D → List D → Seen → Seen → Type 0
+AreServed disk_of old new begun ended = (number : ℕ)
+    → IsServedAt disk_of number (slice_get old number) (slice_get new number) (slice_get begun number) (slice_get ended number)
+
+-- A run that opened its desks, served its session over them, and hands all back. Each disk holds the
+-- commands that it held and the accepted ones of its authority. A fault of the source or the sink comes
+-- only where it failed in this run.
 pub record ServesOne {D S K C : Type 0} (disk_of : DiskGhosts D) (source_of : SourceGhosts S) (sink_of : SinkGhosts K)
-    (first : D) (others : List D) (before : SessionEnds S K C) (run : RunEnd D S K C) : Type 0 where
-  pub first' : D
-  pub others' : List D
+    (desks : List D) (before : SessionEnds S K C) (run : RunEnd D S K C) : Type 0 where
   pub after : SessionEnds S K C
   pub end : SessionEnd
-  pub begun : State
-  pub ended : State
-  pub accepted : List Command
-  pub desks_back : run.desks.items ≡ first' ∷ others'
+  pub begun : Seen
+  pub ended : Seen
   pub handed_back : run.sessions.items ≡ after ∷ []
   pub status : run.status ≡ run_status (fault_of end)
   pub fault : run.fault ≡ fault_of end
-  pub opening : IsOpenedOn disk_of first begun
   pub served : Converses source_of sink_of before after begun ended end
   pub clock : after.clock ≡ before.clock
-  pub grows : ended.commands ≡ begun.commands ++ accepted
-  pub closing : IsClosedOn disk_of first' ended
-  pub others_kept : AreKept disk_of 1 others others'
+  pub disks : AreServed disk_of desks run.desks.items begun ended
   pub source_fault : end ≡ SourceFault → HasRisen (source_of.faults before.source) (source_of.faults after.source)
   pub sink_fault : end ≡ SinkFault → HasRisen (sink_of.faults before.sink) (sink_of.faults after.sink)
   pub source_later : source_of.faults before.source ≤ source_of.faults after.source

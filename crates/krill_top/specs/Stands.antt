@@ -1,63 +1,91 @@
--- The anchor's state, and what of it replies rest on.
-use Rattle.std.specs.Prelude.{◌≡◌, ◌⊎◌, ◌↔◌, ℕ, Bool, List, [], ◌∷◌, ◌++◌, Option, None, Ok, IfSome, map, string_bytes}
+-- The desks as the program has them and as replies see them, and how their disks go on.
+use Rattle.std.specs.Prelude.{◌≡◌, ◌↔◌, ◌≤◌, ℕ, Bool, List, [], ◌∷◌, ◌++◌, Option, None, Some, IfSome, map, slice_get, ⊤}
 use Rattle.std.specs.Option.{option_map}
+use Rattle.fault_count.specs.Rise.{HasRisen}
 use Rattle.disk_api.specs.declared.disk.Disk.{Ghosts as DiskGhosts}
 use Rattle.authority_book.specs.declared.commands.Command.{Command}
-use Rattle.authority_book.specs.Verdict.{verdict_of}
-use Rattle.authority_book.specs.Fold.{fold_of}
+use Rattle.gate_journal.specs.Format.{held_by}
+use Rattle.gate_journal.specs.Storing.{stored, entry_bytes}
 use Rattle.cmd_codec.specs.Spelling.{spelling}
 use Rattle.desk_core.specs.View.{View}
 use Rattle.desk_core.specs.Commands.{Records, HasCommands}
-use Rattle.json_api.specs.declared.line.Line.{Line}
-use Rattle.json_api.specs.declared.line.Line.TheVariants.{Command as CommandLine}
-use Rattle.json_api.specs.Name.{IsName}
-use Rattle.krill_top.specs.declared.anchor.Anchor.{Anchor}
-use Rattle.krill_top.specs.Replies.{State, anchor_desk, signers_at_hand, memory_text, DeskText, IsRefusedAs, IsText, IsReply}
+use Rattle.krill_top.specs.declared.handler.Handler.{Handler}
+use Rattle.krill_top.specs.Seen.{Seen, DeskState, desk_named}
+use Rattle.krill_top.specs.Replies.{IsReply, IsText}
 
--- The desk is the anchor's, and is in this state.
-pub record IsIn {D : Type 0} (disk_of : DiskGhosts D) (desk : View D) (state : State) : Type 0 where
-  pub number : desk.number ≡ anchor_desk
+-- The desk of that number is in this state; the command in doubt would be its next one.
+pub record IsIn {D : Type 0} (number : ℕ) (desk : View D) (state : DeskState) : Type 0 where
+  pub number_is : desk.number ≡ number
   pub commands : HasCommands desk state.commands
   pub doubt : desk.doubt ≡ option_map spelling state.doubt
   pub shut : (desk.shut ≡ None) ↔ (state.doubt ≡ None)
-  pub faults : disk_of.fault_count desk.disk ≡ state.faults
-  pub bytes : disk_of.content desk.disk ≡ state.content
-  -- the command in doubt would be the next of the desk's
-  pub next : IfSome state.doubt (λ command. Records anchor_desk (map spelling (state.commands ++ command ∷ [])) (state.commands ++ command ∷ []))
+  pub next : IfSome state.doubt (λ command. Records number (map spelling (state.commands ++ command ∷ [])) (state.commands ++ command ∷ []))
 
--- A desk that a session may be served over: the anchor's, whose journal no fault has shut.
-pub record MayServe {D : Type 0} (desk : View D) : Type 0 where
-  pub number : desk.number ≡ anchor_desk
-  pub is_open : desk.shut ≡ None
-  pub settled : desk.doubt ≡ None
+-- At that number stand a desk and its state, or neither.
+abbrev pub InAt : {D : Type 0} → ℕ → Option (View D) → Option DeskState → Type 0
+InAt number None None = ⊤
+InAt number None (Some state) = ⊥
+InAt number (Some desk) None = ⊥
+InAt number (Some desk) (Some state) = IsIn number desk state
 
--- From a desk in one state, P leads to a state in which the other desk is.
-pub record Goes {D : Type 0} (disk_of : DiskGhosts D) (P : State → State → Type 0) (new : View D) (before : State) : Type 0 where
-  pub after : State
+-- The desks, by their numbers, are in these states.
+abbrev pub AreIn : {D : Type 0} → List (View D) → Seen → Type 0
+AreIn desks seen = (number : ℕ) → InAt number (slice_get desks number) (slice_get seen number)
+
+-- The desk of the authority of that name.
+pub record IsNamed {D : Type 0} (seen : Seen) (name : List ℕ) (desk : View D) : Type 0 where
+  pub number : ℕ
+  pub state : DeskState
+  pub named : desk_named seen name ≡ Some number
+  pub there : slice_get seen number ≡ Some state
+  pub stands : IsIn number desk state
+
+-- The bytes of a journal's file with these payloads, after more are stored behind them.
+abbrev pub all_stored : List (List ℕ) → List (List ℕ) → List ℕ → List ℕ
+all_stored payloads [] bytes = bytes
+all_stored payloads (payload ∷ more) bytes =
+    all_stored (payloads ++ payload ∷ []) more (stored (held_by payloads) (entry_bytes payload) bytes)
+
+-- How a desk goes on, from one state to another: accepted commands come behind its own, and on a known
+-- disk their records with their bytes. A fault of its disk alone leaves one in doubt, and then no more
+-- come.
+pub record GoesOn {D : Type 0} (disk_of : DiskGhosts D) (old new : D) (was is : DeskState) : Type 0 where
+  pub accepted : List Command
+  pub commands : is.commands ≡ was.commands ++ accepted
+  pub bytes : is.doubt ≡ None
+      → disk_of.content new ≡ option_map (all_stored (map spelling was.commands) (map spelling accepted)) (disk_of.content old)
+  pub stays : ¬ (was.doubt ≡ None) → is ≡ was
+  pub cause : was.doubt ≡ None → ¬ (is.doubt ≡ None) → HasRisen (disk_of.fault_count old) (disk_of.fault_count new)
+  pub later : disk_of.fault_count old ≤ disk_of.fault_count new
+
+-- So of a number's desk, if there is one.
+abbrev pub GoesOnAt : {D : Type 0} → DiskGhosts D → Option (View D) → Option (View D) → Option DeskState → Option DeskState → Type 0
+GoesOnAt disk_of None None None None = ⊤
+GoesOnAt disk_of (Some old) (Some new) (Some was) (Some is) = GoesOn disk_of old.disk new.disk was is
+GoesOnAt disk_of old new was is = ⊥
+
+-- So of each desk.
+abbrev pub GoOn : {D : Type 0} → DiskGhosts D → List (View D) → List (View D) → Seen → Seen → Type 0
+GoOn disk_of old new before after =
+    (number : ℕ) → GoesOnAt disk_of (slice_get old number) (slice_get new number) (slice_get before number) (slice_get after number)
+
+-- From the desks in one state, P leads to a state in which the other desks are.
+pub record Goes {D : Type 0} (disk_of : DiskGhosts D) (P : Seen → Seen → Type 0) (old new : List (View D)) (before : Seen) : Type 0 where
+  pub after : Seen
   pub step : P before after
-  pub stands : IsIn disk_of new after
+  pub stands : AreIn new after
+  pub disks : GoOn disk_of old new before after
 
--- A line may get this reply.
-abbrev pub MayReply : {D : Type 0} → DiskGhosts D → Anchor D → List ℕ → List ℕ → Bool → Anchor D → Type 0
-MayReply disk_of old line reply accepted new =
-    (before : State) → IsIn disk_of old.desk before → Goes disk_of (λ b a. IsReply b line reply accepted a) new.desk before
+-- What a call may do to the desks, as replies see them and as their disks go on.
+abbrev pub Leads : {D : Type 0} → DiskGhosts D → (Seen → Seen → Type 0) → List (View D) → List (View D) → Type 0
+Leads disk_of P old new = (before : Seen) → AreIn old before → Goes disk_of P old new before
 
 -- A line that isn't blank may get this text.
-abbrev pub MayText : {D : Type 0} → DiskGhosts D → Anchor D → List ℕ → List ℕ → Bool → Anchor D → Type 0
+abbrev pub MayText : {D : Type 0} → DiskGhosts D → Handler D → List ℕ → List ℕ → Bool → Handler D → Type 0
 MayText disk_of old line text accepted new =
-    (before : State) → IsIn disk_of old.desk before → Goes disk_of (λ b a. IsText b line text accepted a) new.desk before
+    Leads disk_of (λ b a. IsText line b text accepted a) old.desks new.desks
 
--- A command may get this text: from the desk, or because memory was wanting.
-abbrev pub MayAnswer : {D : Type 0} → DiskGhosts D → Anchor D → List ℕ → Command → List ℕ → Bool → Anchor D → Type 0
-MayAnswer disk_of old name command text accepted new =
-    (before : State) → IsIn disk_of old.desk before → Goes disk_of
-    (λ b a. DeskText b.doubt b name command text accepted a ⊎ IsRefusedAs memory_text b text accepted a)
-    new.desk before
-
--- What a line says may get this text.
-abbrev pub MaySay : {D : Type 0} → DiskGhosts D → Anchor D → Line → List ℕ → Bool → Anchor D → Type 0
-MaySay disk_of old (CommandLine name command) text accepted new = MayAnswer disk_of old (string_bytes name) command text accepted new
-
--- The authority that a line names has a name.
-abbrev pub NamesOne : Line → Type 0
-NamesOne (CommandLine name command) = IsName (string_bytes name)
+-- A line may get this reply.
+abbrev pub MayReply : {D : Type 0} → DiskGhosts D → Handler D → List ℕ → List ℕ → Bool → Handler D → Type 0
+MayReply disk_of old line reply accepted new =
+    Leads disk_of (λ b a. IsReply b line reply accepted a) old.desks new.desks

@@ -1,15 +1,19 @@
-//! Sessions of commands over desks, and the one call that does all that the program does.
+//! Sessions of commands over the desks of a tree, and the one call that does all that the program does.
 #![tactic(auto)]
 
-mod anchor;
+mod command_fault;
+mod desks;
 mod faults;
 mod fronts;
+mod handler;
 mod opening;
 mod running;
 mod serving;
 
-pub use anchor::Anchor;
+pub use command_fault::CommandFault;
+pub use desks::Desks;
 pub use faults::{OpenFault, RunFault, fault_text};
+pub use handler::Handler;
 pub use line_loop::{
     Clock, ListClock, MemorySink, MemorySource, SessionEnd, Sink, SinkStop, Source, SourceStop,
     StreamSink, StreamSource, SystemClock,

@@ -14,7 +14,7 @@ use std::alloc::Global;
 /// The opened desks in their order, and the emptied list of their disks, in which there is room for
 /// them.
 #[derive(Drop)]
-pub(crate) struct Desks<D: Disk> {
+pub(crate) struct Opened<D: Disk> {
     pub(crate) desks: Vec<Desk<D>>,
     pub(crate) disks: Vec<D>,
 }
@@ -43,7 +43,7 @@ fn fault_of(device: u32, fault: DeskOpenFault) -> OpenFault
 pub(crate) fn open_desks<D: Disk>(
     alloc: Global,
     disks: Vec<D>,
-) -> Result<Desks<D>, OpeningRefused<D>>
+) -> Result<Opened<D>, OpeningRefused<D>>
     requires { length disks.items < 2 ^ 32 }
     ensures opened { IfOk result (λ opened. AreOpened D.Disk 0 disks.items opened.desks.items) }
     ensures empty { IfOk result (λ opened. opened.disks.items ≡ []) }
@@ -66,16 +66,16 @@ pub(crate) fn open_desks<D: Disk>(
             }
         }
     }
-    Ok(Desks { desks, disks })
+    Ok(Opened { desks, disks })
 }
 
 /// Closes the desks, and hands back their disks in their order.
-pub(crate) fn close_desks<D: Disk>(desks: Desks<D>) -> Vec<D>
-    requires empty { desks.disks.items ≡ [] }
-    requires room { vec_len desks.desks ≤ vec_capacity desks.disks }
-    ensures { AreClosed D.Disk desks.desks.items result.items }
+pub(crate) fn close_desks<D: Disk>(opened: Opened<D>) -> Vec<D>
+    requires empty { opened.disks.items ≡ [] }
+    requires room { vec_len opened.desks ≤ vec_capacity opened.disks }
+    ensures { AreClosed D.Disk opened.desks.items result.items }
 {
-    let Desks { desks, mut disks } = desks;
+    let Opened { desks, mut disks } = opened;
     close_in_front(&mut disks, desks);
     disks
 }

@@ -1,25 +1,20 @@
 //! The top call.
 
 ghost use Rattle.std.specs.Prelude.{◌≡◌, ◌≢◌, ◌↔◌, ◌⊎◌, ◌<◌, ◌≤◌, [], ◌∷◌, List, length, IsTrue, vec_len, vec_capacity};
-ghost use Rattle.desk_core.specs.View.{View};
 ghost use Rattle.krill_top.specs.Words.{AreRunWords};
 ghost use Rattle.krill_top.specs.Ends.{run_status, fault_of, opening_fault};
-ghost use Rattle.krill_top.specs.Desks.{most_desks};
-ghost use Rattle.krill_top.specs.Opened.{AreOpened, AreClosed};
-ghost use Rattle.krill_top.specs.Replies.{State};
-ghost use Rattle.krill_top.specs.Stands.{IsIn, MayServe};
-ghost use Rattle.krill_top.specs.Ended.{Served};
+ghost use Rattle.krill_top.specs.Seen.{most_desks};
+ghost use Rattle.krill_top.specs.Opened.{AreOpened};
 ghost use Rattle.krill_top.specs.Run.{IsRefused, IsRefusedAtOpening, ServesOne};
-ghost use Rattle.fault_count.specs.Rise.{HasRisen};
 ghost use Rattle.krill_top.specs.declared.faults.RunFault.TheVariants as faults;
 ghost use Rattle.krill_top.specs.declared.faults.OpenFault.TheVariants as opening;
 
-use crate::anchor::Anchor;
+use crate::desks::Desks;
 use crate::faults::{OpenFault, RunFault};
 use crate::fronts::{put_in_front, take_first};
-use crate::opening::{Desks, OpeningRefused, close_desks, open_desks};
+use crate::handler::Handler;
+use crate::opening::{Opened, OpeningRefused, close_desks, open_desks};
 use crate::serving::{Session, SessionEnds};
-use desk_core::Desk;
 use disk_api::Disk;
 use line_loop::{Clock, SessionEnd, Sink, Source};
 use std::alloc::Global;
@@ -79,54 +74,28 @@ fn opening_fault(fault: OpenFault) -> RunFault
     }
 }
 
-// Serves a session over the first desk.
-fn serve_first<D: Disk, S: Source, K: Sink, C: Clock>(
-    alloc: Global,
-    desks: &mut Vec<Desk<D>>,
-    ends: &mut SessionEnds<S, K, C>,
-) -> SessionEnd
-    requires some { 0 < vec_len desks.old }
-    requires fresh { (first : View D) (others : List (View D)) → desks.old.items ≡ first ∷ others → MayServe first }
-    ensures desks { (first : View D) × (served : View D) × (others : List (View D))
-        × (desks.old.items ≡ first ∷ others) × (desks.new.items ≡ served ∷ others)
-        × ((before : State) → IsIn D.Disk first before
-        → Served D.Disk S.Source K.Sink ends.old ends.new before served result) }
-    ensures len { vec_len desks.new ≡ vec_len desks.old }
-    ensures source_fault { result ≡ SessionEnd.SourceFault →
-        HasRisen (S.faults ends.old.source) (S.faults ends.new.source) }
-    ensures sink_fault { result ≡ SessionEnd.SinkFault →
-        HasRisen (K.faults ends.old.sink) (K.faults ends.new.sink) }
-    ensures source_later { S.faults ends.old.source ≤ S.faults ends.new.source }
-    ensures sink_later { K.faults ends.old.sink ≤ K.faults ends.new.sink }
-    ensures clock { ends.new.clock ≡ ends.old.clock }
-{
-    let mut anchor = Anchor::new(alloc, take_first(desks));
-    let ended = Session::serve(alloc, &mut anchor, ends);
-    put_in_front(desks, anchor.into_desk());
-    ended
-}
-
-// Serves the one session over the first of the opened desks, and closes them.
+// Serves the one session over the opened desks, and closes them.
 fn serve_one<D: Disk, S: Source, K: Sink, C: Clock>(
     alloc: Global,
-    opened: Desks<D>,
+    opened: Opened<D>,
     sessions: Vec<SessionEnds<S, K, C>>,
 ) -> RunEnd<D, S, K, C>
-    requires some { 0 < vec_len opened.desks }
-    requires fresh { (first : View D) (others : List (View D)) → opened.desks.items ≡ first ∷ others → MayServe first }
+    requires all { length opened.desks.items ≡ most_desks }
     requires empty { opened.disks.items ≡ [] }
     requires room { vec_len opened.desks ≤ vec_capacity opened.disks }
     requires session { length sessions.items ≡ 1 }
-    ensures { (first : D) (others : List D) (before : SessionEnds S K C)
-        → AreOpened D.Disk 0 (first ∷ others) opened.desks.items → sessions.items ≡ before ∷ []
-        → ServesOne D.Disk S.Source K.Sink first others before result }
+    ensures { (disks : List D) (before : SessionEnds S K C)
+        → AreOpened D.Disk 0 disks opened.desks.items → sessions.items ≡ before ∷ []
+        → ServesOne D.Disk S.Source K.Sink disks before result }
 {
-    let mut opened = opened;
+    let Opened { desks, disks } = opened;
     let mut sessions = sessions;
     let mut ends = take_first(&mut sessions);
-    let ended = serve_first(alloc, &mut opened.desks, &mut ends);
+    let mut handler = Handler::new(alloc, Desks::new(desks));
+    let ended = Session::serve(alloc, &mut handler, &mut ends);
     put_in_front(&mut sessions, ends);
-    run_end(fault_of(ended), close_desks(opened), sessions)
+    let desks = handler.into_desks().into_inner();
+    run_end(fault_of(ended), close_desks(Opened { desks, disks }), sessions)
 }
 
 /// The status of a run that ended so.
@@ -166,10 +135,9 @@ fn run_one<D: Disk, S: Source, K: Sink, C: Clock>(
 ) -> RunEnd<D, S, K, C>
     requires desks { length desks.items ≡ most_desks }
     requires session { length sessions.items ≡ 1 }
-    ensures { (first : D) (others : List D) (before : SessionEnds S K C)
-        → desks.items ≡ first ∷ others → sessions.items ≡ before ∷ []
+    ensures { (before : SessionEnds S K C) → sessions.items ≡ before ∷ []
         → IsRefusedAtOpening D.Disk desks.items sessions.items result
-        ⊎ ServesOne D.Disk S.Source K.Sink first others before result }
+        ⊎ ServesOne D.Disk S.Source K.Sink desks.items before result }
 {
     match open_desks(alloc, desks) {
         Ok(opened) => serve_one(alloc, opened, sessions),
@@ -202,7 +170,7 @@ fn wrong_count(what: u32, needed: usize, found: usize) -> RunFault
 }
 
 /// Does what the words name. `run` opens the 64 desks over their disks, in order, and serves the one
-/// session over the first of them, which is the anchor's.
+/// session over them: each command goes to the desk of its authority.
 ///
 /// Where opening is refused no source is read and no sink is given anything. All devices come back as
 /// they stand.
@@ -218,10 +186,9 @@ pub fn run_krill<D: Disk, S: Source, K: Sink, C: Clock>(
     ensures desks { AreRunWords words.now → length sessions.items ≡ 1 → length desks.items ≢ most_desks
         → IsRefused desks.items sessions.items (faults.Refused (opening.WrongCount 0 most_desks (length desks.items))) result }
     ensures served { AreRunWords words.now → length desks.items ≡ most_desks
-        → (first : D) (others : List D) (before : SessionEnds S K C)
-        → desks.items ≡ first ∷ others → sessions.items ≡ before ∷ []
+        → (before : SessionEnds S K C) → sessions.items ≡ before ∷ []
         → IsRefusedAtOpening D.Disk desks.items sessions.items result
-        ⊎ ServesOne D.Disk S.Source K.Sink first others before result }
+        ⊎ ServesOne D.Disk S.Source K.Sink desks.items before result }
 {
     if !are_run_words(words) {
         return refused(RunFault::Words, desks, sessions);

@@ -1,12 +1,10 @@
-//! A session: its lines, answered over the anchor's desk.
+//! A session: its lines, answered over the desks.
 
 ghost use Rattle.std.specs.Prelude.{◌≡◌, ◌≤◌};
 ghost use Rattle.fault_count.specs.Rise.{HasRisen};
-ghost use Rattle.krill_top.specs.Replies.{State};
-ghost use Rattle.krill_top.specs.Stands.{IsIn};
 ghost use Rattle.krill_top.specs.Ended.{Served};
 
-use crate::anchor::Anchor;
+use crate::handler::Handler;
 use disk_api::Disk;
 use line_loop::{Clock, SessionEnd, Sink, Source, serve_lines};
 use std::alloc::Global;
@@ -31,11 +29,10 @@ impl Session {
     /// Before it waits for more input it has given the replies to all lines that have come.
     pub fn serve<D: Disk, S: Source, K: Sink, C: Clock>(
         alloc: Global,
-        anchor: &mut Anchor<D>,
+        handler: &mut Handler<D>,
         ends: &mut SessionEnds<S, K, C>,
     ) -> SessionEnd
-        ensures session { (before : State) → IsIn D.Disk anchor.old.desk before
-            → Served D.Disk S.Source K.Sink ends.old ends.new before anchor.new.desk result }
+        ensures session { Served D.Disk S.Source K.Sink ends.old ends.new handler.old.desks handler.new.desks result }
         ensures source_fault { result ≡ SessionEnd.SourceFault →
             HasRisen (S.faults ends.old.source) (S.faults ends.new.source) }
         ensures sink_fault { result ≡ SessionEnd.SinkFault →
@@ -44,6 +41,6 @@ impl Session {
         ensures sink_later { K.faults ends.old.sink ≤ K.faults ends.new.sink }
         ensures clock { ends.new.clock ≡ ends.old.clock }
     {
-        serve_lines(alloc, anchor, &mut ends.source, &mut ends.sink)
+        serve_lines(alloc, handler, &mut ends.source, &mut ends.sink)
     }
 }

@@ -4,7 +4,7 @@ use Rattle.desk_core.specs.View.{View}
 use Rattle.krill_top.specs.Desks.{IsOpeningRefused}
 use Rattle.krill_top.specs.Opened.{IsOpened, AreOpened, opening_fault_of}
 use Rattle.krill_top.specs.declared.faults.OpenFault.{OpenFault}
-use Rattle.krill_top.proofs.Desks.{opened_more, opened_length, stopped}
+use Rattle.krill_top.proofs.InTurn.{opened_more, opened_length, stopped}
 use Rattle.krill_top.proofs.opening.open_desks.Goals as goal
 
 pub push_reserved-requires : goal.push_reserved-requires

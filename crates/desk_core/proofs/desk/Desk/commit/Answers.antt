@@ -17,7 +17,6 @@ use Rattle.desk_core.specs.Commands.{HasCommands}
 use Rattle.desk_core.proofs.Recorded.{loaded_push}
 use Rattle.disk_api.specs.RunLaws.{started}
 use Rattle.desk_core.proofs.Committed.{desk_of, safe_of, held_before, records_more, kept_sizes, fewer_than_bytes, has_push, kept_push, moments, stake_holds, refused_of, counts_records}
-use Rattle.desk_core.proofs.desk.Desk.commit.Goals.{in-Some-6, in-None-6}
 use Rattle.desk_core.proofs.desk.Desk.commit.Goals as goal
 
 pub invariant_of-self-in-Ok-append : goal.invariant_of-self-in-Ok-append
@@ -91,7 +90,13 @@ returns-in-Err-clause-refused g c =
     let same_records : more ≡ records =
     ap (λ (l : List ℕ). format.payloads l c.prepare.new.body.items) (c.in-Err.ensures.kept.1 ∙ ap (λ (j : journal.View _). j.sizes) c.prepare.ensures.journal) ∙ ap (λ (l : List ℕ). format.payloads inside.journal.sizes l) c.prepare.ensures.body in
     let new = desk_of inside.number c.prepare.new.config.settings more c.append.new.self in
-    let same : c.match-command-6.self ≡ new = elim c.match-command-6.branch [ in-Some-6 w ↦ w.self-is | in-None-6 w ↦ w.self-is ] in
+    let same : c.match-command-7.self ≡ new = elim c.match-command-7.branch [
+      | goal.in-AddChild-3 w ↦ w.self-is
+      | goal.in-UpdateChild-3 w ↦ w.self-is
+      | goal.in-UpdateRoas+in-Some-3 w ↦ w.self-is
+      | goal.in-UpdateRoas+in-None-3 w ↦ w.self-is
+      | goal.in-Add-3 w ↦ w.self-is
+    ] in
     let old = desk_of inside.number inside.config.settings records inside.journal in
     let place : HasPlace old c.args.command c.args.signers = subst (λ (v : View _). HasPlace v c.args.command c.args.signers) (sym c.self.view_is) c.in_default.ensures.answer in
     let sizes = kept_sizes g.D.Disk inside.number inside.config.settings inside.body.items inside.journal c.self.invariant in
@@ -100,7 +105,7 @@ returns-in-Err-clause-refused g c =
     spelled place c.in-Err.ensures.refused c.in-Ok.ensures.recordable in
     let mine = subst (λ (v : View _). IsDeskFault g.D.Disk (fault_of inside.number c.in-Err.fault) c.args.command c.args.signers v new) c.self.view_is refused in
     let there = subst (λ (v : View _). IsDeskFault g.D.Disk (fault_of inside.number c.in-Err.fault) c.args.command c.args.signers c.args.self.now v) (sym same) mine in
-    subst (λ (f : DeskFault _). IsDeskFault g.D.Disk f c.args.command c.args.signers c.args.self.now c.match-command-6.self) (sym c.fault_of.ensures) there
+    subst (λ (f : DeskFault _). IsDeskFault g.D.Disk f c.args.command c.args.signers c.args.self.now c.match-command-7.self) (sym c.fault_of.ensures) there
 
 pub returns-in-Err-clause-any_moment : goal.returns-in-Err-clause-any_moment
 returns-in-Err-clause-any_moment g c =
@@ -112,7 +117,13 @@ returns-in-Err-clause-any_moment g c =
     let same_records : more ≡ records =
     ap (λ (l : List ℕ). format.payloads l c.prepare.new.body.items) (c.in-Err.ensures.kept.1 ∙ ap (λ (j : journal.View _). j.sizes) c.prepare.ensures.journal) ∙ ap (λ (l : List ℕ). format.payloads inside.journal.sizes l) c.prepare.ensures.body in
     let new = desk_of inside.number c.prepare.new.config.settings more c.append.new.self in
-    let same : c.match-command-6.self ≡ new = elim c.match-command-6.branch [ in-Some-6 w ↦ w.self-is | in-None-6 w ↦ w.self-is ] in
+    let same : c.match-command-7.self ≡ new = elim c.match-command-7.branch [
+      | goal.in-AddChild-3 w ↦ w.self-is
+      | goal.in-UpdateChild-3 w ↦ w.self-is
+      | goal.in-UpdateRoas+in-Some-3 w ↦ w.self-is
+      | goal.in-UpdateRoas+in-None-3 w ↦ w.self-is
+      | goal.in-Add-3 w ↦ w.self-is
+    ] in
     let any = moments g.D.Disk inside.number inside.config.settings inside.body.items c.args.command payload
     inside.journal c.prepare.new.journal c.append.new.self c.self.invariant c.prepare.ensures.journal spelled c.append.ensures.any_moment in
     let mine = subst (λ (old : View _). LeavesOnly g.D.Disk old.disk c.append.new.self.disk (HoldsTold (g.D.Disk.content old.disk) old.records (stake_of old.shut old.doubt (spelling c.args.command)))) c.self.view_is any in

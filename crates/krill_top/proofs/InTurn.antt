@@ -16,7 +16,6 @@ use Rattle.desk_core.specs.Commands.{IsFirstBad}
 use Rattle.desk_core.specs.declared.faults.DeskOpenFault.{DeskOpenFault}
 use Rattle.desk_core.specs.declared.faults.DeskOpenFault.TheVariants.{Damaged, BadRecord, DiskFault, Memory}
 use Rattle.krill_top.specs.Desks.{StoodFor, IsLeft, IsKept, AreKept, IsCause, StandsAsBefore, StopsAt}
-use Rattle.krill_top.specs.Stands.{MayServe}
 use Rattle.krill_top.specs.Opened.{IsOpened, IsClosed, AreOpened, AreClosed, opening_fault_of}
 
 module _ {D : Type 0} (disk_of : DiskGhosts D) where
@@ -132,8 +131,3 @@ module _ {D : Type 0} (disk_of : DiskGhosts D) where
     cause = subst (λ (n : ℕ). IsCause disk_of (opening_fault_of number fault) n old new) (sym place) (cause_of fault number old new damaged bad failed);
     stands = as_before counts_now old new same bytes any later;
   }
-
-  -- the first of the opened desks may be served over
-  pub may_serve : (disks : List D) (first : View D) (others : List (View D)) → AreOpened disk_of 0 disks (first ∷ others) → MayServe first
-  may_serve [] first others all = absurd all
-  may_serve (disk ∷ disks) first others all = record { number = all.0.number_is; is_open = all.0.is_open; settled = all.0.settled }

@@ -1,0 +1,39 @@
+//! Why a command to an authority isn't accepted.
+
+use authority_book::Refusal;
+use desk_core::{DeskFault, DeskRose};
+use disk_api::Disk;
+
+/// Why a command to an authority isn't accepted, in the order in which it is asked.
+#[derive(Drop)]
+pub enum CommandFault<D: Disk> {
+    /// No authority has the name.
+    NoSuchAuthority,
+    /// An earlier call of the authority's disk failed.
+    Shut { rose: DeskRose<D> },
+    /// The verdict on the command.
+    Verdict { refusal: Refusal },
+    /// The bytes that the journal takes and those of the record are more than 16 MiB.
+    JournalFull { held: u64, needed: u64 },
+    /// The disk failed. The command may be found after a restart, or not.
+    DiskFault { rose: DeskRose<D> },
+    /// Out of memory, before anything was written.
+    Memory,
+}
+
+impl<D: Disk> From<DeskFault<D>> for CommandFault<D> {
+    ghost use Rattle.std.specs.Prelude.{◌≡◌};
+    ghost use Rattle.krill_top.specs.Outcomes.{command_fault_of};
+
+    ghost from_gives = { λ desk fault. fault ≡ command_fault_of desk };
+
+    fn from(fault: DeskFault<D>) -> Self {
+        match fault {
+            DeskFault::Shut { rose } => CommandFault::Shut { rose },
+            DeskFault::Verdict { refusal } => CommandFault::Verdict { refusal },
+            DeskFault::JournalFull { held, needed } => CommandFault::JournalFull { held, needed },
+            DeskFault::DiskFault { rose } => CommandFault::DiskFault { rose },
+            DeskFault::Memory => CommandFault::Memory,
+        }
+    }
+}

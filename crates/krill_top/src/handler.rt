@@ -1,0 +1,310 @@
+//! The desks, and what lines are answered over them.
+
+ghost use Rattle.std.specs.Prelude.{◌≡◌, ◌⊎◌, ℕ, ◌+◌, ◌≤◌, ◌↔◌, List, [], ◌∷◌, ◌++◌, false, length, IsTrue, IfOk, OnOk, OnErr, vec_len, vec_capacity};
+ghost use Rattle.std.specs.List.{list_all};
+ghost use Rattle.json_api.specs.Reply.{accepted_spelling};
+ghost use Rattle.json_api.specs.Refused.{verdict_spelling, fault_spelling, refused_spelling};
+ghost use Rattle.krill_top.specs.Replies.{is_blank_byte, IsBlank, memory_text, bad_line_text, CommandText, SaidText, IsToldOr, IsFaultText, IsTextIn};
+ghost use Rattle.krill_top.specs.Stands.{Leads, MayText};
+
+use crate::command_fault::CommandFault;
+use crate::desks::Desks;
+use authority_book::{Command, Refusal};
+use disk_api::Disk;
+use json_api::{
+    Line, LineFault, LineReader, MAX_LINE_LEN, Refused, accepted_into, fault_into, refused_into,
+    verdict_into,
+};
+use line_loop::LineHandler;
+use names::Name;
+use std::alloc::{AllocError, Global};
+
+/// How many signers a verdict is told of, while nothing is signed.
+const SIGNERS_AT_HAND: u32 = 1;
+
+/// Room for an accepted command's reply, or one that needs no memory, and its line feed.
+const REPLY_ROOM: usize = 256;
+
+/// The desks of a tree, and what reads the lines that are answered over them.
+#[derive(Drop)]
+pub struct Handler<D: Disk> {
+    desks: Desks<D>,
+    reader: LineReader,
+}
+
+impl<D: Disk> Handler<D> {
+    /// Answers over these desks.
+    pub fn new(alloc: Global, desks: Desks<D>) -> Handler<D>
+        ensures { result.desks ≡ desks }
+    {
+        Handler {
+            desks,
+            reader: LineReader::new(alloc),
+        }
+    }
+
+    /// The desks, with the commands that were accepted.
+    pub fn into_desks(self) -> Desks<D>
+        ensures { result ≡ self.desks }
+    {
+        self.desks
+    }
+
+    // Answers a command, and says whether it was accepted. The room for the reply is taken before
+    // the desk writes anything.
+    fn answer_command(
+        &mut self,
+        alloc: Global,
+        name: &Name,
+        command: Command,
+        out: &mut Vec<u8>,
+    ) -> Result<bool, AllocError>
+        ensures ok { IfOk result (λ accepted. (text : List ℕ) × (out.new.items ≡ out.old.items ++ text ++ 10 ∷ [])
+            × Leads D.Disk (λ b a. IsToldOr (CommandText name.now command) b text accepted a) self.old.desks self.new.desks) }
+        ensures err { OnErr result ((self.new ≡ self.old) × (out.new.items ≡ out.old.items)) }
+    {
+        out.reserve(REPLY_ROOM)?;
+        match self.desks.command(alloc, name, command, SIGNERS_AT_HAND) {
+            Ok(count) => {
+                append_accepted(out, name, count);
+                Ok(true)
+            }
+            Err(fault) => {
+                append_fault(alloc, name, fault, out);
+                Ok(false)
+            }
+        }
+    }
+
+    // Answers what a line says, and says whether its command was accepted.
+    fn answer_said(
+        &mut self,
+        alloc: Global,
+        said: Line,
+        out: &mut Vec<u8>,
+    ) -> Result<bool, AllocError>
+        ensures ok { IfOk result (λ accepted. (text : List ℕ) × (out.new.items ≡ out.old.items ++ text ++ 10 ∷ [])
+            × Leads D.Disk (λ b a. IsToldOr (SaidText said) b text accepted a) self.old.desks self.new.desks) }
+        ensures err { OnErr result ((self.new ≡ self.old) × (out.new.items ≡ out.old.items)) }
+    {
+        match said {
+            Line::Command { name, command } => self.answer_command(alloc, &name, command, out),
+            Line::List => append_told(out, self.desks.list(alloc)),
+            Line::Show { name } => append_told(out, self.desks.show(alloc, &name)),
+            Line::Roas { name } => append_told(out, self.desks.roas(alloc, &name)),
+            Line::History { name } => append_told(out, self.desks.history(alloc, &name)),
+        }
+    }
+
+    // Answers a line that isn't blank, and says whether its command was accepted.
+    fn answer_text(
+        &mut self,
+        alloc: Global,
+        line: &[u8],
+        out: &mut Vec<u8>,
+    ) -> Result<bool, AllocError>
+        ensures ok { IfOk result (λ accepted. (text : List ℕ) × (out.new.items ≡ out.old.items ++ text ++ 10 ∷ [])
+            × MayText D.Disk self.old line.now text accepted self.new) }
+        ensures err { OnErr result ((self.new ≡ self.old) × (out.new.items ≡ out.old.items)) }
+    {
+        match self.reader.read(alloc, line) {
+            Ok(said) => self.answer_said(alloc, said, out),
+            Err(fault) => {
+                out.reserve(REPLY_ROOM)?;
+                append_line_fault(alloc, &fault, out);
+                Ok(false)
+            }
+        }
+    }
+}
+
+// Appends the reply to an accepted command, in the room that is there.
+fn append_accepted(out: &mut Vec<u8>, name: &Name, count: u64)
+    requires { vec_len out.old + REPLY_ROOM ≤ vec_capacity out.old }
+    ensures { out.new.items ≡ out.old.items ++ accepted_spelling name.now count ++ 10 ∷ [] }
+{
+    accepted_into(out, name, count);
+    append(out, b"\n");
+}
+
+// Appends the line that says why a command isn't accepted, in the room that is there. Only the
+// verdict's refusal may find no memory, and then the line says that.
+fn append_fault<D: Disk>(alloc: Global, name: &Name, fault: CommandFault<D>, out: &mut Vec<u8>)
+    requires { vec_len out.old + REPLY_ROOM ≤ vec_capacity out.old }
+    ensures { (text : List ℕ) × (out.new.items ≡ out.old.items ++ text ++ 10 ∷ [])
+        × IsFaultText name.now fault text }
+{
+    match fault {
+        CommandFault::NoSuchAuthority => {
+            append_refused(out, &Refused::NoSuchAuthority { name: *name });
+        }
+        CommandFault::Shut { .. } => append_refused(out, &Refused::Shut),
+        CommandFault::Verdict { refusal } => append_verdict(alloc, &refusal, out),
+        CommandFault::JournalFull { held, needed } => {
+            append_refused(out, &Refused::JournalFull { held, needed });
+        }
+        CommandFault::DiskFault { rose } => {
+            let device = rose.desk();
+            append_refused(out, &Refused::DiskFault { device });
+        }
+        CommandFault::Memory => append_refused(out, &Refused::Memory),
+    }
+}
+
+// Appends the line of a refusal, in the room that is there.
+fn append_refused(out: &mut Vec<u8>, refused: &Refused)
+    requires { vec_len out.old + REPLY_ROOM ≤ vec_capacity out.old }
+    ensures { out.new.items ≡ out.old.items ++ refused_spelling refused.now ++ 10 ∷ [] }
+{
+    refused_into(out, refused);
+    append(out, b"\n");
+}
+
+// Appends the line of a verdict, or of want of memory where that finds none.
+fn append_verdict(alloc: Global, refusal: &Refusal, out: &mut Vec<u8>)
+    requires { vec_len out.old + REPLY_ROOM ≤ vec_capacity out.old }
+    ensures { (text : List ℕ) × (out.new.items ≡ out.old.items ++ text ++ 10 ∷ [])
+        × ((text ≡ verdict_spelling refusal.now) ⊎ (text ≡ memory_text)) }
+{
+    if verdict_line(alloc, refusal, out).is_err() {
+        append_refused(out, &Refused::Memory);
+    }
+}
+
+fn verdict_line(alloc: Global, refusal: &Refusal, out: &mut Vec<u8>) -> Result<(), AllocError>
+    ensures ok { OnOk result (out.new.items ≡ out.old.items ++ verdict_spelling refusal.now ++ 10 ∷ []) }
+    ensures err { OnErr result (out.new.items ≡ out.old.items) }
+    ensures capacity { vec_capacity out.old ≤ vec_capacity out.new }
+{
+    let start = out.len();
+    verdict_into(alloc, out, refusal)?;
+    if out.push(b'\n').is_err() {
+        out.truncate(start);
+        return Err(AllocError);
+    }
+    Ok(())
+}
+
+// Appends the line that says why a line isn't read, or that memory was wanting where that finds none.
+fn append_line_fault(alloc: Global, fault: &LineFault, out: &mut Vec<u8>)
+    requires { vec_len out.old + REPLY_ROOM ≤ vec_capacity out.old }
+    ensures { (text : List ℕ) × (out.new.items ≡ out.old.items ++ text ++ 10 ∷ [])
+        × ((text ≡ fault_spelling fault.now) ⊎ (text ≡ memory_text)) }
+{
+    if fault_line(alloc, fault, out).is_err() {
+        append_refused(out, &Refused::Memory);
+    }
+}
+
+fn fault_line(alloc: Global, fault: &LineFault, out: &mut Vec<u8>) -> Result<(), AllocError>
+    ensures ok { OnOk result (out.new.items ≡ out.old.items ++ fault_spelling fault.now ++ 10 ∷ []) }
+    ensures err { OnErr result (out.new.items ≡ out.old.items) }
+    ensures capacity { vec_capacity out.old ≤ vec_capacity out.new }
+{
+    let start = out.len();
+    fault_into(alloc, out, fault)?;
+    if out.push(b'\n').is_err() {
+        out.truncate(start);
+        return Err(AllocError);
+    }
+    Ok(())
+}
+
+// Appends the line of a read's text, or of want of memory. No command is accepted.
+fn append_told(out: &mut Vec<u8>, text: Result<Vec<u8>, AllocError>) -> Result<bool, AllocError>
+    ensures ok { IfOk result (λ accepted. (accepted ≡ false)
+        × ((told : List ℕ) × (out.new.items ≡ out.old.items ++ told ++ 10 ∷ [])
+        × (IsTextIn text told ⊎ (told ≡ memory_text)))) }
+    ensures err { OnErr result (out.new.items ≡ out.old.items) }
+{
+    out.reserve(REPLY_ROOM)?;
+    match text {
+        Ok(text) => append_text(out, text.as_slice()),
+        Err(_) => append_refused(out, &Refused::Memory),
+    }
+    Ok(false)
+}
+
+fn append_text(out: &mut Vec<u8>, text: &[u8])
+    requires { vec_len out.old + REPLY_ROOM ≤ vec_capacity out.old }
+    ensures { (told : List ℕ) × (out.new.items ≡ out.old.items ++ told ++ 10 ∷ [])
+        × ((told ≡ text.now) ⊎ (told ≡ memory_text)) }
+{
+    if text_line(out, text).is_err() {
+        append_refused(out, &Refused::Memory);
+    }
+}
+
+fn text_line(out: &mut Vec<u8>, text: &[u8]) -> Result<(), AllocError>
+    ensures ok { OnOk result (out.new.items ≡ out.old.items ++ text.now ++ 10 ∷ []) }
+    ensures err { OnErr result (out.new.items ≡ out.old.items) }
+    ensures capacity { vec_capacity out.old ≤ vec_capacity out.new }
+{
+    let start = out.len();
+    out.extend_from_slice(text)?;
+    if out.push(b'\n').is_err() {
+        out.truncate(start);
+        return Err(AllocError);
+    }
+    Ok(())
+}
+
+fn append_bad_line(out: &mut Vec<u8>) -> Result<(), AllocError>
+    ensures ok { OnOk result (out.new.items ≡ out.old.items ++ bad_line_text ++ 10 ∷ []) }
+    ensures err { OnErr result (out.new.items ≡ out.old.items) }
+{
+    out.reserve(REPLY_ROOM)?;
+    append_refused(out, &Refused::BadLine);
+    Ok(())
+}
+
+// Appends within the room that is there.
+fn append(out: &mut Vec<u8>, text: &[u8])
+    requires { vec_len out.old + length text.now ≤ vec_capacity out.old }
+    ensures items { out.new.items ≡ out.old.items ++ text.now }
+    ensures len { vec_len out.new ≡ vec_len out.old + length text.now }
+    ensures capacity { vec_capacity out.old ≤ vec_capacity out.new }
+{
+    let _in_the_room = out.extend_from_slice(text);
+}
+
+// Whether the bytes are blanks alone, and not too many.
+fn is_blank(line: &[u8]) -> bool
+    ensures { IsTrue result ↔ IsBlank line.now }
+{
+    line.len() <= MAX_LINE_LEN && has_blanks_alone(line)
+}
+
+fn has_blanks_alone(line: &[u8]) -> bool
+    ensures { result ≡ list_all is_blank_byte line.now }
+{
+    line.iter().all(|b| is_blank_byte(*b))
+}
+
+fn is_blank_byte(byte: u8) -> bool
+    ensures { result ≡ is_blank_byte byte }
+{
+    byte == b' ' || byte == b'\t' || byte == b'\r'
+}
+
+impl<D: Disk> LineHandler for Handler<D> {
+    ghost use Rattle.krill_top.specs.Stands.{MayReply};
+
+    ghost answers = { MayReply D.Disk };
+
+    fn answer(
+        &mut self,
+        alloc: Global,
+        line: &[u8],
+        out: &mut Vec<u8>,
+    ) -> Result<bool, AllocError> {
+        if is_blank(line) {
+            return Ok(false);
+        }
+        self.answer_text(alloc, line, out)
+    }
+
+    fn refuse_long(&mut self, _alloc: Global, out: &mut Vec<u8>) -> Result<(), AllocError> {
+        append_bad_line(out)
+    }
+}
