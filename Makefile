@@ -25,6 +25,7 @@ bench:
 	python3 bench/reopen
 	python3 bench/objects
 	python3 bench/rrdp
+	python3 bench/board
 
 seconds:
 	python3 bench/gate

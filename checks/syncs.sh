@@ -1,6 +1,7 @@
 #!/bin/sh
 # Looks at the calls that the built program makes on the anchor's file: each write of a commit is synced before the
-# next call and before the reply. Skipped where the program isn't built, or where there is no strace that may trace.
+# next call and before the reply, also where a signal interrupts the syncs, and no command is accepted whose sync
+# fails. Skipped where the program isn't built, or where there is no strace that may trace.
 set -eu
 top=$(cd "$(dirname "$0")/.." && pwd)
 krillc=$top/crates/krillc/out/krillc
@@ -10,9 +11,12 @@ scratch=$(mktemp -d)
 trap 'rm -rf "$scratch"' EXIT
 cd "$scratch"
 
+# What strace puts in the place of some calls.
+tampering=
 # The calls of a run over these lines that change the anchor's file, sync it, or give a reply.
 calls_over() {
-    strace -y -o calls -e trace=pwrite64,write,ftruncate,fsync,fdatasync "$krillc" run <"$1" >replies
+    # shellcheck disable=SC2086
+    strace -y -o calls $tampering -e trace=pwrite64,write,ftruncate,fsync,fdatasync "$krillc" run <"$1" >replies
     sed -n \
         -e 's/^pwrite64([0-9]*<[^>]*\/desk-00>, .*, \([0-9]*\), \([0-9]*\)) *= [0-9]*$/write \1 at \2/p' \
         -e 's/^ftruncate([0-9]*<[^>]*\/desk-00>, .*$/cut/p' \
@@ -78,4 +82,41 @@ write 1 at 57
 sync
 reply
 CALLS
+
+# Each second sync is interrupted, and made again.
+tampering='-e inject=fsync,fdatasync:error=EINTR:when=1+2'
+expect_calls second <<'CALLS'
+sync
+sync
+write 41 at 99
+sync
+write 1 at 98
+sync
+reply
+write 41 at 140
+sync
+write 1 at 139
+sync
+reply
+CALLS
+[ "$(grep -c 'EINTR.*INJECTED' calls)" -ge 4 ] || { echo "checks/syncs: no sync was interrupted" >&2; exit 1; }
+
+# A sync of a commit that fails, the first or the second: opening makes two.
+cat >third <<'LINES'
+{"command":"roas update","ca":"ta","add":["10.2.0.0/16-24 => 64496"]}
+{"command":"roas update","ca":"ta","add":["10.3.0.0/16-24 => 64496"]}
+LINES
+for nth in 3 4; do
+    rm -rf failing
+    mkdir failing
+    cp -R krill-data failing/
+    (cd failing && strace -o ../calls -P "$here/failing/krill-data/desk-00" -e trace=fsync,fdatasync \
+        -e "inject=fsync,fdatasync:error=EIO:when=$nth" "$krillc" run <../third >../replies)
+    grep -q 'EIO.*INJECTED' calls || { echo "checks/syncs: no sync failed" >&2; exit 1; }
+    if grep -q accepted replies || ! head -n 1 replies | grep -q DiskFault || ! tail -n 1 replies | grep -q Shut; then
+        echo "checks/syncs: a sync that failed was taken for done:" >&2
+        cat replies >&2
+        exit 1
+    fi
+done
 echo "checks/syncs: ok"

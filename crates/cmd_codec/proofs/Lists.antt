@@ -1,175 +1,142 @@
--- Fields, lists and records that stand in bytes.
-use Rattle.std.proofs.Common.{◌≡◌, ℕ, ◌+◌, ◌-◌, ◌^◌, ◌≤◌, ◌<◌, inl, inr, ◌++◌, List, [], ◌∷◌, length, take, drop, Option, Some, None, Result, Ok, Err, refl, sym, ap, subst, ◌∙◌, arith, length-append}
-use Rattle.std.specs.Prelude.{MatchOption, MatchResult, IfOk}
-use Rattle.std.specs.Option.{ok_or}
-use Rattle.std.specs.Array.{IsFirstChunk}
+-- Lists of origins and of ranges, read one after another.
+use Rattle.std.proofs.Common.{◌≡◌, ℕ, suc, ◌+◌, ◌-◌, ◌<◌, List, [], ◌∷◌, ◌++◌, length, drop, refl, sym, ap, subst, ◌∙◌, append_assoc, append-nil, length-append, arith}
 use Rattle.std.specs.List.{flat_map}
-use Rattle.std.specs.Int.{w32, from_be_bytes, to_be_bytes}
-use Rattle.std.proofs.lemmas.List.{append-nil, length-take, length-drop, take_at, take_rest}
-use Rattle.std.proofs.lemmas.List.Concat.{flat_map-append}
-use Rattle.std.proofs.lemmas.List.Elements.{All-nil, All-push}
-use Rattle.std.proofs.lemmas.Nat.{be_bytes_4}
 use Rattle.origins.specs.declared.Origin.{Origin}
-use Rattle.authority_book.specs.declared.commands.Command.{Command}
-use Rattle.authority_book.specs.declared.commands.Command.TheVariants.{UpdateRoas}
+use Rattle.res_sets.specs.declared.numbers.Family.{Family}
+use Rattle.res_sets.specs.declared.numbers.Range.{Range}
+use Rattle.res_sets.specs.Merging.{room_from}
+use Rattle.res_sets.specs.Sets.{RangeSet, IsCanonical, GoesBehind, no_numbers, with_range}
+use Rattle.std.proofs.lemmas.Bool.{false≢true}
+use Rattle.res_sets.specs.Laws.{canonical_with}
 use Rattle.cmd_codec.specs.declared.faults.RecordFault.{RecordFault}
-use Rattle.cmd_codec.specs.declared.faults.RecordFault.TheVariants.{BadRecord, Memory}
-use Rattle.cmd_codec.specs.Spelling.{origin_spelling, counted_spelling, list_spelling, spelling, IsRecordable}
-use Rattle.cmd_codec.specs.Fault.{IsList, BeginsWithCount, BeginsWithOrigin, BeginsWith, IsFaultAt}
-use Rattle.cmd_codec.specs.Fault.Field.{FirstByte, AddedCount, AddedOrigin, RemovedCount, RemovedOrigin, End}
-use Rattle.cmd_codec.specs.Places.{Stands, AreRead, IsCutAt, IsListFault, IsListAt, FaultIs}
-use Rattle.cmd_codec.specs.Outcome.{IsUnlessMemory, Answers}
-use Rattle.cmd_codec.proofs.Numbers.{IsBytes, IsBytes-take, IsBytes-drop}
-use Rattle.cmd_codec.proofs.Spelled.{length-origin_spelling}
-use Rattle.cmd_codec.proofs.Standing.{stands_next, stands_then, stands_none}
-use Rattle.cmd_codec.proofs.Unique.{one_fault, no_fault}
-use Rattle.cmd_codec.proofs.Apart.{spelling_apart}
+use Rattle.cmd_codec.specs.Spelling.{origin_spelling, range_spelling}
+use Rattle.cmd_codec.specs.Fault.{Place, Way, and_then, field, front_128, is_origin, is_range, origin_fields, range_fields}
+use Rattle.cmd_codec.specs.Fault.Way.{Behind}
+use Rattle.cmd_codec.specs.Outcome.{IsFaultOf, Passes}
+use Rattle.cmd_codec.proofs.Ways.{fault_first, fault_alike}
 
--- ---- a count
+pub flat_push : {A : Type 0} (f : A → List ℕ) (xs : List A) (x : A) → flat_map f (xs ++ x ∷ []) ≡ flat_map f xs ++ f x
+flat_push f [] x = append-nil (f x)
+flat_push f (y ∷ xs) x = ap (λ (t : List ℕ). f y ++ t) (flat_push f xs x) ∙ sym (append_assoc (f y) (flat_map f xs) (f x))
 
-pub count_stands : (bytes field : List ℕ) (place n : ℕ) → IsBytes bytes → IsFirstChunk (drop place bytes) field 4 → n ≡ from_be_bytes w32 field → Stands bytes place (to_be_bytes w32 n) (place + 4)
-count_stands bytes field place n fits chunk is =
-    let long : 4 ≤ length bytes - place = omega (arith, chunk.enough, length-drop place bytes) in
-    let bytes_of : IsBytes field = subst IsBytes (sym chunk.same) (IsBytes-take 4 (drop place bytes) (IsBytes-drop place bytes fits)) in
-    let len : length field ≡ 4 = omega (arith, ap length chunk.same, length-take 4 (drop place bytes), length-drop place bytes) in
-    stands_next bytes place 4 (to_be_bytes w32 n) (omega arith) (be_bytes_4 field n len bytes_of is ∙ chunk.same)
+-- one more behind those that are read
+spelled_more : {A : Type 0} (f : A → List ℕ) (xs : List A) (x : A) (start here there : List ℕ) → start ≡ flat_map f xs ++ here → here ≡ f x ++ there → start ≡ flat_map f (xs ++ x ∷ []) ++ there
+spelled_more f xs x start here there before next =
+    before ∙ ap (λ (t : List ℕ). flat_map f xs ++ t) next ∙ sym (append_assoc (flat_map f xs) (f x) there)
+    ∙ ap (λ (t : List ℕ). t ++ there) (sym (flat_push f xs x))
 
--- Fewer than 4 bytes are no count.
-no_count : (bytes : List ℕ) (place : ℕ) → length bytes < place + 4 → ¬ BeginsWithCount (drop place bytes)
-no_count bytes place short = λ begins. absurd (omega (arith, ap length begins.spelled, length-drop place bytes))
+pub record OriginsSoFar (start here : Place) (count : ℕ) (items : List Origin) : Type 0 where
+  pub way : (n : ℕ) → origin_fields (n + count) start ≡ origin_fields n here
+  pub spelled : start.left ≡ flat_map origin_spelling items ++ here.left
+  pub size : length items ≡ count
 
--- ---- an origin
-
-pub short_origin : (bytes : List ℕ) → length bytes < 23 → ¬ BeginsWithOrigin bytes
-short_origin bytes short = λ begins. absurd (omega (arith, ap length begins.spelled, length-append (origin_spelling begins.origin) begins.rest, length-origin_spelling begins.origin))
-
--- What a field of 23 bytes comes to.
-pub origin_result : (bytes field : List ℕ) (place : ℕ) (r : Option Origin) → IsFirstChunk (drop place bytes) field 23 →
-    MatchOption r (¬ ((o : Origin) × (field ≡ origin_spelling o))) (λ o. (o.asn < 2 ^ 32) × (field ≡ origin_spelling o)) →
-    MatchResult (ok_or r (BadRecord place)) (λ o. (o.asn < 2 ^ 32) × Stands bytes place (origin_spelling o) (place + 23)) (λ fault. (fault ≡ BadRecord place) × ¬ BeginsWithOrigin (drop place bytes))
-origin_result bytes field place None chunk none =
-    (refl, λ begins. none (begins.origin, chunk.same ∙ ap (λ (b : List ℕ). take 23 b) begins.spelled ∙ take_at (origin_spelling begins.origin) begins.rest 23 (length-origin_spelling begins.origin)))
-origin_result bytes field place (Some o) chunk is =
-    (is.0, stands_next bytes place 23 (origin_spelling o) (omega (arith, chunk.enough, length-drop place bytes)) (sym is.1 ∙ chunk.same))
-
--- ---- origins, one after another
-
-pub reads_none : (bytes : List ℕ) (place : ℕ) → place ≤ length bytes → AreRead bytes place [] place
-reads_none bytes place inside = record { as_numbers = All-nil (λ o. o.asn < 2 ^ 32); stands = stands_none bytes place inside }
-
-pub reads_more : (bytes : List ℕ) (place next : ℕ) (os : List Origin) (o : Origin) → AreRead bytes place os next → o.asn < 2 ^ 32 → Stands bytes next (origin_spelling o) (next + 23) → AreRead bytes place (os ++ o ∷ []) (next + 23)
-reads_more bytes place next os o read fits stands =
-    let flat : flat_map origin_spelling (os ++ o ∷ []) ≡ flat_map origin_spelling os ++ origin_spelling o =
-    flat_map-append origin_spelling os (o ∷ []) ∙ ap (λ (t : List ℕ). flat_map origin_spelling os ++ t) (append-nil (origin_spelling o)) in
-    record {
-      as_numbers = All-push (λ x. x.asn < 2 ^ 32) os o read.as_numbers fits;
-      stands = subst (λ (t : List ℕ). Stands bytes place t (next + 23)) (sym flat) (stands_then bytes place (flat_map origin_spelling os) next (origin_spelling o) (next + 23) read.stands stands);
-    }
-
-pub cut_at : (bytes : List ℕ) (place next count : ℕ) (os : List Origin) → AreRead bytes place os next → length os < count → (¬ BeginsWithOrigin (drop next bytes)) → IsCutAt bytes place count next
-cut_at bytes place next count os read fewer bad = record { origins = os; fewer = fewer; stands = read.stands; bad = bad }
-
--- ---- a list
-
-pub list_stands : (bytes : List ℕ) (place first count high : ℕ) (os : List Origin) → Stands bytes place (to_be_bytes w32 count) first → length os ≡ count → count < 2 ^ 32 → AreRead bytes first os high → IsListAt bytes place os high
-unfolding counted_spelling
-list_stands bytes place first count high os stands len small read = record {
-  short = omega (arith, len);
-  as_numbers = read.as_numbers;
-  stands = subst (λ (k : ℕ). Stands bytes place (to_be_bytes w32 k ++ flat_map origin_spelling os) high) (sym len)
-      (stands_then bytes place (to_be_bytes w32 count) first (flat_map origin_spelling os) high stands read.stands);
+pub no_origins : (start : Place) → OriginsSoFar start start 0 []
+no_origins start = record {
+  way = λ n. let e : n + 0 ≡ n = omega arith in ap (λ (m : ℕ). origin_fields m start) e;
+  spelled = refl;
+  size = refl;
 }
 
-pub list_fault_count : (bytes : List ℕ) (place : ℕ) → length bytes < place + 4 → IsListFault bytes place place
-list_fault_count bytes place short = inl (refl, no_count bytes place short)
+one_origin : (n : ℕ) (here : Place) → origin_fields (suc n) here ≡ and_then (field 23 is_origin here) (origin_fields n)
+unfolding origin_fields
+one_origin n here = refl
 
-pub list_fault_origin : (bytes : List ℕ) (place first count at : ℕ) → Stands bytes place (to_be_bytes w32 count) first → count < 2 ^ 32 → IsCutAt bytes first count at → IsListFault bytes place at
-unfolding counted_spelling
-list_fault_origin bytes place first count at stands small cut =
-    inr (
-      to_be_bytes w32 count ++ flat_map origin_spelling cut.origins,
-      record { count = count; origins = cut.origins; small = small; fewer = cut.fewer; spelled = refl },
-      stands_then bytes place (to_be_bytes w32 count) first (flat_map origin_spelling cut.origins) at stands cut.stands,
-      cut.bad,
-    )
-
--- ---- a record
-
-pub first_is : (bytes : List ℕ) → BeginsWith FirstByte bytes → bytes ≡ 7 ∷ drop 1 bytes
-first_is bytes begins = begins.1 ∙ ap (λ (b : List ℕ). 7 ∷ drop 1 b) (sym begins.1)
-
-pub fault_added : (bytes : List ℕ) (at : ℕ) → bytes ≡ 7 ∷ drop 1 bytes → IsListFault bytes 1 at → IsFaultAt bytes at
-fault_added bytes at first (inl (place, bad)) = record { next = AddedCount; good = 7 ∷ []; rest = drop 1 bytes; parts = first; place = place; before = refl; bad = bad }
-fault_added bytes at first (inr (cut, is, stands, bad)) = record {
-  next = AddedOrigin;
-  good = 7 ∷ cut;
-  rest = drop at bytes;
-  parts = first ∙ ap (λ (b : List ℕ). 7 ∷ b) stands.here;
-  place = omega (arith, stands.size);
-  before = (cut, is, refl);
-  bad = bad;
+pub more_origins : (start here there : Place) (count : ℕ) (items : List Origin) (o : Origin) → OriginsSoFar start here count items
+    → Passes (origin_spelling o) (field 23 is_origin) here there → OriginsSoFar start there (count + 1) (items ++ o ∷ [])
+more_origins start here there count items o so_far passes = record {
+  way = λ n.
+      let e : n + (count + 1) ≡ suc n + count = omega arith in
+      ap (λ (m : ℕ). origin_fields m start) e ∙ so_far.way (suc n) ∙ one_origin n here ∙ ap (λ (w : Way). and_then w (origin_fields n)) passes.behind;
+  spelled = spelled_more origin_spelling items o start.left here.left there.left so_far.spelled passes.spelled;
+  size = omega (arith, length-append items (o ∷ []), so_far.size);
 }
 
-list_is : (os : List Origin) → length os < 2 ^ 32 → IsList (list_spelling os)
-list_is os short = record { origins = os; short = short; spelled = refl }
-
-pub fault_removed : (bytes : List ℕ) (mid at : ℕ) (added : List Origin) → bytes ≡ 7 ∷ drop 1 bytes → IsListAt bytes 1 added mid → IsListFault bytes mid at → IsFaultAt bytes at
-fault_removed bytes mid at added first list (inl (place, bad)) = record {
-  next = RemovedCount;
-  good = 7 ∷ list_spelling added;
-  rest = drop mid bytes;
-  parts = first ∙ ap (λ (b : List ℕ). 7 ∷ b) list.stands.here;
-  place = omega (arith, list.stands.size, place);
-  before = (list_spelling added, list_is added list.short, refl);
-  bad = bad;
+pub all_origins : (start here : Place) (count : ℕ) (items : List Origin) → OriginsSoFar start here count items → Passes (flat_map origin_spelling items) (origin_fields count) start here
+unfolding origin_fields
+all_origins start here count items so_far = record {
+  behind = let e : count ≡ 0 + count = omega arith in ap (λ (m : ℕ). origin_fields m start) e ∙ so_far.way 0 ∙ none here;
+  spelled = so_far.spelled;
 }
-fault_removed bytes mid at added first list (inr (cut, is, stands, bad)) = record {
-  next = RemovedOrigin;
-  good = 7 ∷ list_spelling added ++ cut;
-  rest = drop at bytes;
-  parts = first ∙ ap (λ (b : List ℕ). 7 ∷ b) (stands_then bytes 1 (list_spelling added) mid cut at list.stands stands).here;
-  place = omega (arith, (stands_then bytes 1 (list_spelling added) mid cut at list.stands stands).size);
-  before = (list_spelling added, cut, list_is added list.short, is, refl);
-  bad = bad;
+  where
+    none : (here : Place) → origin_fields 0 here ≡ Behind here
+    none here = refl
+
+pub bad_origin : (start here : Place) (done count : ℕ) (items : List Origin) (fault : RecordFault) → OriginsSoFar start here done items → done < count
+    → IsFaultOf (field 23 is_origin here) fault → IsFaultOf (origin_fields count start) fault
+bad_origin start here done count items fault so_far more bad =
+    let n : ℕ = count - done - 1 in
+    let e : count ≡ suc n + done = omega arith in
+    fault_alike (origin_fields count start) (and_then (field 23 is_origin here) (origin_fields n)) fault
+    (ap (λ (m : ℕ). origin_fields m start) e ∙ so_far.way (suc n) ∙ one_origin n here)
+    (fault_first (field 23 is_origin here) (origin_fields n) fault bad)
+
+pub record RangesSoFar (family : Family) (start here : Place) (count : ℕ) (set : RangeSet) : Type 0 where
+  pub way : (n : ℕ) → range_fields family (n + count) 0 start ≡ range_fields family n (room_from 0 set.ranges) here
+  pub spelled : start.left ≡ flat_map range_spelling set.ranges ++ here.left
+  pub size : length set.ranges ≡ count
+  pub family_is : set.family ≡ family
+  pub canonical : IsCanonical set
+
+none_canonical : (family : Family) → IsCanonical (no_numbers family)
+none_canonical family = record { rise = tt; within = λ n has. absurd (false≢true has) }
+
+pub no_ranges : (family : Family) (start : Place) (set : RangeSet) → set ≡ no_numbers family → RangesSoFar family start start 0 set
+no_ranges family start set is = subst (λ (s : RangeSet). RangesSoFar family start start 0 s) (sym is) (record {
+  way = λ n. let e : n + 0 ≡ n = omega arith in ap (λ (m : ℕ). range_fields family m 0 start) e;
+  spelled = refl;
+  size = refl;
+  family_is = refl;
+  canonical = none_canonical family;
+})
+
+one_range : (family : Family) (n low : ℕ) (here : Place) → range_fields family (suc n) low here
+    ≡ and_then (field 32 (is_range family low) here) (range_fields family n (front_128 (drop 16 here.left) + 2))
+unfolding range_fields
+one_range family n low here = refl
+
+room_behind : (low : ℕ) (xs : List Range) (x : Range) → room_from low (xs ++ x ∷ []) ≡ x.last + 2
+room_behind low [] x = refl
+room_behind low (r ∷ rs) x = room_behind (r.last + 2) rs x
+
+pub more_ranges : (family : Family) (start here there : Place) (count : ℕ) (set after : RangeSet) (range : Range) → RangesSoFar family start here count set
+    → GoesBehind set range → after ≡ with_range set range → range.last ≡ front_128 (drop 16 here.left)
+    → Passes (range_spelling range) (field 32 (is_range set.family (room_from 0 set.ranges))) here there → RangesSoFar family start there (count + 1) after
+more_ranges family start here there count set after range so_far behind after_is last_is passes =
+    subst (λ (s : RangeSet). RangesSoFar family start there (count + 1) s) (sym after_is) (record {
+      way = λ n.
+          let low : ℕ = room_from 0 set.ranges in
+          let e : n + (count + 1) ≡ suc n + count = omega arith in
+          let next : ℕ = front_128 (drop 16 here.left) + 2 in
+          let room : next ≡ room_from 0 (set.ranges ++ range ∷ []) = ap (λ (m : ℕ). m + 2) (sym last_is) ∙ sym (room_behind 0 set.ranges range) in
+          ap (λ (m : ℕ). range_fields family m 0 start) e ∙ so_far.way (suc n) ∙ one_range family n low here
+          ∙ ap (λ (f : Family). and_then (field 32 (is_range f low) here) (range_fields family n next)) (sym so_far.family_is)
+          ∙ ap (λ (w : Way). and_then w (range_fields family n next)) passes.behind
+          ∙ ap (λ (m : ℕ). range_fields family n m there) room;
+      spelled = spelled_more range_spelling set.ranges range start.left here.left there.left so_far.spelled passes.spelled;
+      size = omega (arith, length-append set.ranges (range ∷ []), so_far.size);
+      family_is = so_far.family_is;
+      canonical = canonical_with set range so_far.canonical behind;
+    })
+
+pub all_ranges : (family : Family) (start here : Place) (count : ℕ) (set : RangeSet) → RangesSoFar family start here count set
+    → Passes (flat_map range_spelling set.ranges) (range_fields family count 0) start here
+unfolding range_fields
+all_ranges family start here count set so_far = record {
+  behind = let e : count ≡ 0 + count = omega arith in ap (λ (m : ℕ). range_fields family m 0 start) e ∙ so_far.way 0 ∙ none (room_from 0 set.ranges) here;
+  spelled = so_far.spelled;
 }
+  where
+    none : (low : ℕ) (here : Place) → range_fields family 0 low here ≡ Behind here
+    none low here = refl
 
-pub fault_end : (bytes : List ℕ) (mid at : ℕ) (added removed : List Origin) → bytes ≡ 7 ∷ drop 1 bytes → IsListAt bytes 1 added mid → IsListAt bytes mid removed at → at < length bytes → IsFaultAt bytes at
-fault_end bytes mid at added removed first one other more =
-    let both = stands_then bytes 1 (list_spelling added) mid (list_spelling removed) at one.stands other.stands in
-    record {
-      next = End;
-      good = 7 ∷ list_spelling added ++ list_spelling removed;
-      rest = drop at bytes;
-      parts = first ∙ ap (λ (b : List ℕ). 7 ∷ b) both.here;
-      place = omega (arith, both.size);
-      before = (UpdateRoas added removed, (one.short, other.short), refl);
-      bad = λ none. absurd (omega (arith, ap length none, length-drop at bytes));
-    }
-
--- ---- what reading answers
-
-pub is_found : (bytes : List ℕ) (r : Result Command RecordFault) → Answers bytes r → IfOk r (λ command. IsRecordable command × (bytes ≡ spelling command))
-is_found bytes (Ok command) answers = answers
-is_found bytes (Err fault) answers = tt
-
-pub is_only : (bytes : List ℕ) (r : Result Command RecordFault) → Answers bytes r → (command : Command) → IsRecordable command → bytes ≡ spelling command → IsUnlessMemory r (Ok command)
-is_only bytes (Ok found) answers command is e = ap (λ (c : Command). Ok c) (spelling_apart found command answers.0 is (sym answers.1 ∙ e))
-is_only bytes (Err (BadRecord at)) answers command is e = absurd (no_fault bytes at command is.short e answers)
-is_only bytes (Err Memory) answers command is e = tt
-
-pub is_bad : (bytes : List ℕ) (r : Result Command RecordFault) → Answers bytes r → (at : ℕ) → r ≡ Err (BadRecord at) → IsFaultAt bytes at
-is_bad bytes r answers at e = subst (λ (x : Result Command RecordFault). Answers bytes x) e answers
-
-pub is_bad_only : (bytes : List ℕ) (r : Result Command RecordFault) → Answers bytes r → (at : ℕ) → IsFaultAt bytes at → IsUnlessMemory r (Err (BadRecord at))
-is_bad_only bytes (Ok found) answers at fault = absurd (no_fault bytes at found answers.0.short answers.1 fault)
-is_bad_only bytes (Err (BadRecord here)) answers at fault = ap (λ (n : ℕ). Err (BadRecord n)) (one_fault bytes here at answers fault)
-is_bad_only bytes (Err Memory) answers at fault = tt
-
--- A fault of one kind is one of another.
-pub fault_then : (P Q : ℕ → Type 0) (fault : RecordFault) → FaultIs P fault → ((at : ℕ) → P at → Q at) → FaultIs Q fault
-fault_then P Q (BadRecord at) is then = then at is
-fault_then P Q Memory is then = tt
-
--- The front of the bytes from a place on.
-pub chunk_of : (bytes field : List ℕ) (place size : ℕ) → IsFirstChunk (take (length bytes - place) (drop place bytes)) field size → IsFirstChunk (drop place bytes) field size
-chunk_of bytes field place size chunk = subst (λ (b : List ℕ). IsFirstChunk b field size) (take_rest bytes place) chunk
+pub bad_range : (family : Family) (start here : Place) (done count : ℕ) (set : RangeSet) (fault : RecordFault) → RangesSoFar family start here done set → done < count
+    → IsFaultOf (field 32 (is_range set.family (room_from 0 set.ranges)) here) fault → IsFaultOf (range_fields family count 0 start) fault
+bad_range family start here done count set fault so_far more bad =
+    let low : ℕ = room_from 0 set.ranges in
+    let n : ℕ = count - done - 1 in
+    let next : ℕ = front_128 (drop 16 here.left) + 2 in
+    let e : count ≡ suc n + done = omega arith in
+    fault_alike (range_fields family count 0 start) (and_then (field 32 (is_range set.family low) here) (range_fields family n next)) fault
+    (ap (λ (m : ℕ). range_fields family m 0 start) e ∙ so_far.way (suc n) ∙ one_range family n low here
+    ∙ ap (λ (f : Family). and_then (field 32 (is_range f low) here) (range_fields family n next)) (sym so_far.family_is))
+    (fault_first (field 32 (is_range set.family low) here) (range_fields family n next) fault bad)

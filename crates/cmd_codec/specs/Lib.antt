@@ -1,4 +1,3 @@
 pub mod Spelling
 pub mod Fault
-pub mod Places
 pub mod Outcome

@@ -1,10 +1,31 @@
 //! What records are made of.
 
-/// The first byte of a command that changes route origins.
+pub const ADD: u8 = 1;
+
+pub const DELETE: u8 = 2;
+
+pub const ADD_PARENT: u8 = 3;
+
+pub const ADD_CHILD: u8 = 4;
+
+pub const UPDATE_CHILD: u8 = 5;
+
+pub const REMOVE_CHILD: u8 = 6;
+
 pub const UPDATE_ROAS: u8 = 7;
 
-/// How many bytes a count has.
-pub const COUNT_SIZE: usize = 4;
+pub const SUSPEND_CHILD: u8 = 8;
+
+pub const UNSUSPEND_CHILD: u8 = 9;
+
+/// How many bytes a number, a length or a count has.
+pub const NUMBER_SIZE: usize = 4;
 
 /// How many bytes an origin has.
 pub const ORIGIN_SIZE: usize = 23;
+
+/// How many bytes a range has.
+pub const RANGE_SIZE: usize = 32;
+
+/// The greatest length of a name.
+pub const NAME_LEN: u32 = 64;

@@ -1,17 +1,33 @@
 //! Accepted commands as records of bytes.
 //!
-//! A record is the byte 7, the number of added origins in 4 bytes and the origins, and the number
-//! of removed origins in 4 bytes and the origins. An origin has 23 bytes: its family (1 for IPv6, 0
-//! for IPv4), its address in 16 bytes, its length, its maximum length, and its AS number in 4
+//! A record is a first byte, which says which command it is, and the command's parts in their order:
+//!
+//! | first byte | command | parts |
+//! |---|---|---|
+//! | 1 | `Add` | name, signer |
+//! | 2 | `Delete` | none |
+//! | 3 | `AddParent` | parent |
+//! | 4, 5 | `AddChild`, `UpdateChild` | child, AS numbers, IPv4 and IPv6 addresses |
+//! | 6 | `RemoveChild` | child |
+//! | 7 | `UpdateRoas` | added origins, removed origins |
+//! | 8, 9 | `SuspendChild`, `UnsuspendChild` | child |
+//!
+//! A name is its length in 4 bytes and its bytes. Numbers are a count in 4 bytes and for each range its
+//! first and last in 16 bytes each. Origins are a count in 4 bytes and 23 bytes each: the family (1 for
+//! IPv6, 0 for IPv4), the address in 16 bytes, the length, the maximum length, and the AS number in 4
 //! bytes. All numbers are big-endian.
 #![tactic(auto)]
 
+mod big_endian;
+mod cursor;
 mod faults;
+mod fields;
 mod format;
 mod origin_field;
+mod parts;
 mod reading;
 mod writing;
 
 pub use faults::RecordFault;
 pub use reading::read;
-pub use writing::{spelled_apart, write};
+pub use writing::{record_len, spelled_apart, write};

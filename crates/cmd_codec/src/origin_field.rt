@@ -1,28 +1,28 @@
 //! The field of an origin.
 
-ghost use Rattle.std.specs.Prelude.{◌≡◌, ◌↔◌, ◌%◌, ◌<◌, ◌^◌, ◌≤◌, Bool, IsTrue, MatchOption};
-ghost use Rattle.origins.specs.Prefix.{IsPrefix, IsMaximum, address_bits};
-ghost use Rattle.origins.specs.declared.Origin.{Origin};
-ghost use Rattle.cmd_codec.specs.Spelling.{family, origin_spelling};
-ghost use Rattle.cmd_codec.specs.Places.{IsOrigin, HasNumbers};
+ghost use Rattle.std.specs.Prelude.{◌≡◌, ◌==◌, ◌<◌, ◌≤◌, ◌^◌, Bool, true, false, get_or, nat_le, drop, length, IsTrue, MatchOption};
+ghost use Rattle.cmd_codec.specs.Spelling.{origin_spelling};
+ghost use Rattle.cmd_codec.specs.Fault.{is_origin, are_of_origin};
 
-use crate::format::ORIGIN_SIZE;
+use crate::big_endian::{number_of, wide_number_at};
 use origins::{Origin, Prefix};
 
 /// The origin that the field spells, if it spells one.
-pub fn origin_of(field: &[u8; ORIGIN_SIZE]) -> Option<Origin>
-    ensures { MatchOption result (¬ ((origin : Origin) × (field.now ≡ origin_spelling origin)))
-        (λ origin. (origin.asn < 2 ^ 32) × (field.now ≡ origin_spelling origin)) }
+pub fn origin_of(field: &[u8]) -> Option<Origin>
+    requires { length field.now ≡ 23 }
+    ensures { MatchOption result (is_origin field.now ≡ false)
+        (λ origin. (is_origin field.now ≡ true) × (field.now ≡ origin_spelling origin)) }
 {
     let v6 = family_of(field[0])?;
-    let address = u128::from_be_bytes(*field[1..].first_chunk().unwrap());
-    let asn = u32::from_be_bytes(*field[19..].first_chunk().unwrap());
+    let address = wide_number_at(field, 1);
+    let asn = number_of(&field[19..]);
     origin_with(v6, address, field[17], field[18], asn)
 }
 
 // The family that the byte spells, if it spells one.
 fn family_of(byte: u8) -> Option<bool>
-    ensures { MatchOption result (¬ ((v6 : Bool) × (byte ≡ family v6))) (λ v6. byte ≡ family v6) }
+    ensures { MatchOption result (nat_le byte 1 ≡ false)
+        (λ v6. (nat_le byte 1 ≡ true) × (v6 ≡ (byte == 1))) }
 {
     match byte {
         0 => Some(false),
@@ -33,50 +33,9 @@ fn family_of(byte: u8) -> Option<bool>
 
 // The origin of these numbers, if they are those of one.
 fn origin_with(v6: bool, address: u128, length: u8, max: u8, asn: u32) -> Option<Origin>
-    ensures { MatchOption result (¬ IsOrigin v6 address length max)
-        (λ origin. HasNumbers origin v6 address length max asn) }
+    ensures { MatchOption result (are_of_origin v6 address length max ≡ false)
+        (λ o. (are_of_origin v6 address length max ≡ true) × (o.prefix.v6 ≡ v6)
+        × (o.prefix.address ≡ address) × (o.prefix.length ≡ length) × (o.max ≡ max) × (o.asn ≡ asn)) }
 {
-    if !is_prefix(v6, address, length) || !is_maximum(v6, length, max) {
-        return None;
-    }
-    let prefix = Prefix {
-        v6,
-        address,
-        length,
-    };
-    Some(Origin { prefix, max, asn })
-}
-
-// Whether the address is of the family, and no bit of it below the length is set.
-fn is_prefix(v6: bool, address: u128, length: u8) -> bool
-    ensures { IsTrue result ↔ IsPrefix v6 address length }
-{
-    let bits = family_bits(v6);
-    length <= bits
-        && (v6 || address <= u128::from(u32::MAX))
-        && ends_in_zeros(address, bits - length)
-}
-
-// Whether the maximum length is from the length to the family's.
-fn is_maximum(v6: bool, length: u8, max: u8) -> bool
-    ensures { IsTrue result ↔ IsMaximum v6 length max }
-{
-    length <= max && max <= family_bits(v6)
-}
-
-// How many bits an address of the family has.
-fn family_bits(v6: bool) -> u8
-    ensures { result ≡ address_bits v6 }
-{
-    if v6 { 128 } else { 32 }
-}
-
-// Whether that many low bits of the address are 0.
-fn ends_in_zeros(address: u128, count: u8) -> bool
-    ensures { IsTrue result ↔ (address % 2 ^ count ≡ 0) }
-{
-    match 2u128.checked_pow(u32::from(count)) {
-        Some(block) => address % block == 0,
-        None => address == 0,
-    }
+    Origin::new(Prefix::new(v6, address, length)?, max, asn)
 }

@@ -10,7 +10,7 @@ use Rattle.authority_book.specs.declared.commands.Command.{Command}
 use Rattle.authority_book.specs.Settings.{Settings}
 use Rattle.authority_book.specs.Fold.{after, after_all, fold_of, empty_settings, Taken}
 use Rattle.cmd_codec.specs.Spelling.{spelling, IsRecordable}
-use Rattle.gate_journal.specs.View.{View, StandsForOrDoubt, stake_of, IsSameButRoom}
+use Rattle.gate_journal.specs.View.{View, RecoversToInDoubt, stake_of, IsSameButRoom}
 use Rattle.gate_journal.specs.View.{IsSafe as IsSafeJournal}
 use Rattle.gate_journal.specs.Answers.{IsAppendFault}
 use Rattle.gate_journal.specs.declared.fault.AppendFault.{AppendFault}
@@ -19,7 +19,7 @@ use Rattle.desk_core.specs.View.{journal_limit}
 use Rattle.desk_core.specs.View as desk
 use Rattle.desk_core.specs.Answers.{HasPlace, IsDeskFault, fault_of}
 use Rattle.desk_core.specs.Commands.{Records, HasCommands}
-use Rattle.desk_core.specs.Images.{Holds, HoldsTold, IsSafe}
+use Rattle.desk_core.specs.Images.{RecoversTo, RecoversToKnown, IsSafe}
 use Rattle.desk_core.specs.Kept.{IsKept, IsLoaded}
 use Rattle.disk_api.specs.RunLaws.{weaker}
 use Rattle.disk_api.specs.declared.disk.Disk.{Ghosts as DiskGhosts}
@@ -30,49 +30,49 @@ abbrev pub desk_of : {D : Type 0} → ℕ → Settings → List (List ℕ) → V
 desk_of number settings records j = record { disk = j.disk; number = number; settings = settings; records = records; shut = j.shut; doubt = j.doubt }
 
 -- what the journal's disk holds, the desk's does
-told_doubt : (content : Option (List ℕ)) (limit : ℕ) (shown : Option (List (List ℕ))) (records : List (List ℕ)) (doubt : Option (List ℕ)) (file : List ℕ) → limit ≡ journal_limit →
-    IfSome content (λ _. IsSome shown) → IfSome shown (λ all. all ≡ records) → StandsForOrDoubt limit shown doubt file → HoldsTold content records doubt file
-told_doubt None limit shown records doubt file is known same stands = tt
-told_doubt (Some bytes) limit None records doubt file is known same stands = cc
-told_doubt (Some bytes) limit (Some all) records doubt file is known same stands =
-    subst (λ (n : ℕ). StandsForOrDoubt n (Some records) doubt file) is (subst (λ (r : List (List ℕ)). StandsForOrDoubt limit (Some r) doubt file) same stands)
+known_doubt : (content : Option (List ℕ)) (limit : ℕ) (shown : Option (List (List ℕ))) (records : List (List ℕ)) (doubt : Option (List ℕ)) (file : List ℕ) → limit ≡ journal_limit →
+    IfSome content (λ _. IsSome shown) → IfSome shown (λ all. all ≡ records) → RecoversToInDoubt limit shown doubt file → RecoversToKnown content records doubt file
+known_doubt None limit shown records doubt file is known same stands = tt
+known_doubt (Some bytes) limit None records doubt file is known same stands = cc
+known_doubt (Some bytes) limit (Some all) records doubt file is known same stands =
+    subst (λ (n : ℕ). RecoversToInDoubt n (Some records) doubt file) is (subst (λ (r : List (List ℕ)). RecoversToInDoubt limit (Some r) doubt file) same stands)
 
-told_bytes : (content : Option (List ℕ)) (limit : ℕ) (shown : Option (List (List ℕ))) (records : List (List ℕ)) (doubt : Option (List ℕ)) → limit ≡ journal_limit →
-    IfSome content (λ _. IsSome shown) → IfSome shown (λ all. all ≡ records) → IfSome content (λ bytes. StandsForOrDoubt limit shown doubt bytes) → IfSome content (Holds records doubt)
-told_bytes None limit shown records doubt is known same stands = tt
-told_bytes (Some bytes) limit shown records doubt is known same stands = told_doubt (Some bytes) limit shown records doubt bytes is known same stands
+known_bytes : (content : Option (List ℕ)) (limit : ℕ) (shown : Option (List (List ℕ))) (records : List (List ℕ)) (doubt : Option (List ℕ)) → limit ≡ journal_limit →
+    IfSome content (λ _. IsSome shown) → IfSome shown (λ all. all ≡ records) → IfSome content (λ bytes. RecoversToInDoubt limit shown doubt bytes) → IfSome content (RecoversTo records doubt)
+known_bytes None limit shown records doubt is known same stands = tt
+known_bytes (Some bytes) limit shown records doubt is known same stands = known_doubt (Some bytes) limit shown records doubt bytes is known same stands
 
 pub safe_of : {D : Type 0} (disk_of : DiskGhosts D) (number : ℕ) (settings : Settings) (body : List ℕ) (journal : View D) → IsKept disk_of number settings body journal →
     IsSafe disk_of (desk_of number settings (payloads journal.sizes body) journal)
 safe_of disk_of number settings body journal kept = let records = payloads journal.sizes body in record {
-  bytes = told_bytes (disk_of.content journal.disk) journal.limit journal.records records journal.doubt kept.limit kept.safe.told kept.told kept.safe.bytes;
-  images = λ c left. told_doubt (disk_of.content journal.disk) journal.limit journal.records records journal.doubt c kept.limit kept.safe.told kept.told (kept.safe.images c left);
+  bytes = known_bytes (disk_of.content journal.disk) journal.limit journal.records records journal.doubt kept.limit kept.safe.known kept.known kept.safe.bytes;
+  images = λ c left. known_doubt (disk_of.content journal.disk) journal.limit journal.records records journal.doubt c kept.limit kept.safe.known kept.known (kept.safe.images c left);
   settled = kept.safe.settled;
 }
 
 -- what is left between commits may be left during one
-pub stake_holds : (content : Option (List ℕ)) (records : List (List ℕ)) (shut : Option (ℕ × ℕ)) (doubt : Option (List ℕ)) (payload file : List ℕ) → (shut ≡ None → doubt ≡ None) → HoldsTold content records doubt file →
-    HoldsTold content records (stake_of shut doubt payload) file
+pub stake_holds : (content : Option (List ℕ)) (records : List (List ℕ)) (shut : Option (ℕ × ℕ)) (doubt : Option (List ℕ)) (payload file : List ℕ) → (shut ≡ None → doubt ≡ None) → RecoversToKnown content records doubt file →
+    RecoversToKnown content records (stake_of shut doubt payload) file
 stake_holds None records shut doubt payload file settled holds = tt
-stake_holds (Some bytes) records None doubt payload file settled holds = inl (subst (λ (o : Option (List ℕ)). Holds records o file) (settled refl) holds)
+stake_holds (Some bytes) records None doubt payload file settled holds = inl (subst (λ (o : Option (List ℕ)). RecoversTo records o file) (settled refl) holds)
 stake_holds (Some bytes) records (Some rose) doubt payload file settled holds = holds
 
 -- each moment of an append is one of the desk's
 pub moments : {D : Type 0} (disk_of : DiskGhosts D)
     (number : ℕ) (settings : Settings) (body : List ℕ) (command : Command) (payload : List ℕ) (old mid new : View D) → IsKept disk_of number settings body old →
     IsSameButRoom old mid → payload ≡ spelling command →
-    LeavesOnly disk_of mid.disk new.disk (StandsForOrDoubt mid.limit mid.records (stake_of mid.shut mid.doubt payload)) →
-    LeavesOnly disk_of old.disk new.disk (HoldsTold (disk_of.content old.disk) (payloads old.sizes body) (stake_of old.shut old.doubt (spelling command)))
+    LeavesOnly disk_of mid.disk new.disk (RecoversToInDoubt mid.limit mid.records (stake_of mid.shut mid.doubt payload)) →
+    LeavesOnly disk_of old.disk new.disk (RecoversToKnown (disk_of.content old.disk) (payloads old.sizes body) (stake_of old.shut old.doubt (spelling command)))
 moments disk_of number settings body command payload old mid new kept same spelled any =
     let records = payloads old.sizes body in
-    let mine = subst (λ (j : View _). LeavesOnly disk_of j.disk new.disk (StandsForOrDoubt j.limit j.records (stake_of j.shut j.doubt payload))) same any in
-    weaker disk_of old.disk new.disk (StandsForOrDoubt old.limit old.records (stake_of old.shut old.doubt payload)) (HoldsTold (disk_of.content old.disk) records (stake_of old.shut old.doubt (spelling command))) mine
-    (λ c stands. told_doubt (disk_of.content old.disk) old.limit old.records records (stake_of old.shut old.doubt (spelling command)) c kept.limit kept.safe.told kept.told (subst (λ (p : List ℕ). StandsForOrDoubt old.limit old.records (stake_of old.shut old.doubt p) c) spelled stands))
+    let mine = subst (λ (j : View _). LeavesOnly disk_of j.disk new.disk (RecoversToInDoubt j.limit j.records (stake_of j.shut j.doubt payload))) same any in
+    weaker disk_of old.disk new.disk (RecoversToInDoubt old.limit old.records (stake_of old.shut old.doubt payload)) (RecoversToKnown (disk_of.content old.disk) records (stake_of old.shut old.doubt (spelling command))) mine
+    (λ c stands. known_doubt (disk_of.content old.disk) old.limit old.records records (stake_of old.shut old.doubt (spelling command)) c kept.limit kept.safe.known kept.known (subst (λ (p : List ℕ). RecoversToInDoubt old.limit old.records (stake_of old.shut old.doubt p) c) spelled stands))
 
-told_push : (old new : Option (List (List ℕ))) (records : List (List ℕ)) (payload : List ℕ) → IfSome old (λ all. all ≡ records) →
+known_push : (old new : Option (List (List ℕ))) (records : List (List ℕ)) (payload : List ℕ) → IfSome old (λ all. all ≡ records) →
     new ≡ option_map (λ all. all ++ payload ∷ []) old → IfSome new (λ all. all ≡ records ++ payload ∷ [])
-told_push None new records payload same is = subst (λ (o : Option (List (List ℕ))). IfSome o (λ all. all ≡ records ++ payload ∷ [])) (sym is) tt
-told_push (Some all) new records payload same is = subst (λ (o : Option (List (List ℕ))). IfSome o (λ all. all ≡ records ++ payload ∷ [])) (sym is) (ap (λ (r : List (List ℕ)). r ++ payload ∷ []) same)
+known_push None new records payload same is = subst (λ (o : Option (List (List ℕ))). IfSome o (λ all. all ≡ records ++ payload ∷ [])) (sym is) tt
+known_push (Some all) new records payload same is = subst (λ (o : Option (List (List ℕ))). IfSome o (λ all. all ≡ records ++ payload ∷ [])) (sym is) (ap (λ (r : List (List ℕ)). r ++ payload ∷ []) same)
 
 -- the records with one more
 pub records_more : {D : Type 0} (body more payload : List ℕ) (old mid new : View D) → length body ≡ taken_by old.sizes → IsSameButRoom old mid → new.sizes ≡ mid.sizes ++ length payload ∷ [] → more ≡ body ++ spelled (payload ∷ []) →
@@ -90,17 +90,17 @@ kept_push disk_of number settings next body more payload old mid new kept same a
     let records = records_more body more payload old mid new kept.size same sizes pushed in
     record {
       loaded = subst (λ (r : List (List ℕ)). IsLoaded number next r) (sym records) loaded;
-      told = subst (λ (r : List (List ℕ)). IfSome new.records (λ all. all ≡ r)) (sym records)
-          (told_push old.records new.records (payloads old.sizes body) payload kept.told (appended ∙ ap (λ (j : View _). option_map (λ (all : List (List ℕ)). all ++ payload ∷ []) j.records) same));
+      known = subst (λ (r : List (List ℕ)). IfSome new.records (λ all. all ≡ r)) (sym records)
+          (known_push old.records new.records (payloads old.sizes body) payload kept.known (appended ∙ ap (λ (j : View _). option_map (λ (all : List (List ℕ)). all ++ payload ∷ []) j.records) same));
       size = omega (arith, ap (λ (l : List ℕ). length l) pushed, length-append body (spelled (payload ∷ [])), length-one payload, kept.size, ap taken_by (sizes ∙ ap (λ (j : View _). j.sizes ++ length payload ∷ []) same), taken-push old.sizes (length payload));
       limit = limit ∙ (ap (λ (j : View _). j.limit) same ∙ kept.limit);
       safe = safe;
     }
 
--- what is held where the disk told it before, it told
-pub held_before : (old now : Option (List ℕ)) (f : List ℕ → List ℕ) (records : List (List ℕ)) (doubt : Option (List ℕ)) (file : List ℕ) → now ≡ option_map f old → HoldsTold now records doubt file → HoldsTold old records doubt file
+-- a disk that is known now was known before
+pub held_before : (old now : Option (List ℕ)) (f : List ℕ → List ℕ) (records : List (List ℕ)) (doubt : Option (List ℕ)) (file : List ℕ) → now ≡ option_map f old → RecoversToKnown now records doubt file → RecoversToKnown old records doubt file
 held_before None now f records doubt file is holds = tt
-held_before (Some bytes) now f records doubt file is holds = subst (λ (o : Option (List ℕ)). HoldsTold o records doubt file) is holds
+held_before (Some bytes) now f records doubt file is holds = subst (λ (o : Option (List ℕ)). RecoversToKnown o records doubt file) is holds
 
 -- the sizes of its records
 pub kept_sizes : {D : Type 0} (disk_of : DiskGhosts D) (number : ℕ) (settings : Settings) (body : List ℕ) (journal : View D) → IsKept disk_of number settings body journal →

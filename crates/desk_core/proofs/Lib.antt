@@ -1,4 +1,5 @@
 pub mod Recorded
+mod Refusals
 pub mod Loading
 pub mod Listed
 pub mod Committed

@@ -28,11 +28,11 @@ pub one_more : (all : List (List ℕ)) (payload : List ℕ) (index : ℕ) → sl
 one_more all payload index there =
     ap (λ (p : List ℕ). take index all ++ p ∷ []) (sym (get_or_from_slice_get all index payload [] there)) ∙ sym (take_more all index [] (slice_get_within all index payload there))
 
--- the payloads in what was read are the records, where these are told
-pub told_payloads : (shown : Option (List (List ℕ))) (sizes body : List ℕ) → IfSome shown (λ all. sizes ≡ map length all) → IfSome shown (λ all. body ≡ spelled all) → IfSome shown (λ all. all ≡ payloads sizes body)
-told_payloads None sizes body sizes_are read = tt
-told_payloads (Some all) sizes body sizes_are read = sym (ap (λ (l : List ℕ). payloads l body) sizes_are ∙ ap (λ (l : List ℕ). payloads (map length all) l) read ∙ payloads-spelled all)
+-- the payloads in what was read are the records, where these are known
+pub known_payloads : (shown : Option (List (List ℕ))) (sizes body : List ℕ) → IfSome shown (λ all. sizes ≡ map length all) → IfSome shown (λ all. body ≡ spelled all) → IfSome shown (λ all. all ≡ payloads sizes body)
+known_payloads None sizes body sizes_are read = tt
+known_payloads (Some all) sizes body sizes_are read = sym (ap (λ (l : List ℕ). payloads l body) sizes_are ∙ ap (λ (l : List ℕ). payloads (map length all) l) read ∙ payloads-spelled all)
 
-pub bad_told : (shown : Option (List (List ℕ))) (number at : ℕ) (found : List (List ℕ)) → IfSome shown (λ all. all ≡ found) → IsFirstBad number found at → IfSome shown (λ all. IsFirstBad number all at)
-bad_told None number at found same bad = tt
-bad_told (Some all) number at found same bad = subst (λ (l : List (List ℕ)). IsFirstBad number l at) (sym same) bad
+pub bad_known : (shown : Option (List (List ℕ))) (number at : ℕ) (found : List (List ℕ)) → IfSome shown (λ all. all ≡ found) → IsFirstBad number found at → IfSome shown (λ all. IsFirstBad number all at)
+bad_known None number at found same bad = tt
+bad_known (Some all) number at found same bad = subst (λ (l : List (List ℕ)). IsFirstBad number l at) (sym same) bad

@@ -3,8 +3,8 @@ use Rattle.std.proofs.Common.{◌≡◌, ◌≤◌, ℕ, Bool, Option, Some, Non
 use Rattle.std.specs.Prelude.{IfSome}
 use Rattle.std.specs.Option.{option_map}
 use Rattle.std.proofs.lemmas.Bool.{le-leb, lt-leb}
-use Rattle.disk_api.specs.Content.{BothTold}
-use Rattle.gate_journal.specs.Format.{stands_for, damaged_at, opened, file_of, IsUnopened}
+use Rattle.disk_api.specs.Content.{BothKnown}
+use Rattle.gate_journal.specs.Format.{recovered, damaged_at, opened, file_of, IsUnopened}
 use Rattle.gate_journal.specs.declared.fault.JournalFault.{JournalFault}
 use Rattle.gate_journal.specs.declared.fault.JournalFault.TheVariants.{DiskFault, Damaged, Memory}
 use Rattle.desk_core.specs.View.{journal_limit}
@@ -18,10 +18,10 @@ from_damaged (Damaged place) at e = cc
 from_damaged Memory at e = cc
 
 -- the first bad record of the journal is that of the file
-pub bad_told : (content : Option (List ℕ)) (shown : Option (List (List ℕ))) (number at : ℕ) → shown ≡ option_map stands_for content → IfSome content (λ bytes. damaged_at journal_limit bytes ≡ None) →
-    IfSome shown (λ all. IsFirstBad number all at) → IfSome content (λ bytes. (damaged_at journal_limit bytes ≡ None) × IsFirstBad number (stands_for bytes) at)
-bad_told None shown number at is whole bad = tt
-bad_told (Some bytes) shown number at is whole bad = (whole, subst (λ (o : Option (List (List ℕ))). IfSome o (λ all. IsFirstBad number all at)) is bad)
+pub bad_known : (content : Option (List ℕ)) (shown : Option (List (List ℕ))) (number at : ℕ) → shown ≡ option_map recovered content → IfSome content (λ bytes. damaged_at journal_limit bytes ≡ None) →
+    IfSome shown (λ all. IsFirstBad number all at) → IfSome content (λ bytes. (damaged_at journal_limit bytes ≡ None) × IsFirstBad number (recovered bytes) at)
+bad_known None shown number at is whole bad = tt
+bad_known (Some bytes) shown number at is whole bad = (whole, subst (λ (o : Option (List (List ℕ))). IfSome o (λ all. IsFirstBad number all at)) is bad)
 
 opened_long : (bytes : List ℕ) → 18 ≤ length bytes → opened bytes ≡ bytes
 opened_long bytes long = ap (λ (b : Bool). cond b bytes (file_of [])) (le-leb 18 (length bytes) long)
@@ -32,6 +32,6 @@ opened_short bytes short =
     omega (arith, ap length new)
 
 -- an opened file is one that a refused opening may leave
-pub unopened_told : (content now : Option (List ℕ)) → now ≡ option_map opened content → BothTold IsUnopened content now
-unopened_told None now is = is
-unopened_told (Some bytes) now is = (opened bytes, is, record { long = opened_long bytes; short = opened_short bytes })
+pub unopened_known : (content now : Option (List ℕ)) → now ≡ option_map opened content → BothKnown IsUnopened content now
+unopened_known None now is = is
+unopened_known (Some bytes) now is = (opened bytes, is, record { long = opened_long bytes; short = opened_short bytes })

@@ -15,11 +15,11 @@ pub record IsLoaded (number : ℕ) (settings : Settings) (records : List (List �
   pub recorded : Records number records commands
   pub fold : settings ≡ fold_of number commands
 
--- The bytes have the payloads of the journal's records, where its disk tells these, and as many of the same
+-- The bytes have the payloads of the journal's records, where its disk is known, and as many of the same
 -- sizes in any case. They record the commands of the configuration.
 pub record IsKept {D : Type 0} (disk_of : DiskGhosts D) (number : ℕ) (settings : Settings) (body : List ℕ) (journal : View D) : Type 0 where
   pub loaded : IsLoaded number settings (payloads journal.sizes body)
-  pub told : IfSome journal.records (λ all. all ≡ payloads journal.sizes body)
+  pub known : IfSome journal.records (λ all. all ≡ payloads journal.sizes body)
   pub size : length body ≡ taken_by journal.sizes
   pub limit : journal.limit ≡ journal_limit
   pub safe : IsSafe disk_of journal

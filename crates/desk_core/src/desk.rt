@@ -3,8 +3,8 @@ ghost use Rattle.std.specs.Prelude.{◌≡◌, ◌≤◌, ◌+◌, ◌-◌, ◌<
 ghost use Rattle.std.specs.Option.{option_map};
 ghost use Rattle.disk_api.specs.Runs.{LeavesOnly};
 ghost use Rattle.fault_count.specs.Rise.{HasRisen};
-ghost use Rattle.disk_api.specs.Content.{BothTold};
-ghost use Rattle.gate_journal.specs.Format.{stands_for, damaged_at, held_by, opened, IsUnopened};
+ghost use Rattle.disk_api.specs.Content.{BothKnown};
+ghost use Rattle.gate_journal.specs.Format.{recovered, damaged_at, held_by, opened, IsUnopened};
 ghost use Rattle.gate_journal.specs.Storing.{stored, entry_bytes};
 ghost use Rattle.authority_book.specs.declared.commands.Command.{Command};
 ghost use Rattle.cmd_codec.specs.Spelling.{spelling};
@@ -16,7 +16,7 @@ use crate::records::{fault_of, needed, prepare, recorded};
 use crate::{DeskFault, DeskOpenFault, DeskRefused, DeskRose};
 use authority_book::{Command, Config, verdict};
 use disk_api::Disk;
-use gate_journal::{Journal, OpenRefused, add_to_body};
+use gate_journal::{AppendFault, Journal, OpenRefused, add_to_body};
 use std::alloc::{AllocError, Global};
 use std::marker::Model;
 
@@ -49,7 +49,7 @@ impl<D: Disk> Desk<D> {
     ghost use Rattle.desk_core.specs.Commands.{IsFirstBad};
     ghost use Rattle.desk_core.specs.Answers.{HasPlace, needed_for, IsDeskFault, disk_after};
     ghost use Rattle.gate_journal.specs.View.{stake_of};
-    ghost use Rattle.desk_core.specs.Images.{Holds, HoldsTold, IsSafe};
+    ghost use Rattle.desk_core.specs.Images.{RecoversTo, RecoversToKnown, IsSafe};
 
     /// Opens the desk of that number on a disk. A file of at most 17 bytes is made a new journal; in a
     /// longer one the bytes stay as they are. It takes time linear in the records.
@@ -57,26 +57,26 @@ impl<D: Disk> Desk<D> {
     /// A crash at any moment leaves the records that the disk stood for.
     pub fn open(alloc: Global, number: u32, disk: D) -> Result<Desk<D>, DeskRefused<D>>
         // What is found is what the disk stands for, each record that of an accepted command.
-        ensures records { IfOk result (λ desk. IfSome (D.content disk) (λ bytes. desk.records ≡ stands_for bytes)) }
+        ensures records { IfOk result (λ desk. IfSome (D.content disk) (λ bytes. desk.records ≡ recovered bytes)) }
         ensures commands { IfOk result (λ desk. (commands : List Command) × HasCommands desk commands) }
         // A file of at most 17 bytes is now a header and a closed gate, and a longer one is as it was.
         ensures bytes { IfOk result (λ desk. D.content desk.disk ≡ option_map opened (D.content disk)) }
         ensures whole { IfOk result (λ desk. IfSome (D.content disk) (λ bytes. damaged_at journal_limit bytes ≡ None)) }
         ensures number { IfOk result (λ desk. desk.number ≡ number) }
         ensures open { IfOk result (λ desk. (desk.shut ≡ None) × (desk.doubt ≡ None)) }
-        ensures durable { IfOk result (λ desk. (c : List ℕ) → D.may_leave desk.disk c → HoldsTold (D.content disk) desk.records None c) }
+        ensures durable { IfOk result (λ desk. (c : List ℕ) → D.may_leave desk.disk c → RecoversToKnown (D.content disk) desk.records None c) }
 
         ensures damaged { IfErr result (λ e. (at : ℕ) → e.fault ≡ DeskOpenFault.Damaged at
             → (D.content e.disk ≡ D.content disk) × IfSome (D.content disk) (λ bytes. damaged_at journal_limit bytes ≡ Some at)) }
         ensures bad_record { IfErr result (λ e. (at : ℕ) → e.fault ≡ DeskOpenFault.BadRecord at
-            → IfSome (D.content disk) (λ bytes. (damaged_at journal_limit bytes ≡ None) × IsFirstBad number (stands_for bytes) at)) }
+            → IfSome (D.content disk) (λ bytes. (damaged_at journal_limit bytes ≡ None) × IsFirstBad number (recovered bytes) at)) }
         ensures failed { IfErr result (λ e. e.fault ≡ DeskOpenFault.DiskFault → HasRisen (D.fault_count disk) (D.fault_count e.disk)) }
-        ensures same { IfErr result (λ e. option_map stands_for (D.content e.disk) ≡ option_map stands_for (D.content disk)) }
-        ensures unopened { IfErr result (λ e. BothTold IsUnopened (D.content disk) (D.content e.disk)) }
+        ensures same { IfErr result (λ e. option_map recovered (D.content e.disk) ≡ option_map recovered (D.content disk)) }
+        ensures unopened { IfErr result (λ e. BothKnown IsUnopened (D.content disk) (D.content e.disk)) }
         ensures later { D.fault_count disk ≤ D.fault_count (disk_after result) }
 
         // A crash at any moment leaves an image from before the call, or the same records.
-        ensures any_moment { LeavesOnly D.Disk disk (disk_after result) (λ c. D.may_leave disk c ⊎ IfSome (D.content disk) (λ bytes. Holds (stands_for bytes) None c)) }
+        ensures any_moment { LeavesOnly D.Disk disk (disk_after result) (λ c. D.may_leave disk c ⊎ IfSome (D.content disk) (λ bytes. RecoversTo (recovered bytes) None c)) }
     {
         let mut journal = match Journal::open(alloc, disk, JOURNAL_LIMIT) {
             Ok(journal) => journal,
@@ -97,13 +97,6 @@ impl<D: Disk> Desk<D> {
                 Err(DeskRefused { disk, fault })
             }
         }
-    }
-
-    // How many bytes the journal takes.
-    fn held(&self) -> u64
-        ensures { result ≡ held_by self.now.records }
-    {
-        self.journal.held()
     }
 
     /// The desk's number.
@@ -174,8 +167,8 @@ impl<D: Disk> Desk<D> {
 
         // A crash at any moment of the call leaves the records from before it, with the new one or
         // without; a shut desk's with the one that was in doubt or without. After Ok, with it.
-        ensures any_moment { LeavesOnly D.Disk self.old.disk self.new.disk (HoldsTold (D.content self.old.disk) self.old.records (stake_of self.old.shut self.old.doubt (spelling command))) }
-        ensures durable { OnOk result ((c : List ℕ) → D.may_leave self.new.disk c → HoldsTold (D.content self.old.disk) self.new.records None c) }
+        ensures any_moment { LeavesOnly D.Disk self.old.disk self.new.disk (RecoversToKnown (D.content self.old.disk) self.old.records (stake_of self.old.shut self.old.doubt (spelling command))) }
+        ensures durable { OnOk result ((c : List ℕ) → D.may_leave self.new.disk c → RecoversToKnown (D.content self.old.disk) self.new.records None c) }
         // After every answer.
         ensures safe { IsSafe D.Disk self.new }
         ensures later { D.fault_count self.old.disk ≤ D.fault_count self.new.disk }
@@ -208,27 +201,30 @@ impl<D: Disk> Desk<D> {
         ensures answer { MatchOption result (HasPlace self.now command.now signers) (λ fault. IsDeskFault D.Disk fault command.now signers self.now self.now) }
         ensures safe { IsSafe D.Disk self.now }
     {
-        if let Some(rose) = self.journal.shut_by() {
-            let rose = DeskRose::new(self.number, rose);
-            return Some(DeskFault::Shut { rose });
+        let verdict = verdict(&self.config, command, signers);
+        match self.journal.refusal(needed(command)) {
+            Some(AppendFault::Shut { rose }) => {
+                let rose = DeskRose::new(self.number, rose);
+                Some(DeskFault::Shut { rose })
+            }
+            Some(AppendFault::JournalFull { held, needed }) => Some(match verdict {
+                Err(refusal) => DeskFault::Verdict { refusal },
+                Ok(()) => DeskFault::JournalFull { held, needed },
+            }),
+            Some(AppendFault::DiskFault { .. }) => unreachable!(),
+            None => match verdict {
+                Err(refusal) => Some(DeskFault::Verdict { refusal }),
+                Ok(()) => None,
+            },
         }
-        if let Err(refusal) = verdict(&self.config, command, signers) {
-            return Some(DeskFault::Verdict { refusal });
-        }
-        let held = self.held();
-        let needed = needed(command);
-        if held > JOURNAL_LIMIT || JOURNAL_LIMIT - held < needed {
-            return Some(DeskFault::JournalFull { held, needed });
-        }
-        None
     }
 
     /// The disk, as it stands. It holds the desk's records, and so does what a crash then leaves;
     /// with the one in doubt, or without it, where a fault shut the journal.
     pub fn close(self) -> D
         ensures disk { result ≡ self.disk }
-        ensures content { IfSome (D.content result) (Holds self.records self.doubt) }
-        ensures images { (c : List ℕ) → D.may_leave result c → HoldsTold (D.content result) self.records self.doubt c }
+        ensures content { IfSome (D.content result) (RecoversTo self.records self.doubt) }
+        ensures images { (c : List ℕ) → D.may_leave result c → RecoversToKnown (D.content result) self.records self.doubt c }
     {
         self.journal.close()
     }

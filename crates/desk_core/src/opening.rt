@@ -85,7 +85,7 @@ pub(crate) fn load<D: Disk>(
     requires safe { IsSafe D.Disk journal.old }
 
     ensures loaded { IfOk result (λ loaded. IsLoaded number loaded.config.settings (payloads journal.old.sizes loaded.body.items)) }
-    ensures told { IfOk result (λ loaded. IfSome journal.old.records (λ all. all ≡ payloads journal.old.sizes loaded.body.items)) }
+    ensures known { IfOk result (λ loaded. IfSome journal.old.records (λ all. all ≡ payloads journal.old.sizes loaded.body.items)) }
     ensures size { IfOk result (λ loaded. length loaded.body.items ≡ taken_by journal.old.sizes) }
     ensures open { OnOk result (journal.new.shut ≡ journal.old.shut) }
 

@@ -3,7 +3,7 @@ use Rattle.std.proofs.Common.{◌≡◌, inl, inr, ⊎_elim, ℕ, ◌+◌, ◌-�
 use Rattle.std.proofs.lemmas.List.{take_at, drop_at, take-take, drop-drop, take-append-drop, length-take, drop_all, take-append-le, drop-append-le}
 use Rattle.std.proofs.lemmas.Bool.{cases_lt}
 use Rattle.std.specs.Option.{option_map}
-use Rattle.disk_api.specs.Content.{overwritten, Torn, BothTold, Gives}
+use Rattle.disk_api.specs.Content.{overwritten, Torn, BothKnown, Gives}
 use Rattle.disk_api.specs.Images.{Stays, Follows, Reaches, Keeps, Elapses}
 use Rattle.disk_api.specs.Faults.{CountsFaults, CountsStops}
 use Rattle.disk_api.specs.declared.disk.DiskStop.{DiskStop}
@@ -140,29 +140,29 @@ written_start at bytes old place = record {
   place = omega arith;
 }
 
--- the same where the bytes are told
+-- the same where the bytes are known
 module _ (R : List ℕ → List ℕ → Type 0) where
-  pub both_if : (Q : List ℕ → Type 0) → ((a b : List ℕ) → R a b → Q b) → (o n : Option (List ℕ)) → BothTold R o n → IfSome n Q
+  pub both_if : (Q : List ℕ → Type 0) → ((a b : List ℕ) → R a b → Q b) → (o n : Option (List ℕ)) → BothKnown R o n → IfSome n Q
   both_if Q f None n is = subst (λ (v : Option (List ℕ)). IfSome v Q) (sym is) tt
-  both_if Q f (Some a) n told = subst (λ (v : Option (List ℕ)). IfSome v Q) (sym told.1) (f a told.0 told.2)
+  both_if Q f (Some a) n known = subst (λ (v : Option (List ℕ)). IfSome v Q) (sym known.1) (f a known.0 known.2)
 
-  pub both_map : (S : List ℕ → List ℕ → Type 0) (f : List ℕ → List ℕ) → ((a b : List ℕ) → R a b → S a (f b)) → (o m n : Option (List ℕ)) → BothTold R o m → n ≡ option_map f m → BothTold S o n
+  pub both_map : (S : List ℕ → List ℕ → Type 0) (f : List ℕ → List ℕ) → ((a b : List ℕ) → R a b → S a (f b)) → (o m n : Option (List ℕ)) → BothKnown R o m → n ≡ option_map f m → BothKnown S o n
   both_map S f step None m n is maps = maps ∙ ap (option_map f) is
-  both_map S f step (Some a) m n told maps = (f told.0, maps ∙ ap (option_map f) told.1, step a told.0 told.2)
+  both_map S f step (Some a) m n known maps = (f known.0, maps ∙ ap (option_map f) known.1, step a known.0 known.2)
 
-  pub both_then : (Q S : List ℕ → List ℕ → Type 0) → ((a b c : List ℕ) → R a b → Q b c → S a c) → (o m n : Option (List ℕ)) → BothTold R o m → BothTold Q m n → BothTold S o n
-  both_then Q S step None m n is more = subst (λ (v : Option (List ℕ)). BothTold Q v n) is more
-  both_then Q S step (Some a) m n told more =
-      let from : BothTold Q (Some told.0) n = subst (λ (v : Option (List ℕ)). BothTold Q v n) told.1 more in
-      (from.0, from.1, step a told.0 from.0 told.2 from.2)
+  pub both_then : (Q S : List ℕ → List ℕ → Type 0) → ((a b c : List ℕ) → R a b → Q b c → S a c) → (o m n : Option (List ℕ)) → BothKnown R o m → BothKnown Q m n → BothKnown S o n
+  both_then Q S step None m n is more = subst (λ (v : Option (List ℕ)). BothKnown Q v n) is more
+  both_then Q S step (Some a) m n known more =
+      let from : BothKnown Q (Some known.0) n = subst (λ (v : Option (List ℕ)). BothKnown Q v n) known.1 more in
+      (from.0, from.1, step a known.0 from.0 known.2 from.2)
 
-  pub both_from : ((a : List ℕ) → R a a) → (o : Option (List ℕ)) → BothTold R o o
+  pub both_from : ((a : List ℕ) → R a a) → (o : Option (List ℕ)) → BothKnown R o o
   both_from same None = refl
   both_from same (Some a) = (a, refl, same a)
 
-  pub both_equal : (f : List ℕ → List ℕ) → ((a b : List ℕ) → R a b → b ≡ f a) → (o n : Option (List ℕ)) → BothTold R o n → n ≡ option_map f o
+  pub both_equal : (f : List ℕ → List ℕ) → ((a b : List ℕ) → R a b → b ≡ f a) → (o n : Option (List ℕ)) → BothKnown R o n → n ≡ option_map f o
   both_equal f step None n is = is
-  both_equal f step (Some a) n told = told.1 ∙ ap Some (step a told.0 told.2)
+  both_equal f step (Some a) n known = known.1 ∙ ap Some (step a known.0 known.2)
 
 -- a run of calls: time goes on
 pub time_none : (t : ℕ) (since : ℕ → List ℕ → Type 0) (images : List ℕ → Type 0) → Elapses t t since since images
@@ -182,10 +182,10 @@ pub record IsUntouched {F : Type 0} (content : F → Option (List ℕ)) (may_lea
   pub counted : fault_count now ≡ fault_count old
   pub buffer : IfSome (content old) (λ _. after ≡ before)
 
--- where the bytes are told, they are so at each later call
-pub if_told : (Q : List ℕ → Type 0) (P R : Type 0) → (o m : Option (List ℕ)) → m ≡ o → IfSome o (λ _. P) → ((bytes : List ℕ) → P → R → Q bytes) → IfSome m (λ _. R) → IfSome o Q
-if_told Q P R None m same was step is = tt
-if_told Q P R (Some bytes) m same was step is = step bytes was (subst (λ (v : Option (List ℕ)). IfSome v (λ _. R)) same is)
+-- where the bytes are known, they are so at each later call
+pub if_known : (Q : List ℕ → Type 0) (P R : Type 0) → (o m : Option (List ℕ)) → m ≡ o → IfSome o (λ _. P) → ((bytes : List ℕ) → P → R → Q bytes) → IfSome m (λ _. R) → IfSome o Q
+if_known Q P R None m same was step is = tt
+if_known Q P R (Some bytes) m same was step is = step bytes was (subst (λ (v : Option (List ℕ)). IfSome v (λ _. R)) same is)
 
 pub gives_again : (at n : ℕ) (before between after : List ℕ) (o m : Option (List ℕ)) → m ≡ o → IfSome o (λ _. between ≡ before)
     → IfSome m (λ bytes. Gives bytes at n between after) → IfSome o (λ bytes. Gives bytes at n before after)
@@ -223,7 +223,7 @@ module _ {F : Type 0} (content : F → Option (List ℕ)) (may_leave : F → Lis
     stays = stays_more old now new before between so_far stays;
     time = stays_time old now new before between so_far stays time;
     counted = counted ∙ so_far.counted;
-    buffer = if_told (λ _. after ≡ before) (between ≡ before) (after ≡ between) (content old) (content now) so_far.stays.content so_far.buffer (λ bytes was is. is ∙ was) buffer;
+    buffer = if_known (λ _. after ≡ before) (between ≡ before) (after ≡ between) (content old) (content now) so_far.stays.content so_far.buffer (λ bytes was is. is ∙ was) buffer;
   }
 
 -- what the count shows of an answer
@@ -232,9 +232,9 @@ count_at_ok before after patience left value counts = counts.0
 
 pub count_at_interrupted : (before after patience left : ℕ) (fault : CallFault) → fault ≡ Interrupted → CountsAnswer {T = ℕ} before after patience left (Err fault) → (after ≡ before) × (left < patience)
 count_at_interrupted before after patience left fault is counts =
-    let told : (after ≡ before) × (patience ≡ left + 1) = subst (λ (f : CallFault). CountsAnswer {T = ℕ} before after patience left (Err f)) is counts in
-    let used = told.1 in
-    (told.0, omega (arith, used))
+    let known : (after ≡ before) × (patience ≡ left + 1) = subst (λ (f : CallFault). CountsAnswer {T = ℕ} before after patience left (Err f)) is counts in
+    let used = known.1 in
+    (known.0, omega (arith, used))
 
 pub count_at_memory : (before after patience left : ℕ) (fault : CallFault) → fault ≡ Memory → CountsAnswer {T = ℕ} before after patience left (Err fault) → HasRisen before after
 count_at_memory before after patience left fault is counts = subst (λ (f : CallFault). CountsAnswer {T = ℕ} before after patience left (Err f)) is counts
@@ -260,15 +260,15 @@ stop_counted {T} {result} first before after same risen =
 pub record IsWriting {F : Type 0} (content : F → Option (List ℕ)) (may_leave : F → List ℕ → Type 0) (moment : F → ℕ) (left_since : F → ℕ → List ℕ → Type 0) (fault_count : F → ℕ) (at : ℕ) (bytes : List ℕ) (done : ℕ) (old now : F) : Type 0 where
   pub within : done ≤ length bytes
   pub fits : 0 < done → at + length bytes < 2 ^ 64
-  pub told : BothTold (HasWritten at bytes done) (content old) (content now)
+  pub known : BothKnown (HasWritten at bytes done) (content old) (content now)
   pub images : Follows (Torn at (length bytes)) (may_leave old) (may_leave now)
   pub each_image : Reaches (Torn at done) (may_leave old) (may_leave now)
   pub time : Elapses (moment old) (moment now) (left_since old) (left_since now) (may_leave now)
   pub counted : fault_count now ≡ fault_count old
 
-told_start : (at : ℕ) (bytes : List ℕ) (o : Option (List ℕ)) → IfSome o (λ old. at ≤ length old) → BothTold (HasWritten at bytes 0) o o
-told_start at bytes None place = refl
-told_start at bytes (Some old) place = (old, refl, written_start at bytes old place)
+known_start : (at : ℕ) (bytes : List ℕ) (o : Option (List ℕ)) → IfSome o (λ old. at ≤ length old) → BothKnown (HasWritten at bytes 0) o o
+known_start at bytes None place = refl
+known_start at bytes (Some old) place = (old, refl, written_start at bytes old place)
 
 -- a write of no bytes leaves what was there
 torn_none : (at : ℕ) (a b : List ℕ) → Torn at 0 a b → b ≡ a
@@ -279,7 +279,7 @@ module _ {F : Type 0} (content : F → Option (List ℕ)) (may_leave : F → Lis
   writing_start old place = record {
     within = omega arith;
     fits = λ lt. omega arith;
-    told = told_start at bytes (content old) place;
+    known = known_start at bytes (content old) place;
     images = λ c left. (c, left, torn_same at (length bytes) c);
     each_image = λ d c left torn. subst (may_leave old) (sym (torn_none at d c torn)) left;
     time = time_none (moment old) (left_since old) (may_leave old);
@@ -287,7 +287,7 @@ module _ {F : Type 0} (content : F → Option (List ℕ)) (may_leave : F → Lis
   }
 
   pub writing_place : (done : ℕ) (old now : F) → IsWriting content may_leave moment left_since fault_count at bytes done old now → IfSome (content now) (λ b. at + done ≤ length b)
-  writing_place done old now so_far = both_if (HasWritten at bytes done) (λ b. at + done ≤ length b) (λ a b has. has.place) (content old) (content now) so_far.told
+  writing_place done old now so_far = both_if (HasWritten at bytes done) (λ b. at + done ≤ length b) (λ a b has. has.place) (content old) (content now) so_far.known
 
   pub writing_keeps : (done : ℕ) (old now : F) → IsWriting content may_leave moment left_since fault_count at bytes done old now → Keeps (may_leave old) (may_leave now)
   writing_keeps done old now so_far c left = so_far.each_image c c left (torn_same at done c)
@@ -314,7 +314,7 @@ module _ {F : Type 0} (content : F → Option (List ℕ)) (may_leave : F → Lis
       record {
         within = within;
         fits = λ lt. omega (arith, rest, end, so_far.within);
-        told = both_map (HasWritten at bytes done) (HasWritten at bytes (done + n)) (overwritten (at + done) (take n (drop done bytes))) (λ a b has. written_more at bytes done n a b within has) (content old) (content now) (content new) so_far.told written;
+        known = both_map (HasWritten at bytes done) (HasWritten at bytes (done + n)) (overwritten (at + done) (take n (drop done bytes))) (λ a b has. written_more at bytes done n a b within has) (content old) (content now) (content new) so_far.known written;
         images = images_more done (length (drop done bytes)) old now new whole so_far follows;
         each_image = λ d c left torn.
             let (e, first, second) = torn_split at done n d c torn in
@@ -325,7 +325,7 @@ module _ {F : Type 0} (content : F → Option (List ℕ)) (may_leave : F → Lis
 
   -- a call failed, and some of the rest may be written
   pub writing_torn : (done : ℕ) (old now new : F) → IsWriting content may_leave moment left_since fault_count at bytes done old now
-      → BothTold (Torn (at + done) (length (drop done bytes))) (content now) (content new)
+      → BothKnown (Torn (at + done) (length (drop done bytes))) (content now) (content new)
       → Follows (Torn (at + done) (length (drop done bytes))) (may_leave now) (may_leave new) → Keeps (may_leave now) (may_leave new)
       → Elapses (moment now) (moment new) (left_since now) (left_since new) (may_leave new) → fault_count new ≡ fault_count now
       → IsWriting content may_leave moment left_since fault_count at bytes done old new
@@ -335,7 +335,7 @@ module _ {F : Type 0} (content : F → Option (List ℕ)) (may_leave : F → Lis
       record {
         within = so_far.within;
         fits = so_far.fits;
-        told = both_then (HasWritten at bytes done) (Torn (at + done) (length (drop done bytes))) (HasWritten at bytes done) (λ a b d has more. torn_more at bytes done a b d so_far.within has more) (content old) (content now) (content new) so_far.told torn;
+        known = both_then (HasWritten at bytes done) (Torn (at + done) (length (drop done bytes))) (HasWritten at bytes done) (λ a b d has more. torn_more at bytes done a b d so_far.within has more) (content old) (content now) (content new) so_far.known torn;
         images = images_more done (length (drop done bytes)) old now new whole so_far follows;
         each_image = λ d c left piece. keeps c (so_far.each_image d c left piece);
         time = time_more (moment old) (moment now) (moment new) (left_since old) (left_since now) (left_since new) (may_leave now) (may_leave new) so_far.time keeps time;
@@ -345,7 +345,7 @@ module _ {F : Type 0} (content : F → Option (List ℕ)) (may_leave : F → Lis
   pub writing_ends : (done : ℕ) (old now : F) → length bytes ≤ done → IsWriting content may_leave moment left_since fault_count at bytes done old now
       → content now ≡ option_map (overwritten at bytes) (content old)
   writing_ends done old now all so_far =
-      both_equal (HasWritten at bytes done) (overwritten at bytes) (λ a b has. sym (none_written (at + done) done bytes b all) ∙ has.rest) (content old) (content now) so_far.told
+      both_equal (HasWritten at bytes done) (overwritten at bytes) (λ a b has. sym (none_written (at + done) done bytes b all) ∙ has.rest) (content old) (content now) so_far.known
 
   pub writing_reaches : (done : ℕ) (old now : F) → length bytes ≤ done → IsWriting content may_leave moment left_since fault_count at bytes done old now
       → Reaches (Torn at (length bytes)) (may_leave old) (may_leave now)
@@ -354,10 +354,10 @@ module _ {F : Type 0} (content : F → Option (List ℕ)) (may_leave : F → Lis
       subst (λ n. Reaches (Torn at n) (may_leave old) (may_leave now)) same so_far.each_image
 
   -- a call failed for good
-  pub told_torn : (done : ℕ) (old now new : F) → IsWriting content may_leave moment left_since fault_count at bytes done old now
-      → BothTold (Torn (at + done) (length (drop done bytes))) (content now) (content new) → BothTold (Torn at (length bytes)) (content old) (content new)
-  told_torn done old now new so_far torn =
-      both_then (HasWritten at bytes done) (Torn (at + done) (length (drop done bytes))) (Torn at (length bytes)) (λ a b d has more. (torn_more at bytes done a b d so_far.within has more).torn) (content old) (content now) (content new) so_far.told torn
+  pub known_torn : (done : ℕ) (old now new : F) → IsWriting content may_leave moment left_since fault_count at bytes done old now
+      → BothKnown (Torn (at + done) (length (drop done bytes))) (content now) (content new) → BothKnown (Torn at (length bytes)) (content old) (content new)
+  known_torn done old now new so_far torn =
+      both_then (HasWritten at bytes done) (Torn (at + done) (length (drop done bytes))) (Torn at (length bytes)) (λ a b d has more. (torn_more at bytes done a b d so_far.within has more).torn) (content old) (content now) (content new) so_far.known torn
 
   pub images_torn : (done : ℕ) (old now new : F) → IsWriting content may_leave moment left_since fault_count at bytes done old now
       → Follows (Torn (at + done) (length (drop done bytes))) (may_leave now) (may_leave new) → Follows (Torn at (length bytes)) (may_leave old) (may_leave new)

@@ -22,10 +22,10 @@ pub record IsCut (len : ℕ) (old new : List ℕ) : Type 0 where
   pub no_shorter : min len (length old) ≤ length new
   pub no_longer : length new ≤ length old
 
--- where the old content is told, the new one is told too, and they are so related
-abbrev pub BothTold : (List ℕ → List ℕ → Type 0) → Option (List ℕ) → Option (List ℕ) → Type 0
-BothTold R None new = new ≡ None
-BothTold R (Some old) new = (bytes : List ℕ) × (new ≡ Some bytes) × R old bytes
+-- where the old content is known, the new one is known too, and they are so related
+abbrev pub BothKnown : (List ℕ → List ℕ → Type 0) → Option (List ℕ) → Option (List ℕ) → Type 0
+BothKnown R None new = new ≡ None
+BothKnown R (Some old) new = (bytes : List ℕ) × (new ≡ Some bytes) × R old bytes
 
 -- a read of n bytes from an offset on put them in front of what was in a buffer
 pub record Gives (bytes : List ℕ) (at n : ℕ) (old new : List ℕ) : Type 0 where

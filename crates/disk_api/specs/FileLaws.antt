@@ -1,7 +1,7 @@
--- A disk that doesn't tell what it holds.
+-- A disk that isn't known.
 use Rattle.std.specs.Prelude.{◌≡◌, ℕ, Some, None, List}
 use Rattle.std.proofs.lemmas.Option.{none-some}
 
--- it never told any bytes
-pub told_is_left : (bytes : List ℕ) → None ≡ Some bytes → ⊥
-told_is_left bytes is = none-some bytes is
+-- it has no known bytes
+pub known_is_left : (bytes : List ℕ) → None ≡ Some bytes → ⊥
+known_is_left bytes is = none-some bytes is

@@ -1,7 +1,7 @@
 // What every disk promises, with what a crash may leave of it at each moment.
 ghost use Rattle.std.specs.Prelude.{◌≡◌, ◌≤◌, ◌-◌, List, ℕ, Option, Some, length, option_map, IfOk, IfSome, OnOk, OnErr};
 ghost use Rattle.disk_api.specs.declared.disk.DiskStop.TheVariants.{Memory};
-ghost use Rattle.disk_api.specs.Content.{overwritten, cut_to, Torn, IsCut, BothTold, Gives};
+ghost use Rattle.disk_api.specs.Content.{overwritten, cut_to, Torn, IsCut, BothKnown, Gives};
 ghost use Rattle.disk_api.specs.Images.{Stays, Follows, Reaches, Keeps, IsOnly, Elapses};
 ghost use Rattle.disk_api.specs.Faults.{CountsFaults, CountsStops};
 
@@ -37,11 +37,11 @@ impl<T: Drop> From<AllocFailed<T>> for DiskStop {
 ///
 /// Between two syncs each range that was written, and what lies past the old end or past a cut, may
 /// hold any bytes after a crash; other bytes stay. After a sync that succeeds, a crash leaves what a read
-/// gives. A disk that doesn't tell what it holds promises nothing of bytes.
+/// gives. A disk that isn't known promises nothing of bytes.
 ///
-/// A call that may want memory is handed an allocator for it.
+/// A call that may take memory is handed an allocator for it.
 pub trait Disk: Drop {
-    /// The bytes that a read gives, where the disk tells.
+    /// The bytes that a read gives, where the disk is known.
     ghost content: { Self → Option (List ℕ) };
 
     /// The images: what a crash at this moment may leave.
@@ -78,7 +78,7 @@ pub trait Disk: Drop {
         requires { IfSome (content self.old) (λ old. at ≤ length old) }
 
         ensures written { OnOk result (content self.new ≡ option_map (overwritten at bytes.now) (content self.old)) }
-        ensures torn { OnErr result (BothTold (Torn at (length bytes.now)) (content self.old) (content self.new)) }
+        ensures torn { OnErr result (BothKnown (Torn at (length bytes.now)) (content self.old) (content self.new)) }
 
         // An image after the write is one from before it with any bytes in the range. At `Ok` each
         // of these is one; at `Err` each from before it still is.
@@ -93,7 +93,7 @@ pub trait Disk: Drop {
     /// any bytes behind the first `len`, up to some length between the two.
     fn cut(&mut self, alloc: Global, len: u64) -> Result<(), DiskStop>
         ensures cut { OnOk result (content self.new ≡ option_map (cut_to len) (content self.old)) }
-        ensures torn { OnErr result (BothTold (IsCut len) (content self.old) (content self.new)) }
+        ensures torn { OnErr result (BothKnown (IsCut len) (content self.old) (content self.new)) }
 
         ensures images { Follows (IsCut len) (may_leave self.old) (may_leave self.new) }
         ensures each_image { OnOk result (Reaches (IsCut len) (may_leave self.old) (may_leave self.new)) }

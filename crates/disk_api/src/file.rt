@@ -1,9 +1,10 @@
 // A disk over a file's calls: a read or a write goes on where a signal interrupts it, and a write until
 // all is written.
 ghost use Rattle.std.specs.Prelude.{◌≡◌, ◌≤◌, length, option_map, Err, OnOk, OnErr, IfOk, IfSome};
-ghost use Rattle.disk_api.specs.Content.{overwritten, Torn, BothTold, Gives};
+ghost use Rattle.disk_api.specs.Content.{overwritten, Torn, BothKnown, Gives};
 ghost use Rattle.disk_api.specs.Images.{Stays, Follows, Reaches, Keeps, Elapses};
 ghost use Rattle.disk_api.specs.Faults.{CountsFaults, CountsStops};
+ghost use Rattle.fault_count.specs.Rise.{HasRisen};
 
 use crate::{Disk, DiskStop, HostFile, RawFile};
 use raw_calls::CallFault;
@@ -62,6 +63,8 @@ fn read_once<F: RawFile>(file: &mut F, at: u64, into: &mut [u8]) -> Result<usize
     ensures stays { Stays (F.content file.old) (F.content file.new) (F.may_leave file.old) (F.may_leave file.new) }
     ensures time { Elapses (F.moment file.old) (F.moment file.new) (F.left_since file.old) (F.left_since file.new) (F.may_leave file.new) }
     ensures faults { CountsFaults (F.fault_count file.old) (F.fault_count file.new) result }
+    ensures ok { OnOk result (F.fault_count file.new ≡ F.fault_count file.old) }
+    ensures stop { OnErr result (HasRisen (F.fault_count file.old) (F.fault_count file.new)) }
 {
     'tries: loop {
         match file.read_at(at, into) {
@@ -78,7 +81,7 @@ fn write_all<F: RawFile>(file: &mut F, at: u64, bytes: &[u8]) -> Result<(), Disk
     requires { IfSome (F.content file.old) (λ old. at ≤ length old) }
 
     ensures written { OnOk result (F.content file.new ≡ option_map (overwritten at bytes.now) (F.content file.old)) }
-    ensures torn { OnErr result (BothTold (Torn at (length bytes.now)) (F.content file.old) (F.content file.new)) }
+    ensures torn { OnErr result (BothKnown (Torn at (length bytes.now)) (F.content file.old) (F.content file.new)) }
     ensures images { Follows (Torn at (length bytes.now)) (F.may_leave file.old) (F.may_leave file.new) }
     ensures each_image { OnOk result (Reaches (Torn at (length bytes.now)) (F.may_leave file.old) (F.may_leave file.new)) }
     ensures kept_images { OnErr result (Keeps (F.may_leave file.old) (F.may_leave file.new)) }
@@ -98,6 +101,8 @@ fn write_all<F: RawFile>(file: &mut F, at: u64, bytes: &[u8]) -> Result<(), Disk
 }
 
 impl<F: RawFile> Disk for FileDisk<F> {
+    ghost use Rattle.disk_api.specs.Over.{file_of};
+
     ghost content = { λ disk. F.content disk.file };
 
     ghost may_leave = { λ disk. F.may_leave disk.file };
@@ -118,7 +123,16 @@ impl<F: RawFile> Disk for FileDisk<F> {
         self.file.len()
     }
 
-    fn read(&mut self, _alloc: Global, at: u64, into: &mut [u8]) -> Result<usize, DiskStop> {
+    fn read(&mut self, _alloc: Global, at: u64, into: &mut [u8]) -> Result<usize, DiskStop>
+        ensures within { IfOk result (λ n. n ≤ length into.old) }
+        ensures bytes { IfOk result (λ n. IfSome (F.content (file_of self.old)) (λ bytes. Gives bytes at n into.old into.new)) }
+        ensures stays { Stays (F.content (file_of self.old)) (F.content (file_of self.new)) (F.may_leave (file_of self.old)) (F.may_leave (file_of self.new)) }
+        ensures time { Elapses (F.moment (file_of self.old)) (F.moment (file_of self.new)) (F.left_since (file_of self.old)) (F.left_since (file_of self.new)) (F.may_leave (file_of self.new)) }
+        ensures faults { CountsFaults (F.fault_count (file_of self.old)) (F.fault_count (file_of self.new)) result }
+        // No call that failed is passed over, and it stops only where one failed: an interruption is no stop.
+        ensures ok { OnOk result (F.fault_count (file_of self.new) ≡ F.fault_count (file_of self.old)) }
+        ensures stop { OnErr result (HasRisen (F.fault_count (file_of self.old)) (F.fault_count (file_of self.new))) }
+    {
         read_once(&mut self.file, at, into)
     }
 

@@ -1,6 +1,6 @@
 // A file of the operating system: the trusted edge. Each call is std's, once.
 ghost use Rattle.std.specs.Prelude.{◌≡◌, ◌+◌, ◌^◌, ◌<◌, ◌≤◌, length, None, Ok, Err, IfOk, IfErr, OnOk};
-ghost use Rattle.disk_api.specs.FileLaws.{told_is_left};
+ghost use Rattle.disk_api.specs.FileLaws.{known_is_left};
 ghost use Rattle.disk_api.specs.Stops.{stop_of};
 
 use crate::{DiskStop, RawFile};
@@ -117,7 +117,7 @@ impl RawFile for HostFile {
 
     ghost patience = { λ host. patience_of host.tally };
 
-    ghost left_as_read = { λ _ bytes is. told_is_left bytes is };
+    ghost left_as_read = { λ _ bytes is. known_is_left bytes is };
 
     ghost counts_now = { λ _ _ _ _ left. left };
 

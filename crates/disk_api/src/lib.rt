@@ -1,6 +1,6 @@
 //! A disk as a journal sees it: what a read gives, what a crash may leave, and how often it has
 //! failed. A disk in memory keeps exactly these rules and can be crashed. A disk over a real file
-//! tells nothing of what it holds.
+//! isn't known.
 #![tactic(auto)]
 
 mod disk;

@@ -1,4 +1,4 @@
-// A disk in memory, which keeps each change, so that each moment's images can be told and made.
+// A disk in memory, which keeps each change, so that each moment's images are known and can be made.
 ghost use Rattle.std.specs.Prelude.{◌≡◌, ◌+◌, ◌-◌, ◌≤◌, ℕ, min, Some, None, IsTrue, true, cond, length, vec_len, vec_capacity, ◌<◌, IfOk, OnOk, OnErr, ◌↔◌, IsErrOf, [], ◌∷◌, ◌++◌};
 ghost use Rattle.disk_api.specs.Content.{overwritten, cut_to, Gives};
 ghost use Rattle.fault_count.specs.Rise.{HasRisen};
@@ -171,7 +171,7 @@ impl MemoryDisk {
 
 impl Disk for MemoryDisk {
     ghost use Rattle.std.specs.Prelude.{◌≢◌, ◌⊎◌, ◌-◌, Err, min, option_map, IfSome};
-    ghost use Rattle.disk_api.specs.Content.{Torn, IsCut, BothTold};
+    ghost use Rattle.disk_api.specs.Content.{Torn, IsCut, BothKnown};
     ghost use Rattle.disk_api.specs.Images.{Stays, Follows, Reaches, Keeps, IsOnly, Elapses};
     ghost use Rattle.disk_api.specs.Faults.{CountsFaults, CountsStops};
     ghost use Rattle.disk_api.specs.Memory.{memory_bytes, memory_moment, memory_faults, IsImage, IsImageSince, fails_next, CountsCall, IsSameFile};
@@ -237,7 +237,7 @@ impl Disk for MemoryDisk {
         requires { IfSome (Some (memory_bytes self.old)) (λ old. at ≤ length old) }
 
         ensures written { OnOk result (Some (memory_bytes self.new) ≡ option_map (overwritten at bytes.now) (Some (memory_bytes self.old))) }
-        ensures torn { OnErr result (BothTold (Torn at (length bytes.now)) (Some (memory_bytes self.old)) (Some (memory_bytes self.new))) }
+        ensures torn { OnErr result (BothKnown (Torn at (length bytes.now)) (Some (memory_bytes self.old)) (Some (memory_bytes self.new))) }
 
         // An image after the write is one from before it with any bytes in the range. At `Ok` each
         // of these is one; at `Err` each from before it still is.
@@ -265,7 +265,7 @@ impl Disk for MemoryDisk {
 
     fn cut(&mut self, alloc: Global, len: u64) -> Result<(), DiskStop>
         ensures cut { OnOk result (Some (memory_bytes self.new) ≡ option_map (cut_to len) (Some (memory_bytes self.old))) }
-        ensures torn { OnErr result (BothTold (IsCut len) (Some (memory_bytes self.old)) (Some (memory_bytes self.new))) }
+        ensures torn { OnErr result (BothKnown (IsCut len) (Some (memory_bytes self.old)) (Some (memory_bytes self.new))) }
 
         ensures images { Follows (IsCut len) (IsImage self.old) (IsImage self.new) }
         ensures each_image { OnOk result (Reaches (IsCut len) (IsImage self.old) (IsImage self.new)) }

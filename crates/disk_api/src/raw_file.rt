@@ -1,6 +1,6 @@
 // The calls of an open file, as the system makes them.
 ghost use Rattle.std.specs.Prelude.{◌≡◌, ◌+◌, ◌^◌, ◌≤◌, ◌<◌, List, ℕ, None, Option, Some, length, take, option_map, IfOk, IfSome, OnOk, OnErr};
-ghost use Rattle.disk_api.specs.Content.{overwritten, cut_to, Torn, IsCut, BothTold, Gives};
+ghost use Rattle.disk_api.specs.Content.{overwritten, cut_to, Torn, IsCut, BothKnown, Gives};
 ghost use Rattle.disk_api.specs.Images.{Stays, Follows, Reaches, Keeps, IsOnly, Elapses};
 ghost use Rattle.disk_api.specs.Faults.{CountsFaults, CountsStops};
 ghost use Rattle.raw_calls.specs.Faults.{CountsAnswer};
@@ -9,9 +9,9 @@ use crate::DiskStop;
 use raw_calls::CallFault;
 
 /// An open file. A read or a write may move fewer bytes than it is asked for, and a signal may interrupt
-/// it. What the file holds, and what a crash may leave of it, is told or not, as of a disk.
+/// it. What the file holds, and what a crash may leave of it, is known or not, as of a disk.
 pub trait RawFile: Drop {
-    /// The bytes that a read gives, where the file tells.
+    /// The bytes that a read gives, where the file is known.
     ghost content: { Self → Option (List ℕ) };
 
     /// The images: what a crash at this moment may leave.
@@ -55,7 +55,7 @@ pub trait RawFile: Drop {
         ensures some { IfOk result (λ n. 0 < length bytes.now → 0 < n) }
         ensures end { OnOk result (at + length bytes.now < 2 ^ 64) }
         ensures written { IfOk result (λ n. content self.new ≡ option_map (overwritten at (take n bytes.now)) (content self.old)) }
-        ensures torn { OnErr result (BothTold (Torn at (length bytes.now)) (content self.old) (content self.new)) }
+        ensures torn { OnErr result (BothKnown (Torn at (length bytes.now)) (content self.old) (content self.new)) }
 
         ensures images { Follows (Torn at (length bytes.now)) (may_leave self.old) (may_leave self.new) }
         ensures each_image { IfOk result (λ n. Reaches (Torn at n) (may_leave self.old) (may_leave self.new)) }
@@ -67,7 +67,7 @@ pub trait RawFile: Drop {
     /// Cuts the file to a length. A shorter file stays as it is.
     fn cut(&mut self, len: u64) -> Result<(), DiskStop>
         ensures cut { OnOk result (content self.new ≡ option_map (cut_to len) (content self.old)) }
-        ensures torn { OnErr result (BothTold (IsCut len) (content self.old) (content self.new)) }
+        ensures torn { OnErr result (BothKnown (IsCut len) (content self.old) (content self.new)) }
 
         ensures images { Follows (IsCut len) (may_leave self.old) (may_leave self.new) }
         ensures each_image { OnOk result (Reaches (IsCut len) (may_leave self.old) (may_leave self.new)) }

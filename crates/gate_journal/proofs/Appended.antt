@@ -6,7 +6,7 @@ use Rattle.std.proofs.lemmas.Bool.{cases_eq}
 use Rattle.std.proofs.lemmas.Option.{none-some}
 use Rattle.gate_journal.specs.Format.{header, spelled, held_for, taken_by}
 use Rattle.gate_journal.specs.Storing.{stored, entry_bytes, IsBehindGate, HasRecord, IsStoring}
-use Rattle.gate_journal.specs.View.{Holds}
+use Rattle.gate_journal.specs.View.{RecoversTo}
 use Rattle.gate_journal.specs.Kept.{IsLaidOut}
 use Rattle.gate_journal.proofs.Records.{entry, entry_bytes-append, spelled-push}
 use Rattle.gate_journal.proofs.Sizes.{taken_by-spelled}
@@ -67,7 +67,7 @@ module _ {records : List (List ℕ)} {sizes : List ℕ} {shut : Option (ℕ × �
   }
 
   -- and the file is whole and stands for them, with the new one or without
-  pub storing_holds : (limit : ℕ) (payload c : List ℕ) → laid.gate ≢ 1 → length payload < 2 ^ 64 → length payload ≤ limit → AreWithin limit records → IsStoring held (entry_bytes payload) bytes c → Holds limit records c ⊎ Holds limit (records ++ payload ∷ []) c
+  pub storing_holds : (limit : ℕ) (payload c : List ℕ) → laid.gate ≢ 1 → length payload < 2 ^ 64 → length payload ≤ limit → AreWithin limit records → IsStoring held (entry_bytes payload) bytes c → RecoversTo limit records c ⊎ RecoversTo limit (records ++ payload ∷ []) c
   storing_holds limit payload c closed few fits within (inl same) = inl (holds_closed limit records laid.gate (drop held c) c (behind_split c same) laid.small within closed)
   storing_holds limit payload c closed few fits within (inr has) =
       let rest = drop (held + length (entry_bytes payload)) bytes in

@@ -2,10 +2,10 @@
 use Rattle.std.proofs.Common.{◌≡◌, ◌<◌, ℕ, Option, Some, None, List, [], ◌∷◌, ◌++◌, length, IfSome, ◌∙◌, ap, arith}
 use Rattle.std.proofs.lemmas.List.{drop_all, append-nil}
 use Rattle.std.specs.Option.{option_map}
-use Rattle.disk_api.specs.Content.{overwritten, BothTold}
+use Rattle.disk_api.specs.Content.{overwritten, BothKnown}
 use Rattle.gate_journal.specs.Format.{header}
 
-pub new_short : (content now : Option (List ℕ)) → now ≡ option_map (λ _. header ++ 0 ∷ []) content → BothTold (λ _ bytes. length bytes < 18) content now
+pub new_short : (content now : Option (List ℕ)) → now ≡ option_map (λ _. header ++ 0 ∷ []) content → BothKnown (λ _ bytes. length bytes < 18) content now
 new_short None now is = is
 new_short (Some bytes) now is = (header ++ 0 ∷ [], is, omega arith)
 

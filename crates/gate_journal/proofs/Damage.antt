@@ -24,8 +24,8 @@ damaged_head limit bytes long other =
     cond-true (nat_le 18 (length bytes)) (cond (has_header bytes) (damaged_in limit (length bytes) 16 (drop 16 bytes)) (Some 0)) None (le-leb 18 (length bytes) (omega (arith, long)))
     ∙ cond-false (has_header bytes) (damaged_in limit (length bytes) 16 (drop 16 bytes)) (Some 0) other
 
-pub damaged_told : (content now : Option (List ℕ)) (limit len at place : ℕ) (places : List Place) → now ≡ content → IfSome content (λ bytes. HasRead limit at places bytes) → IfSome content (λ bytes. (len ≡ length bytes) × (has_header bytes ≡ true)) → 17 < len
+pub damaged_known : (content now : Option (List ℕ)) (limit len at place : ℕ) (places : List Place) → now ≡ content → IfSome content (λ bytes. HasRead limit at places bytes) → IfSome content (λ bytes. (len ≡ length bytes) × (has_header bytes ≡ true)) → 17 < len
     → (place ≡ at) × IfSome now (λ bytes. IsHarmed limit (drop at bytes)) → IfSome content (λ bytes. damaged_at limit bytes ≡ Some place)
-damaged_told None now limit len at place places same read told long bad = tt
-damaged_told (Some bytes) now limit len at place places same read told long bad =
-    damaged_there limit at places bytes read (omega (arith, long, told.0)) (subst (λ (o : Option (List ℕ)). IfSome o (λ b. IsHarmed limit (drop at b))) same bad.1) ∙ ap (λ (n : ℕ). Some n) (sym bad.0)
+damaged_known None now limit len at place places same read known long bad = tt
+damaged_known (Some bytes) now limit len at place places same read known long bad =
+    damaged_there limit at places bytes read (omega (arith, long, known.0)) (subst (λ (o : Option (List ℕ)). IfSome o (λ b. IsHarmed limit (drop at b))) same bad.1) ∙ ap (λ (n : ℕ). Some n) (sym bad.0)

@@ -54,14 +54,14 @@ module _ (bytes : List ℕ) (at got : ℕ) (head : List ℕ) (nine : length head
         ],
       )
 
-pub harmed_told : (content : Option (List ℕ)) (at got left limit size : ℕ) (head : List ℕ) → length head ≡ 9 → IfSome content (λ bytes. Fills bytes at got head) → 0 < got → get_or head 0 0 ≡ 1 → IfSome content (λ bytes. at + left ≡ length bytes)
+pub harmed_known : (content : Option (List ℕ)) (at got left limit size : ℕ) (head : List ℕ) → length head ≡ 9 → IfSome content (λ bytes. Fills bytes at got head) → 0 < got → get_or head 0 0 ≡ 1 → IfSome content (λ bytes. at + left ≡ length bytes)
     → size ≡ from_be_bytes w64 (drop 1 head) → (got < 9) ⊎ ((limit < size) ⊎ (left - 9 < size)) → IfSome content (λ bytes. IsHarmed limit (drop at bytes))
-harmed_told None at got left limit size head nine fills some is_open there is why = tt
-harmed_told (Some bytes) at got left limit size head nine fills some is_open there is why = harmed bytes at got head nine fills some is_open limit left size there is why
+harmed_known None at got left limit size head nine fills some is_open there is why = tt
+harmed_known (Some bytes) at got left limit size head nine fills some is_open there is why = harmed bytes at got head nine fills some is_open limit left size there is why
 
-pub stands_told : (content : Option (List ℕ)) (at got size : ℕ) (head : List ℕ) → length head ≡ 9 → IfSome content (λ bytes. Fills bytes at got head) → 9 ≤ got → get_or head 0 0 ≡ 1 → ((i : ℕ) → get_or head i 0 < 256) → size ≡ from_be_bytes w64 (drop 1 head)
+pub stands_known : (content : Option (List ℕ)) (at got size : ℕ) (head : List ℕ) → length head ≡ 9 → IfSome content (λ bytes. Fills bytes at got head) → 9 ≤ got → get_or head 0 0 ≡ 1 → ((i : ℕ) → get_or head i 0 < 256) → size ≡ from_be_bytes w64 (drop 1 head)
     → IfSome content (λ bytes. StandsAt (drop at bytes) (Record size))
-stands_told None at got size head nine fills full is_open fit is = tt
-stands_told (Some bytes) at got size head nine fills full is_open fit is =
+stands_known None at got size head nine fills full is_open fit is = tt
+stands_known (Some bytes) at got size head nine fills full is_open fit is =
     let some : 0 < got = omega (arith, full) in
     (drop 1 (drop at bytes), opens bytes at got head nine fills some is_open, is ∙ size_is bytes at got head nine fills some is_open full, spells_size bytes at got head nine fills some is_open size full fit is)

@@ -4,7 +4,7 @@ use Rattle.std.proofs.lemmas.Bool.Decides.{nat_tests}
 use Rattle.std.specs.Prelude.{nat_lt}
 use Rattle.std.proofs.lemmas.Option.{none-some}
 use Rattle.std.specs.Option.{option_map, option_or, unwrap_or}
-use Rattle.disk_api.specs.Content.{BothTold}
+use Rattle.disk_api.specs.Content.{BothKnown}
 use Rattle.disk_api.specs.Images.{IsOnly}
 use Rattle.fault_count.specs.Rise.{HasRisen}
 use Rattle.gate_journal.specs.Storing.{stored, entry_bytes, IsStoring}
@@ -20,31 +20,31 @@ Laid count places shut content = IfSome content (λ bytes. (records : List (List
 
 pub kept_long : (content : Option (List ℕ)) (may_leave : List ℕ → Type 0) (count held : ℕ) (places : List Place) (shut : Option (ℕ × ℕ)) → IsKept content may_leave count held places shut → IsLong held content
 kept_long None may_leave count held places shut kept = tt
-kept_long (Some bytes) may_leave count held places shut kept = laid_long kept.told.1 held kept.measured.held_is
+kept_long (Some bytes) may_leave count held places shut kept = laid_long kept.known.1 held kept.measured.held_is
 
 module _ (payload : List ℕ) (few : length payload < 2 ^ 64) where
   pub kept_failed : (content now : Option (List ℕ)) (may_leave after : List ℕ → Type 0) (count held : ℕ) (places : List Place) (rose : ℕ × ℕ) → IsKept content may_leave count held places None
-      → BothTold (IsStoring held (entry_bytes payload)) content now → HasRisen rose.0 rose.1 → IsKept now after count held places (Some rose)
+      → BothKnown (IsStoring held (entry_bytes payload)) content now → HasRisen rose.0 rose.1 → IsKept now after count held places (Some rose)
   kept_failed None now may_leave after count held places rose kept both risen = record {
     measured = kept.measured;
-    told = subst (λ (o : Option (List ℕ)). Laid count places (Some rose) o) (sym both) tt;
+    known = subst (λ (o : Option (List ℕ)). Laid count places (Some rose) o) (sym both) tt;
     durable = λ is. absurd (none-some rose (sym is));
     risen = risen;
   }
   kept_failed (Some bytes) now may_leave after count held places rose kept both risen = record {
     measured = kept.measured;
-    told = subst (λ (o : Option (List ℕ)). Laid count places (Some rose) o) (sym both.1) (kept.told.0, laid_storing kept.told.1 held kept.measured.held_is (entry_bytes payload) both.0 rose both.2);
+    known = subst (λ (o : Option (List ℕ)). Laid count places (Some rose) o) (sym both.1) (kept.known.0, laid_storing kept.known.1 held kept.measured.held_is (entry_bytes payload) both.0 rose both.2);
     durable = λ is. absurd (none-some rose (sym is));
     risen = risen;
   }
 
   pub shows_failed : (content now : Option (List ℕ)) (may_leave : List ℕ → Type 0) (count held : ℕ) (places : List Place) → IsKept content may_leave count held places None
-      → BothTold (IsStoring held (entry_bytes payload)) content now → shows count now ≡ shows count content
+      → BothKnown (IsStoring held (entry_bytes payload)) content now → shows count now ≡ shows count content
   shows_failed None now may_leave count held places kept both = ap (λ (o : Option (List ℕ)). shows count o) both
   shows_failed (Some bytes) now may_leave count held places kept both =
       let all = length-sizes_of count places kept.measured.counted in
       ap (λ (o : Option (List ℕ)). shows count o) both.1
-      ∙ ap (λ (l : List (List ℕ)). Some l) (shown count all (laid_storing kept.told.1 held kept.measured.held_is (entry_bytes payload) both.0 (0, 0) both.2) ∙ sym (shown count all kept.told.1))
+      ∙ ap (λ (l : List (List ℕ)). Some l) (shown count all (laid_storing kept.known.1 held kept.measured.held_is (entry_bytes payload) both.0 (0, 0) both.2) ∙ sym (shown count all kept.known.1))
 
   -- the sizes with the record that was stored
   sizes_stored : (count held : ℕ) (places : List Place) (place : Place) → count < length places → pair_of place ≡ (held + 8, length payload) → sizes_of (count + 1) (set places count place) ≡ sizes_of count places ++ length payload ∷ []
@@ -64,13 +64,13 @@ module _ (payload : List ℕ) (few : length payload < 2 ^ 64) where
       → IsKept now after (count + 1) (held + (length payload + 9)) (set places count place) None
   kept_stored None now may_leave after count held places place kept is only room at = record {
     measured = measured_stored count held places place kept.measured room at;
-    told = subst (λ (o : Option (List ℕ)). Laid (count + 1) (set places count place) None o) (sym is) tt;
+    known = subst (λ (o : Option (List ℕ)). Laid (count + 1) (set places count place) None o) (sym is) tt;
     durable = λ _. only;
     risen = tt;
   }
   kept_stored (Some bytes) now may_leave after count held places place kept is only room at = record {
     measured = measured_stored count held places place kept.measured room at;
-    told = subst (λ (o : Option (List ℕ)). Laid (count + 1) (set places count place) None o) (sym is) (kept.told.0 ++ payload ∷ [], stored_laid count held places place kept.told.0 bytes kept.measured kept.told.1 room at);
+    known = subst (λ (o : Option (List ℕ)). Laid (count + 1) (set places count place) None o) (sym is) (kept.known.0 ++ payload ∷ [], stored_laid count held places place kept.known.0 bytes kept.measured kept.known.1 room at);
     durable = λ _. only;
     risen = tt;
   }
@@ -84,7 +84,7 @@ module _ (payload : List ℕ) (few : length payload < 2 ^ 64) where
       let more = length-sizes_of (count + 1) (set places count place) (measured_stored count held places place kept.measured room at).counted in
       ap (λ (o : Option (List ℕ)). shows (count + 1) o) is
       ∙ ap (λ (l : List (List ℕ)). Some l)
-      (shown (count + 1) more (stored_laid count held places place kept.told.0 bytes kept.measured kept.told.1 room at) ∙ ap (λ (l : List (List ℕ)). l ++ payload ∷ []) (sym (shown count all kept.told.1)))
+      (shown (count + 1) more (stored_laid count held places place kept.known.0 bytes kept.measured kept.known.1 room at) ∙ ap (λ (l : List (List ℕ)). l ++ payload ∷ []) (sym (shown count all kept.known.1)))
 
 -- the same of an open journal, where what was stored is called new
 module _ (payload : List ℕ) (few : length payload < 2 ^ 64) (new : List ℕ) (spelled_out : new ≡ entry_bytes payload) (content : Option (List ℕ)) (may_leave : List ℕ → Type 0) (count held : ℕ) (places : List Place) (shut : Option (ℕ × ℕ))
@@ -92,17 +92,22 @@ module _ (payload : List ℕ) (few : length payload < 2 ^ 64) (new : List ℕ) (
   at_open : IsKept content may_leave count held places None
   at_open = subst (λ (s : Option (ℕ × ℕ)). IsKept content may_leave count held places s) opened kept
 
-  pub open_failed : (now : Option (List ℕ)) (after : List ℕ → Type 0) (rose : ℕ × ℕ) → BothTold (IsStoring held new) content now → HasRisen rose.0 rose.1 → IsKept now after count held places (Some rose)
-  open_failed now after rose both risen = kept_failed payload few content now may_leave after count held places rose at_open (subst (λ (l : List ℕ). BothTold (IsStoring held l) content now) spelled_out both) risen
+  pub open_failed : (now : Option (List ℕ)) (after : List ℕ → Type 0) (rose : ℕ × ℕ) → BothKnown (IsStoring held new) content now → HasRisen rose.0 rose.1 → IsKept now after count held places (Some rose)
+  open_failed now after rose both risen = kept_failed payload few content now may_leave after count held places rose at_open (subst (λ (l : List ℕ). BothKnown (IsStoring held l) content now) spelled_out both) risen
 
-  pub open_failed_shows : (now : Option (List ℕ)) → BothTold (IsStoring held new) content now → shows count now ≡ shows count content
-  open_failed_shows now both = shows_failed payload few content now may_leave count held places at_open (subst (λ (l : List ℕ). BothTold (IsStoring held l) content now) spelled_out both)
+  pub open_failed_shows : (now : Option (List ℕ)) → BothKnown (IsStoring held new) content now → shows count now ≡ shows count content
+  open_failed_shows now both = shows_failed payload few content now may_leave count held places at_open (subst (λ (l : List ℕ). BothKnown (IsStoring held l) content now) spelled_out both)
 
   pub open_stored : (now : Option (List ℕ)) (after : List ℕ → Type 0) (place : Place) → now ≡ option_map (stored held new) content → IsOnly now after → count < length places → pair_of place ≡ (held + 8, length payload)
       → IsKept now after (count + 1) (held + (length payload + 9)) (set places count place) shut
   open_stored now after place is only room at =
       subst (λ (s : Option (ℕ × ℕ)). IsKept now after (count + 1) (held + (length payload + 9)) (set places count place) s) (sym opened)
       (kept_stored payload few content now may_leave after count held places place at_open (subst (λ (l : List ℕ). now ≡ option_map (stored held l) content) spelled_out is) only room at)
+
+  pub open_sized : (now : Option (List ℕ)) (after : List ℕ → Type 0) (place : Place) (size : ℕ) → size ≡ length payload → now ≡ option_map (stored held new) content → IsOnly now after → count < length places → pair_of place ≡ (held + 8, size)
+      → IsKept now after (count + 1) (held + (size + 9)) (set places count place) shut
+  open_sized now after place size same is only room at =
+      subst (λ (n : ℕ). IsKept now after (count + 1) (held + (n + 9)) (set places count place) shut) (sym same) (open_stored now after place is only room (at ∙ ap (λ (n : ℕ). (held + 8, n)) same))
 
   pub open_stored_shows : (now : Option (List ℕ)) (place : Place) → now ≡ option_map (stored held new) content → count < length places → pair_of place ≡ (held + 8, length payload)
       → shows (count + 1) now ≡ option_map (λ all. all ++ payload ∷ []) (shows count content)
@@ -118,7 +123,7 @@ pub kept_places : (content : Option (List ℕ)) (may_leave : List ℕ → Type 0
     → IsKept content may_leave count held more shut
 kept_places content may_leave count held places more shut kept counted same = record {
   measured = measured_same count held places more kept.measured counted same;
-  told = subst (λ (l : List ℕ). IfSome content (λ bytes. (records : List (List ℕ)) × IsLaidOut records l shut bytes)) (ap (λ (l : List Place). map (λ (place : Place). place.size) l) (sym same)) kept.told;
+  known = subst (λ (l : List ℕ). IfSome content (λ bytes. (records : List (List ℕ)) × IsLaidOut records l shut bytes)) (ap (λ (l : List Place). map (λ (place : Place). place.size) l) (sym same)) kept.known;
   durable = kept.durable;
   risen = kept.risen;
 }
@@ -131,19 +136,19 @@ pub kept_read : (content now : Option (List ℕ)) (may_leave after : List ℕ �
     → IsKept now after count held places shut
 kept_read content now may_leave after count held places shut kept same fewer = record {
   measured = kept.measured;
-  told = subst (λ (o : Option (List ℕ)). Laid count places shut o) (sym same) kept.told;
+  known = subst (λ (o : Option (List ℕ)). Laid count places shut o) (sym same) kept.known;
   durable = λ opened c left. same ∙ kept.durable opened c (fewer c left);
   risen = kept.risen;
 }
 
 pub kept_shut : (content : Option (List ℕ)) (may_leave : List ℕ → Type 0) (count held : ℕ) (places : List Place) (shut : Option (ℕ × ℕ)) (rose : ℕ × ℕ) → IsKept content may_leave count held places shut → HasRisen rose.0 rose.1
     → IsKept content may_leave count held places (Some (unwrap_or shut rose))
-kept_shut None may_leave count held places None rose kept risen = record { measured = kept.measured; told = tt; durable = λ is. absurd (none-some rose (sym is)); risen = risen }
+kept_shut None may_leave count held places None rose kept risen = record { measured = kept.measured; known = tt; durable = λ is. absurd (none-some rose (sym is)); risen = risen }
 kept_shut (Some bytes) may_leave count held places None rose kept risen =
-    let laid = kept.told.1 in
+    let laid = kept.known.1 in
     record {
       measured = kept.measured;
-      told = (kept.told.0, record { gate = laid.gate; tail = laid.tail; split = laid.split; closed = λ is. absurd (none-some rose (sym is)); sizes_are = laid.sizes_are; small = laid.small });
+      known = (kept.known.0, record { gate = laid.gate; tail = laid.tail; split = laid.split; closed = λ is. absurd (none-some rose (sym is)); sizes_are = laid.sizes_are; small = laid.small });
       durable = λ is. absurd (none-some rose (sym is));
       risen = risen;
     }
@@ -153,10 +158,10 @@ kept_shut content may_leave count held places (Some first) rose kept risen = kep
 pub kept_found : (content : Option (List ℕ)) (may_leave : List ℕ → Type 0) (count held : ℕ) (places : List Place) → IsMeasured (length places) held places → count ≡ length places
     → IfSome content (λ bytes. (records : List (List ℕ)) × IsLaidOut records (map (λ (place : Place). place.size) places) None bytes) → IsOnly content may_leave
     → IsKept content may_leave count held places None
-kept_found content may_leave count held places measured all told only =
+kept_found content may_leave count held places measured all known only =
     subst (λ (n : ℕ). IsKept content may_leave n held places None) (sym all) (record {
       measured = measured;
-      told = subst (λ (l : List ℕ). IfSome content (λ bytes. (records : List (List ℕ)) × IsLaidOut records l None bytes)) (sym (all_sizes places)) told;
+      known = subst (λ (l : List ℕ). IfSome content (λ bytes. (records : List (List ℕ)) × IsLaidOut records l None bytes)) (sym (all_sizes places)) known;
       durable = λ _. only;
       risen = tt;
     })

@@ -5,30 +5,30 @@ use Rattle.std.proofs.lemmas.List.{take_at, append-nil, nil_from_length, length-
 use Rattle.std.specs.Prelude.{nat_le}
 use Rattle.std.specs.Int.{w64, to_be_bytes}
 use Rattle.std.specs.Option.{option_map}
-use Rattle.gate_journal.specs.Format.{header, spelled, records_in, has_header, stands_for}
+use Rattle.gate_journal.specs.Format.{header, spelled, records_in, has_header, recovered}
 use Rattle.gate_journal.specs.Kept.{IsLaidOut, IsKept, sizes_of}
 use Rattle.gate_journal.specs.declared.place.Place.{Place}
 use Rattle.gate_journal.proofs.Records.{AreSmall, records_in-spelled, records_in-closed}
 use Rattle.gate_journal.proofs.Sizes.{length-sizes_of}
 
 -- a file of at most 17 bytes stands for none
-pub stands_for-short : (file : List ℕ) → length file < 18 → stands_for file ≡ []
-stands_for-short file short = cond-false (nat_le 18 (length file) && has_header file) (records_in (length file) (drop 16 file)) [] (and_left (nat_le 18 (length file)) (has_header file) (lt-leb 18 (length file) short))
+pub recovered-short : (file : List ℕ) → length file < 18 → recovered file ≡ []
+recovered-short file short = cond-false (nat_le 18 (length file) && has_header file) (records_in (length file) (drop 16 file)) [] (and_left (nat_le 18 (length file)) (has_header file) (lt-leb 18 (length file) short))
 
 pub length-spelled : (records : List (List ℕ)) → length records ≤ length (spelled records)
 length-spelled [] = omega arith
 length-spelled (payload ∷ records) = omega (arith, length-spelled records, length-append (to_be_bytes w64 (length payload)) (payload ++ spelled records), length-append payload (spelled records))
 
 -- a longer file with the header stands for these, and for what is read from the gate behind them on
-pub stands_for-laid : (records : List (List ℕ)) (gate : ℕ) (tail : List ℕ) → AreSmall records → (n : ℕ) × (stands_for (header ++ (spelled records ++ gate ∷ tail)) ≡ records ++ records_in n (gate ∷ tail))
-stands_for-laid records gate tail small =
+pub recovered-laid : (records : List (List ℕ)) (gate : ℕ) (tail : List ℕ) → AreSmall records → (n : ℕ) × (recovered (header ++ (spelled records ++ gate ∷ tail)) ≡ records ++ records_in n (gate ∷ tail))
+recovered-laid records gate tail small =
     let file = header ++ (spelled records ++ gate ∷ tail) in
     let long : length file ≡ 17 + length (spelled records) + length tail = omega (arith, length-append (spelled records) (gate ∷ tail)) in
     let few = length-spelled records in
     elim (cases_lt (length file) 18) [
       | inl lt ↦
           let none : records ≡ [] = nil_from_length records (omega (arith, long, few, lt)) in
-          (0, stands_for-short file lt ∙ sym (append-nil records ∙ none))
+          (0, recovered-short file lt ∙ sym (append-nil records ∙ none))
       | inr ge ↦
           let n = length file - length records in
           let all : length records + n ≡ length file = omega (arith, long, few) in (
@@ -39,16 +39,16 @@ stands_for-laid records gate tail small =
           )
     ]
 
-pub stands_for-closed : (records : List (List ℕ)) (gate : ℕ) (tail : List ℕ) → AreSmall records → gate ≢ 1 → stands_for (header ++ (spelled records ++ gate ∷ tail)) ≡ records
-stands_for-closed records gate tail small closed =
-    let laid = stands_for-laid records gate tail small in
+pub recovered-closed : (records : List (List ℕ)) (gate : ℕ) (tail : List ℕ) → AreSmall records → gate ≢ 1 → recovered (header ++ (spelled records ++ gate ∷ tail)) ≡ records
+recovered-closed records gate tail small closed =
+    let laid = recovered-laid records gate tail small in
     laid.1 ∙ ap (λ (l : List (List ℕ)). records ++ l) (records_in-closed laid.0 gate tail closed) ∙ append-nil records
 
 -- the records that a journal shows are those that are laid out
-pub shown : {records : List (List ℕ)} {sizes : List ℕ} {shut : Option (ℕ × ℕ)} {bytes : List ℕ} (count : ℕ) → length sizes ≡ count → IsLaidOut records sizes shut bytes → take count (stands_for bytes) ≡ records
+pub shown : {records : List (List ℕ)} {sizes : List ℕ} {shut : Option (ℕ × ℕ)} {bytes : List ℕ} (count : ℕ) → length sizes ≡ count → IsLaidOut records sizes shut bytes → take count (recovered bytes) ≡ records
 shown {records} {sizes} {shut} {bytes} count counted laid =
-    let all = stands_for-laid records laid.gate laid.tail laid.small in
-    ap (λ (b : List ℕ). take count (stands_for b)) laid.split
+    let all = recovered-laid records laid.gate laid.tail laid.small in
+    ap (λ (b : List ℕ). take count (recovered b)) laid.split
     ∙ ap (λ (l : List (List ℕ)). take count l) all.1
     ∙ take_at records (records_in all.0 (laid.gate ∷ laid.tail)) count (omega (arith, counted, ap (λ (l : List ℕ). length l) laid.sizes_are, length-map records length))
 
@@ -58,7 +58,7 @@ module _ (content : Option (List ℕ)) (may_leave : List ℕ → Type 0) (count 
 
 -- and the sizes are theirs
 pub shown_sizes : (content : Option (List ℕ)) (may_leave : List ℕ → Type 0) (count held : ℕ) (places : List Place) (shut : Option (ℕ × ℕ)) → IsKept content may_leave count held places shut
-    → IfSome (option_map (λ bytes. take count (stands_for bytes)) content) (λ all. sizes_of count places ≡ map length all)
+    → IfSome (option_map (λ bytes. take count (recovered bytes)) content) (λ all. sizes_of count places ≡ map length all)
 shown_sizes None may_leave count held places shut kept = tt
 shown_sizes (Some bytes) may_leave count held places shut kept =
-    kept.told.1.sizes_are ∙ ap (λ (l : List (List ℕ)). map length l) (sym (shown count (all_counted (Some bytes) may_leave count held places shut kept) kept.told.1))
+    kept.known.1.sizes_are ∙ ap (λ (l : List (List ℕ)). map length l) (sym (shown count (all_counted (Some bytes) may_leave count held places shut kept) kept.known.1))

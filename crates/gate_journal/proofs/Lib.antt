@@ -2,6 +2,7 @@ mod Appended
 mod Begun
 mod Bodies
 mod Damage
+mod Entries
 mod Filled
 mod Found
 mod Guarding
@@ -11,6 +12,7 @@ mod Laid
 mod Opened
 mod Placed
 mod Records
+mod Refused
 mod Sizes
 mod Stored
 mod Torn

@@ -92,23 +92,23 @@ read_all limit at gate places bytes tail read is closed = record {
   within = read.within;
 }
 
--- the same where the disk may tell what it holds
-pub read_none_told : (content : Option (List ℕ)) (limit len : ℕ) (places : List Place) → places ≡ [] → 17 < len → IfSome content (λ bytes. (len ≡ length bytes) × (has_header bytes ≡ true)) → IfSome content (λ bytes. HasRead limit 16 places bytes)
-read_none_told None limit len places none long told = tt
-read_none_told (Some bytes) limit len places none long told =
-    subst (λ (l : List Place). HasRead limit 16 l bytes) (sym none) (read_none limit bytes (omega (arith, long, told.0)) (header_is bytes told.1))
+-- the same where the disk may be known
+pub read_none_known : (content : Option (List ℕ)) (limit len : ℕ) (places : List Place) → places ≡ [] → 17 < len → IfSome content (λ bytes. (len ≡ length bytes) × (has_header bytes ≡ true)) → IfSome content (λ bytes. HasRead limit 16 places bytes)
+read_none_known None limit len places none long known = tt
+read_none_known (Some bytes) limit len places none long known =
+    subst (λ (l : List Place). HasRead limit 16 l bytes) (sym none) (read_none limit bytes (omega (arith, long, known.0)) (header_is bytes known.1))
 
-pub read_more_told : (content : Option (List ℕ)) (limit len at size : ℕ) (places more : List Place) (place : Place) → IfSome content (λ bytes. HasRead limit at places bytes) → IfSome content (λ bytes. StandsAt (drop at bytes) (Record size))
+pub read_more_known : (content : Option (List ℕ)) (limit len at size : ℕ) (places more : List Place) (place : Place) → IfSome content (λ bytes. HasRead limit at places bytes) → IfSome content (λ bytes. StandsAt (drop at bytes) (Record size))
     → IfSome content (λ bytes. (len ≡ length bytes) × (has_header bytes ≡ true)) → at + (9 + size) ≤ len → size ≤ limit → size < 2 ^ 64 → place.size ≡ size → more ≡ places ++ place ∷ []
     → IfSome content (λ bytes. HasRead limit (at + (9 + size)) more bytes)
-read_more_told None limit len at size places more place read stands told long few small there is = tt
-read_more_told (Some bytes) limit len at size places more place read stands told long few small there is =
+read_more_known None limit len at size places more place read stands known long few small there is = tt
+read_more_known (Some bytes) limit len at size places more place read stands known long few small there is =
     subst (λ (l : List Place). HasRead limit (at + (9 + size)) l bytes) (sym is)
-    (read_more limit at size places place bytes stands.0 read stands.1 stands.2 stands.3 (omega (arith, long, told.0)) few small there)
+    (read_more limit at size places place bytes stands.0 read stands.1 stands.2 stands.3 (omega (arith, long, known.0)) few small there)
 
-pub read_all_told : (content : Option (List ℕ)) (limit at : ℕ) (places : List Place) → IfSome content (λ bytes. HasRead limit at places bytes) → IfSome content (λ bytes. StandsAt (drop at bytes) Closed) → IfSome content (λ bytes. Finds limit places bytes)
-read_all_told None limit at places read stands = tt
-read_all_told (Some bytes) limit at places read stands = read_all limit at stands.0 places bytes stands.1 read stands.2 stands.3
+pub read_all_known : (content : Option (List ℕ)) (limit at : ℕ) (places : List Place) → IfSome content (λ bytes. HasRead limit at places bytes) → IfSome content (λ bytes. StandsAt (drop at bytes) Closed) → IfSome content (λ bytes. Finds limit places bytes)
+read_all_known None limit at places read stands = tt
+read_all_known (Some bytes) limit at places read stands = read_all limit at stands.0 places bytes stands.1 read stands.2 stands.3
 
 -- a head that is no record's is a closed gate
 pub closed_only : (content : Option (List ℕ)) (at : ℕ) (head : Head) → IfSome content (λ bytes. StandsAt (drop at bytes) head) → ((size : ℕ) → head ≡ Record size → ⊥) → IfSome content (λ bytes. StandsAt (drop at bytes) Closed)

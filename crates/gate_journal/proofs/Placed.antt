@@ -1,6 +1,6 @@
 -- Where a journal's records lie.
 use Rattle.std.proofs.Common.{◌≡◌, ℕ, zero, suc, ◌+◌, ◌-◌, ◌≤◌, ◌<◌, Option, Some, None, List, [], ◌∷◌, ◌++◌, map, length, get_or, take, drop, IfSome, refl, sym, ◌∙◌, ap, subst, arith, length-append, length-drop}
-use Rattle.std.proofs.lemmas.List.{take_at, drop_at, drop-drop, get_or-take, length-take, length-map}
+use Rattle.std.proofs.lemmas.List.{take_at, drop_at, drop-drop, get_or-take, length-take, length-map, take-take}
 use Rattle.std.proofs.lemmas.Option.{slice_get-get_or, slice_get-map}
 use Rattle.std.specs.Option.{option_map}
 use Rattle.std.specs.Prelude.{slice_get}
@@ -57,8 +57,22 @@ pub read_place : (content : Option (List ℕ)) (may_leave : List ℕ → Type 0)
     → IfSome content (λ bytes. payload ≡ take place.size (drop place.at bytes)) → IfSome (shows count content) (λ all. slice_get all index ≡ Some payload)
 read_place None may_leave count held places shut index place payload kept lt is read = tt
 read_place (Some bytes) may_leave count held places shut index place payload kept lt is read =
-    ap (λ (l : List (List ℕ)). slice_get l index) (shown count (length-sizes_of count places kept.measured.counted) kept.told.1)
-    ∙ (laid_place count held places kept.told.1 index place kept.measured lt is).payload ∙ ap (λ (l : List ℕ). Some l) (sym read)
+    ap (λ (l : List (List ℕ)). slice_get l index) (shown count (length-sizes_of count places kept.measured.counted) kept.known.1)
+    ∙ (laid_place count held places kept.known.1 index place kept.measured lt is).payload ∙ ap (λ (l : List ℕ). Some l) (sym read)
+
+-- the first bytes of it
+read_front : (content : Option (List ℕ)) (may_leave : List ℕ → Type 0) (count held : ℕ) (places : List Place) (shut : Option (ℕ × ℕ)) (index want : ℕ) (place : Place) (front : List ℕ) → IsKept content may_leave count held places shut → index < count → place ≡ get_or places index place → want ≤ place.size
+    → IfSome content (λ bytes. front ≡ take want (drop place.at bytes)) → IfSome (shows count content) (λ all. IfSome (slice_get all index) (λ payload. front ≡ take want payload))
+read_front None may_leave count held places shut index want place front kept lt is short read = tt
+read_front (Some bytes) may_leave count held places shut index want place front kept lt is short read =
+    let there = read_place (Some bytes) may_leave count held places shut index place (take place.size (drop place.at bytes)) kept lt is refl in
+    subst (λ (o : Option (List ℕ)). IfSome o (λ payload. front ≡ take want payload)) (sym there) (read ∙ sym (take-take want place.size (drop place.at bytes) short))
+
+pub front_read : (content : Option (List ℕ)) (may_leave : List ℕ → Type 0) (count held : ℕ) (places : List Place) (shut : Option (ℕ × ℕ)) (index want : ℕ) (place : Place) (old new rest : List ℕ) → IsKept content may_leave count held places shut → index < count → place ≡ get_or places index place → want ≤ place.size
+    → length old ≡ want → length new ≡ want → IfSome content (λ bytes. new ≡ take (length old) (drop place.at bytes)) → IfSome (shows count content) (λ all. IfSome (slice_get all index) (λ payload. take want (new ++ rest) ≡ take want payload))
+front_read None may_leave count held places shut index want place old new rest kept lt is short room long read = tt
+front_read (Some bytes) may_leave count held places shut index want place old new rest kept lt is short room long read =
+    read_front (Some bytes) may_leave count held places shut index want place (take want (new ++ rest)) kept lt is short (take_at new rest want long ∙ read ∙ ap (λ (n : ℕ). take n (drop place.at bytes)) room)
 
 -- and its size
 pub size_there : (count : ℕ) (places : List Place) (index : ℕ) (place : Place) → count ≤ length places → index < count → place ≡ get_or places index place → slice_get (sizes_of count places) index ≡ Some place.size
@@ -74,8 +88,8 @@ pub read_body : (content : Option (List ℕ)) (may_leave : List ℕ → Type 0) 
     → IfSome (shows count content) (λ all. body ≡ spelled all)
 read_body None may_leave count held places shut body kept read = tt
 read_body (Some bytes) may_leave count held places shut body kept read =
-    let laid = kept.told.1 in
-    let all = kept.told.0 in
+    let laid = kept.known.1 in
+    let all = kept.known.0 in
     read
     ∙ ap (λ (l : List ℕ). take (held - 17) (drop 16 l)) laid.split
     ∙ take_at (spelled all) (laid.gate ∷ laid.tail) (held - 17) (omega (arith, kept.measured.held_is, ap taken_by laid.sizes_are, taken_by-spelled all))

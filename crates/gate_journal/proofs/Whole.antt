@@ -3,10 +3,10 @@ use Rattle.std.proofs.Common.{◌≡◌, ◌≢◌, inl, inr, ℕ, zero, suc, �
 use Rattle.std.proofs.lemmas.Bool.{and_from, le-leb, cond-true, cond-false, ne_eqb, lt-leb, cases_lt}
 use Rattle.std.specs.Prelude.{nat_le, ◌==◌}
 use Rattle.std.specs.List.{All}
-use Rattle.gate_journal.specs.Format.{header, spelled, size_of, is_whole, behind, has_header, stands_for, damaged_in, damaged_at}
-use Rattle.gate_journal.specs.View.{Holds}
+use Rattle.gate_journal.specs.Format.{header, spelled, size_of, is_whole, behind, has_header, recovered, damaged_in, damaged_at}
+use Rattle.gate_journal.specs.View.{RecoversTo}
 use Rattle.gate_journal.proofs.Records.{AreSmall, entry, length-entry, size_of-entry, is_whole-entry, behind-entry, spelled-more}
-use Rattle.gate_journal.proofs.Laid.{length-spelled, stands_for-closed}
+use Rattle.gate_journal.proofs.Laid.{length-spelled, recovered-closed}
 
 -- each record is within the limit
 abbrev pub AreWithin : ℕ → List (List ℕ) → Type 0
@@ -66,8 +66,8 @@ damaged_at-closed limit records gate tail bytes is small within closed =
           to.1 ∙ damaged_in-closed limit (suc to.0) (16 + length (spelled records)) gate tail closed
     ]
 
-pub holds_closed : (limit : ℕ) (records : List (List ℕ)) (gate : ℕ) (tail bytes : List ℕ) → bytes ≡ header ++ (spelled records ++ gate ∷ tail) → AreSmall records → AreWithin limit records → gate ≢ 1 → Holds limit records bytes
+pub holds_closed : (limit : ℕ) (records : List (List ℕ)) (gate : ℕ) (tail bytes : List ℕ) → bytes ≡ header ++ (spelled records ++ gate ∷ tail) → AreSmall records → AreWithin limit records → gate ≢ 1 → RecoversTo limit records bytes
 holds_closed limit records gate tail bytes is small within closed = record {
   whole = damaged_at-closed limit records gate tail bytes is small within closed;
-  found = ap (λ (l : List ℕ). stands_for l) is ∙ stands_for-closed records gate tail small closed;
+  found = ap (λ (l : List ℕ). recovered l) is ∙ recovered-closed records gate tail small closed;
 }

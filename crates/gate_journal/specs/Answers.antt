@@ -20,10 +20,10 @@ pub record IsShutAnswer {D : Type 0} (rose : ℕ × ℕ) (old new : View D) : Ty
   pub shut : old.shut ≡ Some rose
   pub same : new ≡ old
 
-pub record IsFullAnswer {D : Type 0} (held needed : ℕ) (payload : List ℕ) (old new : View D) : Type 0 where
+pub record IsFullAnswer {D : Type 0} (held needed asked : ℕ) (old new : View D) : Type 0 where
   pub is_open : old.shut ≡ None
   pub held_is : held ≡ held_for old.sizes
-  pub needed_is : needed ≡ length payload + 9
+  pub needed_is : needed ≡ asked
   pub past : old.limit < held + needed
   pub same : new ≡ old
 
@@ -34,11 +34,16 @@ pub record IsFaultAnswer {D : Type 0} (disk_of : DiskGhosts D) (rose : ℕ × �
   pub risen : HasRisen rose.0 rose.1
   pub shut : new.shut ≡ Some rose
   pub doubt : new.doubt ≡ Some payload
-  pub room : old.room ≤ new.room
+
+-- why a record that takes so many bytes isn't appended
+abbrev pub IsRefusal : {D : Type 0} → AppendFault D → ℕ → View D → Type 0
+IsRefusal (Shut rose) asked journal = IsShutAnswer rose journal journal
+IsRefusal (JournalFull held needed) asked journal = IsFullAnswer held needed asked journal journal
+IsRefusal (DiskFault rose) asked journal = ⊥
 
 abbrev pub IsAppendFault : {D : Type 0} → DiskGhosts D → AppendFault D → List ℕ → View D → View D → Type 0
 IsAppendFault disk_of (Shut rose) payload old new = IsShutAnswer rose old new
-IsAppendFault disk_of (JournalFull held needed) payload old new = IsFullAnswer held needed payload old new
+IsAppendFault disk_of (JournalFull held needed) payload old new = IsFullAnswer held needed (length payload + 9) old new
 IsAppendFault disk_of (DiskFault rose) payload old new = IsFaultAnswer disk_of rose payload old new
 
 -- a fault of the disk shuts the journal, if it wasn't; a record that was found is never answered as damaged

@@ -65,9 +65,9 @@ records_in (suc n) (gate ∷ rest) = if gate == 1 && is_whole rest then payload_
 abbrev pub has_header : List ℕ → Bool
 has_header file = bytes_eq (take 16 file) header
 
--- the payloads of the records that a file stands for
-abbrev pub stands_for : List ℕ → List (List ℕ)
-stands_for file = if nat_le 18 (length file) && has_header file then records_in (length file) (drop 16 file) else []
+-- the payloads of the records that a file recovers to
+abbrev pub recovered : List ℕ → List (List ℕ)
+recovered file = if nat_le 18 (length file) && has_header file then records_in (length file) (drop 16 file) else []
 
 -- where the records from a gate on break off: no byte there, or an open gate whose record isn't whole or is longer than the limit
 abbrev pub damaged_in : ℕ → ℕ → ℕ → List ℕ → Option ℕ

@@ -4,8 +4,8 @@ use Rattle.std.specs.List.{All}
 use Rattle.std.specs.Option.{option_map}
 use Rattle.disk_api.specs.Images.{IsOnly}
 use Rattle.fault_count.specs.Rise.{HasRisen}
-use Rattle.gate_journal.specs.Format.{header, spelled, held_for, payload_of, stands_for}
-use Rattle.gate_journal.specs.View.{StandsForOrDoubt}
+use Rattle.gate_journal.specs.Format.{header, spelled, held_for, recovered}
+use Rattle.gate_journal.specs.View.{RecoversToInDoubt}
 use Rattle.gate_journal.specs.declared.place.Place.{Place}
 
 -- where payloads of these sizes lie, as offset and length, if the first gate is at this offset
@@ -37,21 +37,16 @@ pub record IsLaidOut (records : List (List ℕ)) (sizes : List ℕ) (shut : Opti
 
 pub record IsKept (content : Option (List ℕ)) (may_leave : List ℕ → Type 0) (count held : ℕ) (places : List Place) (shut : Option (ℕ × ℕ)) : Type 0 where
   pub measured : IsMeasured count held places
-  pub told : IfSome content (λ bytes. (records : List (List ℕ)) × IsLaidOut records (sizes_of count places) shut bytes)
+  pub known : IfSome content (λ bytes. (records : List (List ℕ)) × IsLaidOut records (sizes_of count places) shut bytes)
   pub durable : shut ≡ None → IsOnly content may_leave
   pub risen : IfSome shut (λ rose. HasRisen rose.0 rose.1)
 
--- the payload in doubt, by what is left in the buffer where records are put together
-abbrev pub doubt_of : List ℕ → Option (List ℕ)
-doubt_of [] = None
-doubt_of (byte ∷ rest) = Some (payload_of (byte ∷ rest))
-
 -- the records that a journal of this count shows, by the bytes of its file
 abbrev pub shows : ℕ → Option (List ℕ) → Option (List (List ℕ))
-shows count content = option_map (λ bytes. take count (stands_for bytes)) content
+shows count content = option_map (λ bytes. take count (recovered bytes)) content
 
--- what a crash may leave stands for the records, each within the limit, and perhaps for the one in doubt
+-- what a crash may leave recovers to the records, each within the limit, and perhaps to the one in doubt
 pub record IsGuarded (content : Option (List ℕ)) (may_leave : List ℕ → Type 0) (limit count : ℕ) (doubt : Option (List ℕ)) (shut : Option (ℕ × ℕ)) : Type 0 where
   pub within : IfSome (shows count content) (λ records. All (λ payload. length payload ≤ limit) records)
-  pub images : (c : List ℕ) → may_leave c → StandsForOrDoubt limit (shows count content) doubt c
+  pub images : (c : List ℕ) → may_leave c → RecoversToInDoubt limit (shows count content) doubt c
   pub settled : shut ≡ None → doubt ≡ None

@@ -4,7 +4,7 @@ use Rattle.std.specs.List.{All}
 use Rattle.std.specs.Int.{w64, to_be_bytes}
 use Rattle.disk_api.specs.declared.disk.DiskStop.{DiskStop}
 use Rattle.disk_api.specs.declared.disk.DiskStop.TheVariants.{Fault, Memory as DiskMemory}
-use Rattle.gate_journal.specs.Format.{is_whole, size_of, stands_for, damaged_at}
+use Rattle.gate_journal.specs.Format.{is_whole, size_of, recovered, damaged_at}
 use Rattle.gate_journal.specs.Kept.{IsLaidOut}
 use Rattle.gate_journal.specs.declared.fault.JournalFault.{JournalFault}
 use Rattle.gate_journal.specs.declared.fault.JournalFault.TheVariants.{DiskFault, Memory}
@@ -45,10 +45,10 @@ pub record Finds (limit : ℕ) (places : List Place) (bytes : List ℕ) : Type 0
   pub laid_out : IsLaidOut records (map (λ (place : Place). place.size) places) None bytes
   pub within : All (λ payload. length payload ≤ limit) records
 
--- the disk now holds a whole journal of the records that these bytes stand for
+-- the disk now holds a whole journal of the records that these bytes recover to
 pub record Opens (limit : ℕ) (places : List Place) (bytes : List ℕ) (content : Option (List ℕ)) : Type 0 where
   pub now : List ℕ
-  pub told : content ≡ Some now
+  pub known : content ≡ Some now
   pub found : Finds limit places now
-  pub same : found.records ≡ stands_for bytes
+  pub same : found.records ≡ recovered bytes
   pub whole : damaged_at limit bytes ≡ None

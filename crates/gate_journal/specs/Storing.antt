@@ -22,6 +22,6 @@ pub record HasRecord (held : ℕ) (new bytes c : List ℕ) : Type 0 where
 abbrev pub IsStoring : ℕ → List ℕ → List ℕ → List ℕ → Type 0
 IsStoring held new bytes c = IsBehindGate held bytes c ⊎ HasRecord held new bytes c
 
--- the same of an image, where the disk told the bytes
-abbrev pub IsStoringTold : ℕ → List ℕ → Option (List ℕ) → List ℕ → Type 0
-IsStoringTold held new content c = IfSome content (λ bytes. IsStoring held new bytes c)
+-- the same of an image, where the disk is known
+abbrev pub IsStoringKnown : ℕ → List ℕ → Option (List ℕ) → List ℕ → Type 0
+IsStoringKnown held new content c = IfSome content (λ bytes. IsStoring held new bytes c)

@@ -5,6 +5,7 @@
 //! written behind a closed gate and synced, and only then the gate is opened.
 #![tactic(auto)]
 
+mod entry;
 mod fault;
 mod journal;
 mod open;
@@ -13,6 +14,7 @@ mod rose;
 mod store;
 mod window;
 
+pub use entry::Entry;
 pub use fault::{AppendFault, JournalFault, OpenRefused};
 pub use journal::Journal;
 pub use rose::Rose;

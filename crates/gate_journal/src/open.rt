@@ -1,16 +1,16 @@
 // Opening: a new journal is begun, and an old one is read head by head.
 ghost use Rattle.std.specs.Prelude.{◌≡◌, ◌≤◌, ◌<◌, ◌+◌, ◌-◌, ◌^◌, ◌⊎◌, ℕ, List, [], ◌∷◌, ◌++◌, Some, None, true, length, take, drop, map, IfSome, IfOk, OnOk, OnErr, IfErr, IsErrOf, slice_index};
 ghost use Rattle.std.specs.Option.{option_map};
-ghost use Rattle.disk_api.specs.Content.{BothTold};
+ghost use Rattle.disk_api.specs.Content.{BothKnown};
 ghost use Rattle.disk_api.specs.Images.{IsOnly};
 ghost use Rattle.disk_api.specs.Runs.{LeavesOnly};
 ghost use Rattle.disk_api.specs.Faults.{CountsFaults, CountsStops};
 ghost use Rattle.fault_count.specs.Rise.{HasRisen};
-ghost use Rattle.gate_journal.specs.Format.{header, has_header, stands_for, damaged_at, opened, IsUnopened};
+ghost use Rattle.gate_journal.specs.Format.{header, has_header, recovered, damaged_at, opened, IsUnopened};
 ghost use Rattle.gate_journal.specs.Reading.{Fills, IsWindow, IsHead, StandsAt, IsHarmed, Finds, Opens};
 ghost use Rattle.disk_api.specs.Runs.{Rests};
 ghost use Rattle.gate_journal.specs.Kept.{IsMeasured};
-ghost use Rattle.gate_journal.specs.View.{StandsFor};
+ghost use Rattle.gate_journal.specs.View.{RecoversToKnown};
 
 use crate::JournalFault;
 use crate::place::Place;
@@ -67,7 +67,7 @@ fn head_bytes<D: Disk>(
     left: u64,
 ) -> Result<([u8; 9], usize), DiskStop>
     requires fits { at + left < 2 ^ 64 }
-    requires told { IfSome (D.content disk.old) (λ bytes. at + left ≡ length bytes) }
+    requires known { IfSome (D.content disk.old) (λ bytes. at + left ≡ length bytes) }
     requires window { IfSome (D.content disk.old) (IsWindow window.old.start window.old.bytes.items) }
     ensures window { OnOk result (IfSome (D.content disk.old) (IsWindow window.new.start window.new.bytes.items)) }
     ensures within { IfOk result (λ head. (head.1 ≤ 9) × (head.1 ≤ left)) }
@@ -91,7 +91,7 @@ fn read_head<D: Disk>(
     limit: u64,
 ) -> Result<Head, JournalFault>
     requires fits { at + left < 2 ^ 64 }
-    requires told { IfSome (D.content disk.old) (λ bytes. at + left ≡ length bytes) }
+    requires known { IfSome (D.content disk.old) (λ bytes. at + left ≡ length bytes) }
     requires window { IfSome (D.content disk.old) (IsWindow window.old.start window.old.bytes.items) }
     ensures window { OnOk result (IfSome (D.content disk.old) (IsWindow window.new.start window.new.bytes.items)) }
     ensures head { IfOk result (λ head. IsHead left limit head) }
@@ -125,7 +125,7 @@ fn read_heads<D: Disk>(
     limit: u64,
 ) -> Result<Layout, JournalFault>
     requires long { 17 < len }
-    requires told { IfSome (D.content disk.old) (λ bytes. (len ≡ length bytes) × (has_header bytes ≡ true)) }
+    requires known { IfSome (D.content disk.old) (λ bytes. (len ≡ length bytes) × (has_header bytes ≡ true)) }
     ensures measured { IfOk result (λ layout. IsMeasured (length layout.places.items) layout.held layout.places.items) }
     ensures found { IfOk result (λ layout. IfSome (D.content disk.old) (λ bytes. Finds limit layout.places.items bytes)) }
     ensures harmed { IfErr result (λ fault. (at : ℕ) → fault ≡ JournalFault.Damaged at → IfSome (D.content disk.old) (λ bytes. damaged_at limit bytes ≡ Some at)) }
@@ -163,7 +163,7 @@ fn begin<D: Disk>(alloc: Global, disk: &mut D) -> Result<(), DiskStop>
     requires durable { IsOnly (D.content disk.old) (D.may_leave disk.old) }
     ensures begun { OnOk result (D.content disk.new ≡ option_map (λ _. header ++ 0 ∷ []) (D.content disk.old)) }
     ensures durable { OnOk result (IsOnly (D.content disk.new) (D.may_leave disk.new)) }
-    ensures short { BothTold (λ _ bytes. length bytes < 18) (D.content disk.old) (D.content disk.new) }
+    ensures short { BothKnown (λ _ bytes. length bytes < 18) (D.content disk.old) (D.content disk.new) }
     ensures any_moment { LeavesOnly D.Disk disk.old disk.new (λ c. IfSome (D.content disk.old) (λ _. length c < 18)) }
     ensures faults { CountsStops (D.fault_count disk.old) (D.fault_count disk.new) result }
 {
@@ -179,10 +179,10 @@ pub(crate) fn find<D: Disk>(alloc: Global, disk: &mut D, limit: u64) -> Result<L
     ensures durable { OnOk result (IsOnly (D.content disk.new) (D.may_leave disk.new)) }
     ensures harmed { IfErr result (λ fault. (at : ℕ) → fault ≡ JournalFault.Damaged at
         → (D.content disk.new ≡ D.content disk.old) × IfSome (D.content disk.old) (λ bytes. damaged_at limit bytes ≡ Some at)) }
-    ensures unopened { OnErr result (BothTold IsUnopened (D.content disk.old) (D.content disk.new)) }
+    ensures unopened { OnErr result (BothKnown IsUnopened (D.content disk.old) (D.content disk.new)) }
     ensures later { D.fault_count disk.old ≤ D.fault_count disk.new }
     ensures failed { IsErrOf result JournalFault.DiskFault → HasRisen (D.fault_count disk.old) (D.fault_count disk.new) }
-    ensures any_moment { LeavesOnly D.Disk disk.old disk.new (λ c. D.may_leave disk.old c ⊎ StandsFor limit (option_map stands_for (D.content disk.old)) c) }
+    ensures any_moment { LeavesOnly D.Disk disk.old disk.new (λ c. D.may_leave disk.old c ⊎ RecoversToKnown limit (option_map recovered (D.content disk.old)) c) }
 {
     disk.sync(alloc)?;
     let len = disk.len(alloc)?;
@@ -199,24 +199,38 @@ pub(crate) fn find<D: Disk>(alloc: Global, disk: &mut D, limit: u64) -> Result<L
     read_heads(alloc, disk, len, limit)
 }
 
-/// Reads a payload into memory of `alloc`. `disk_alloc` is for the calls of the disk.
-pub(crate) fn read_payload<D: Disk>(
+/// Reads the bytes from `at` on, as many as there is room for.
+pub(crate) fn fill_all<D: Disk>(
     alloc: Global,
-    disk_alloc: Global,
     disk: &mut D,
-    place: Place,
-) -> Result<Vec<u8>, DiskStop>
-    ensures size { IfOk result (λ payload. length payload.items ≡ place.size) }
-    ensures payload { IfOk result (λ payload. IfSome (D.content disk.old) (λ bytes. payload.items ≡ take place.size (drop place.at bytes))) }
+    at: u64,
+    into: &mut [u8],
+) -> Result<(), DiskStop>
+    requires { at + length into.old < 2 ^ 64 }
+    ensures part { OnOk result (IfSome (D.content disk.old) (λ bytes. into.new ≡ take (length into.old) (drop at bytes))) }
     ensures rests { Rests D.Disk disk.old disk.new }
     ensures faults { CountsFaults (D.fault_count disk.old) (D.fault_count disk.new) result }
 {
-    let size = place.size as usize;
-    let mut payload = Vec::new(alloc);
-    payload.resize(size, 0)?;
-    if fill(disk_alloc, disk, place.at, payload.as_mut_slice())? < size {
+    if fill(alloc, disk, at, into)? < into.len() {
         // Somebody has cut the file short. The disk hasn't failed.
         return Err(DiskStop::Memory);
     }
-    Ok(payload)
+    Ok(())
+}
+
+/// Reads a part of the file into memory of `alloc`.
+pub(crate) fn read_part<D: Disk>(
+    alloc: Global,
+    disk: &mut D,
+    place: Place,
+) -> Result<Vec<u8>, DiskStop>
+    ensures size { IfOk result (λ part. length part.items ≡ place.size) }
+    ensures part { IfOk result (λ part. IfSome (D.content disk.old) (λ bytes. part.items ≡ take place.size (drop place.at bytes))) }
+    ensures rests { Rests D.Disk disk.old disk.new }
+    ensures faults { CountsFaults (D.fault_count disk.old) (D.fault_count disk.new) result }
+{
+    let mut part = Vec::new(alloc);
+    part.resize(place.size as usize, 0)?;
+    fill_all(alloc, disk, place.at, part.as_mut_slice())?;
+    Ok(part)
 }

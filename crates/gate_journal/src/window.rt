@@ -4,7 +4,7 @@ ghost use Rattle.disk_api.specs.Faults.{CountsFaults};
 ghost use Rattle.gate_journal.specs.Reading.{IsWindow};
 ghost use Rattle.disk_api.specs.Runs.{Rests};
 
-use crate::open::read_payload;
+use crate::open::read_part;
 use crate::place::Place;
 use disk_api::{Disk, DiskStop};
 use std::alloc::Global;
@@ -71,7 +71,7 @@ fn read_window<D: Disk>(alloc: Global, disk: &mut D, at: u64, left: u64) -> Resu
     ensures faults { CountsFaults (D.fault_count disk.old) (D.fault_count disk.new) result }
 {
     let size = left.min(WINDOW);
-    let bytes = read_payload(alloc, alloc, disk, Place { at, size })?;
+    let bytes = read_part(alloc, disk, Place { at, size })?;
     Ok(Window { start: at, bytes })
 }
 

@@ -4,7 +4,7 @@ use crate::disks::tell_bytes;
 use crate::setup::{Setup, parts};
 use anyhow::{Context, Result, bail};
 use disk_api::{Disk, FileDisk, MemoryDisk};
-use gate_journal::{AppendFault, Journal, JournalFault, OpenRefused};
+use gate_journal::{AppendFault, Entry, Journal, JournalFault, OpenRefused};
 use std::alloc::Global;
 use std::fs;
 
@@ -101,7 +101,9 @@ fn take<D: Disk>(
     let (word, text) = parts(step);
     match word {
         "append" => append(alloc, journal, told, &hex::decode(alloc, text)?),
+        "build" => build(alloc, journal, told, &hex::decode(alloc, text)?),
         "record" => record(alloc, journal, told, text.parse::<u64>()?),
+        "front" => front(alloc, journal, told, text),
         "payload" => payload(alloc, journal, told, text.parse::<u64>()?),
         "count" => {
             let (count, held) = (journal.count(), journal.held());
@@ -126,7 +128,24 @@ fn append<D: Disk>(
     payload: &[u8],
 ) -> Result<()> {
     journal.reserve(alloc, payload.len())?;
-    match journal.append(payload) {
+    tell_appended(told, journal.append(payload))
+}
+
+// The same, from the buffer in which the record is put together.
+fn build<D: Disk>(
+    alloc: Global,
+    journal: &mut Journal<D>,
+    told: &mut String,
+    payload: &[u8],
+) -> Result<()> {
+    let mut buffer = Entry::begin(alloc)?;
+    buffer.extend_from_slice(payload)?;
+    journal.reserve_place(alloc)?;
+    tell_appended(told, journal.append_built(Entry::new(buffer)?))
+}
+
+fn tell_appended<D: Disk>(told: &mut String, answer: Result<(), AppendFault<D>>) -> Result<()> {
+    match answer {
         Ok(()) => told.push_str("\tok")?,
         Err(AppendFault::Shut { rose }) => {
             write!(told, "\tshut {} {}", rose.before(), rose.after())?;
@@ -150,6 +169,26 @@ fn record<D: Disk>(
     }
     match journal.record(alloc, index) {
         Ok(payload) => tell_bytes(alloc, told, payload.as_slice()),
+        Err(fault) => tell_fault(told, fault),
+    }
+}
+
+// The first bytes of a record, at most as many as are said behind its number.
+fn front<D: Disk>(
+    alloc: Global,
+    journal: &mut Journal<D>,
+    told: &mut String,
+    text: &str,
+) -> Result<()> {
+    let (index, most) = parts(text);
+    let index = index.parse::<u64>()?;
+    if index >= journal.count() {
+        bail!("no such record");
+    }
+    let mut into = Vec::new(alloc);
+    into.resize(most.parse::<usize>()?, 0)?;
+    match journal.front(index, into.as_mut_slice()) {
+        Ok(n) => tell_bytes(alloc, told, &into[..n]),
         Err(fault) => tell_fault(told, fault),
     }
 }

@@ -1,13 +1,14 @@
 -- Bytes that stand for themselves in a quoted text.
-use Rattle.std.proofs.Common.{ℕ, suc, ◌≡◌, ◌≢◌, ◌≤◌, ◌<◌, ◌^◌, List, [], ◌∷◌, ◌++◌, true, refl, sym, ◌∙◌, arith, ap, codes, decimal, append_assoc}
+use Rattle.std.proofs.Common.{ℕ, suc, ◌≡◌, ◌≢◌, ◌≤◌, ◌<◌, ◌^◌, List, [], ◌∷◌, ◌++◌, Bool, true, false, true≢false, ◌&&◌, refl, sym, ◌∙◌, arith, ap, codes, decimal, append_assoc}
 use Rattle.std.proofs.lemmas.Bool.Decides.{nat_tests}
-use Rattle.std.specs.List.{AllPass}
+use Rattle.std.specs.List.{AllPass, list_all}
+use Rattle.std.specs.Char.{is_ascii_alphabetic}
 use Rattle.std.specs.Str.Parse.{AllDigits}
 use Rattle.std.proofs.lemmas.Fmt.{decimal_is_IsNumeral}
 use Rattle.std.proofs.lemmas.Str.Parse.{digit_at}
 use Rattle.json.specs.Print.{escape_byte, escape}
 use Rattle.json.proofs.Printed.Strings.{escape_byte_plain}
-use Rattle.json_api.specs.Name.{is_name_byte}
+use Rattle.names.specs.Name.{is_name_byte}
 use Rattle.std.specs.Fmt.{digits}
 use Rattle.json_api.specs.Reply.{accepted_spelling, refusal_spelling}
 
@@ -54,30 +55,49 @@ escape-digits (d ∷ ds) h =
 pub escape-decimal : (n : ℕ) → n < 2 ^ 64 → escape (decimal n) ≡ decimal n
 escape-decimal n fits = escape-digits (decimal n) (decimal_is_IsNumeral n fits).0.1
 
-escape-too_many : escape (codes "TooManyOrigins") ≡ codes "TooManyOrigins"
+-- letters need no escape
+letter : (c : ℕ) → is_ascii_alphabetic c ≡ true → escape_byte c ≡ c ∷ []
+letter c h = escape_byte_plain c (λ e. grind (arith, nat_tests)) (λ e. grind (arith, nat_tests)) (grind (arith, nat_tests))
+
+both : (a b : Bool) → (a && b) ≡ true → (a ≡ true) × (b ≡ true)
+both true b h = (refl, h)
+both false b h = absurd (true≢false (sym h))
+
+pub escape-letters : (s : List ℕ) → list_all is_ascii_alphabetic s ≡ true → escape s ≡ s
+escape-letters [] h = refl
+escape-letters (c ∷ s) h =
+    let parts = both (is_ascii_alphabetic c) (list_all is_ascii_alphabetic s) h in
+    rw (letter c parts.0) (ap (λ t. c ∷ t) (escape-letters s parts.1))
+
+escape-join : (a b : List ℕ) → escape (a ++ b) ≡ escape a ++ escape b
+escape-join [] b = refl
+escape-join (c ∷ a) b = ap (λ (t : List ℕ). escape_byte c ++ t) (escape-join a b) ∙ sym (append_assoc (escape_byte c) (escape a) (escape b))
+
+escape-blank : escape (codes " ") ≡ codes " "
 unfolding escape_byte
-escape-too_many = refl
+escape-blank = refl
 
-decimal-15 : decimal 15 ≡ codes "15"
-unfolding digits
-decimal-15 = refl
+pub escape-two : (held needed : ℕ) → held < 2 ^ 64 → needed < 2 ^ 64 → escape (decimal held ++ codes " " ++ decimal needed) ≡ decimal held ++ codes " " ++ decimal needed
+escape-two held needed held_fits needed_fits =
+    escape-join (decimal held ++ codes " ") (decimal needed)
+    ∙ ap (λ (t : List ℕ). t ++ escape (decimal needed))
+    (escape-join (decimal held) (codes " ")
+    ∙ ap (λ (t : List ℕ). t ++ escape (codes " ")) (escape-decimal held held_fits)
+    ∙ ap (λ (t : List ℕ). decimal held ++ t) escape-blank)
+    ∙ ap (λ (t : List ℕ). decimal held ++ codes " " ++ t) (escape-decimal needed needed_fits)
 
--- a refusal of the number's digits, the detail and the name, none of which needs an escape
-abbrev pub refusal_of : List ℕ → List ℕ → List ℕ → List ℕ
-refusal_of code detail refused =
-    codes "{\"code\":" ++ code ++ codes ",\"detail\":" ++ 34 ∷ (detail ++ 34 ∷ []) ++ codes ",\"refused\":" ++ 34 ∷ (refused ++ 34 ∷ []) ++ codes "}"
+regroup : (old a code b detail m refused e q : List ℕ)
+    → old ++ a ++ code ++ (b ++ q) ++ detail ++ (q ++ (m ++ q)) ++ refused ++ (q ++ e)
+    ≡ old ++ (a ++ code ++ b ++ (q ++ (detail ++ q)) ++ m ++ (q ++ (refused ++ q)) ++ e)
+regroup old a code b detail m refused e q = simp append_assoc
 
--- its pieces, one after another
-pieces-too_many : (old after : List ℕ)
-    → old ++ codes "{\"code\":15,\"detail\":\"" ++ after ++ codes "\",\"refused\":\"TooManyOrigins\"}"
-    ≡ old ++ refusal_of (codes "15") after (codes "TooManyOrigins")
-pieces-too_many old after = simp append_assoc
+pieces : (old code detail refused : List ℕ)
+    → old ++ codes "{\"code\":" ++ code ++ codes ",\"detail\":\"" ++ detail ++ codes "\",\"refused\":\"" ++ refused ++ codes "\"}"
+    ≡ old ++ (codes "{\"code\":" ++ code ++ codes ",\"detail\":" ++ 34 ∷ (detail ++ 34 ∷ []) ++ codes ",\"refused\":" ++ 34 ∷ (refused ++ 34 ∷ []) ++ codes "}")
+pieces old code detail refused = regroup old (codes "{\"code\":") code (codes ",\"detail\":") detail (codes ",\"refused\":") refused (codes "}") (34 ∷ [])
 
-pub too_many_spelling : (old : List ℕ) (after : ℕ) → after < 2 ^ 64
-    → old ++ codes "{\"code\":15,\"detail\":\"" ++ decimal after ++ codes "\",\"refused\":\"TooManyOrigins\"}"
-    ≡ old ++ refusal_spelling 15 (decimal after) (codes "TooManyOrigins")
-too_many_spelling old after fits =
-    pieces-too_many old (decimal after)
-    ∙ ap (λ (name : List ℕ). old ++ refusal_of (codes "15") (decimal after) name) (sym escape-too_many)
-    ∙ ap (λ (detail : List ℕ). old ++ refusal_of (codes "15") detail (escape (codes "TooManyOrigins"))) (sym (escape-decimal after fits))
-    ∙ ap (λ (code : List ℕ). old ++ refusal_of code (escape (decimal after)) (escape (codes "TooManyOrigins"))) (sym decimal-15)
+-- a refusal whose detail and name need no escape, piece by piece
+pub refusal_spelling-plain : (old : List ℕ) (code : ℕ) (detail refused : List ℕ) → escape detail ≡ detail → escape refused ≡ refused
+    → old ++ codes "{\"code\":" ++ decimal code ++ codes ",\"detail\":\"" ++ detail ++ codes "\",\"refused\":\"" ++ refused ++ codes "\"}"
+    ≡ old ++ refusal_spelling code detail refused
+refusal_spelling-plain old code detail refused d r = rw (d, r) (pieces old (decimal code) detail refused)

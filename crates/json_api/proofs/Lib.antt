@@ -1,9 +1,10 @@
 pub mod Escapes
-pub mod JournalReplies
 pub mod Written
-pub mod Texts
-pub mod OneMeaning
-pub mod Passes
-pub mod FieldsLemmas
+pub mod OriginTexts
 pub mod Turns
-pub mod Joined
+pub mod Named
+pub mod Members
+pub mod Passes
+pub mod Others
+pub mod Answered
+pub mod Commas

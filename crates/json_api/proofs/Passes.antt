@@ -10,8 +10,12 @@ use Rattle.json_api.proofs.Turns.{converted-array, converted-object, item_read, 
 use Rattle.origins.specs.declared.Origin.{Origin}
 use Rattle.origins.specs.Origin.{SpellsOrigin}
 use Rattle.json_api.specs.Line.{AreOriginTexts}
-use Rattle.json_api.specs.Plain.{ReadsValue, ReadsItems, ReadsMembers, AreFields}
-use Rattle.json_api.specs.declared.plain.Fields.{Fields}
+use Rattle.json_api.specs.Passes.{ReadsValue, ReadsItems, ReadsMembers, AreMembers}
+use Rattle.json_api.specs.declared.slots.Slot.{Slot}
+use Rattle.json_api.specs.declared.slots.Slot.TheVariants.{Absent}
+use Rattle.json_api.specs.declared.fields.Field.{Field}
+use Rattle.json_api.specs.Slots.{slot_at}
+use Rattle.json_api.proofs.Members.{AreMembers-none}
 
 -- ---- values
 
@@ -100,17 +104,17 @@ PassedItems-end from to rest origins p e = (
 
 -- ---- the members of a line
 
--- members with these fields are passed
-pub record PassedFields (from to : List Token) (fields : Fields) : Type 0 where
+-- members with these slots are passed
+pub record PassedMembers (from to : List Token) (slots : List Slot) : Type 0 where
   pub turns : ℕ
   pub enough : length to ≤ turns
   pub found : Members
   pub passed : converted (λ ms. of_members ms no_members) (members (value 126) (length from) from) ≡ converted (λ ms. of_members ms found) (members (value 126) turns to)
-  pub are : AreFields found fields
+  pub are : AreMembers found slots
 
-pub PassedFields-step : (from to mid next : List Token) (name : List ℕ) (d : Data) (old new : Fields) (p : PassedFields from to old)
-    → read_key to ≡ Some (Some name, mid) → ReadsValue mid d next → length next ≤ length mid → AreFields (put name d p.found) new → PassedFields from next new
-PassedFields-step from to mid next name d old new p key reads short are =
+pub PassedMembers-step : (from to mid next : List Token) (name : List ℕ) (d : Data) (old new : List Slot) (p : PassedMembers from to old)
+    → read_key to ≡ Some (Some name, mid) → ReadsValue mid d next → length next ≤ length mid → AreMembers (put name d p.found) new → PassedMembers from next new
+PassedMembers-step from to mid next name d old new p key reads short are =
     let n = p.turns in
     let enough = p.enough in
     let less = read_key-shorter to (Some name) mid key in
@@ -122,16 +126,16 @@ PassedFields-step from to mid next name d old new p key reads short are =
       are = are;
     }
 
-pub PassedFields-end : (from to rest : List Token) (fields : Fields) → PassedFields from to fields → read_key to ≡ Some (None, rest)
-    → (ms : Members) × ReadsMembers from ms rest × AreFields ms fields
-PassedFields-end from to rest fields p key =
+pub PassedMembers-end : (from to rest : List Token) (slots : List Slot) → PassedMembers from to slots → read_key to ≡ Some (None, rest)
+    → (ms : Members) × ReadsMembers from ms rest × AreMembers ms slots
+PassedMembers-end from to rest slots p key =
     (p.found, p.passed ∙ members_over (value 126) p.found p.turns to rest p.enough key, p.are)
 
-pub PassedFields-start : (ts : List Token) → PassedFields ts ts (record { is_update = false; is_for_anchor = false; added = None; removed = None })
-PassedFields-start ts = record {
+pub PassedMembers-start : (ts : List Token) (slots : List Slot) → ((f : Field) → slot_at slots f ≡ Absent) → PassedMembers ts ts slots
+PassedMembers-start ts slots absent = record {
   turns = length ts;
   enough = omega arith;
   found = no_members;
   passed = refl;
-  are = record { command = refl; authority = refl; added = refl; removed = refl; no_other = refl };
+  are = AreMembers-none slots absent;
 }

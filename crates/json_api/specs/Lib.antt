@@ -1,7 +1,10 @@
-pub mod Name
+pub mod Names
+pub mod MemberName
+pub mod Table
+pub mod Slots
+pub mod Line
+pub mod Passes
 pub mod Reply
 pub mod Tokens
-pub mod Line
-pub mod Plain
-pub mod Compact
-pub mod JournalReply
+pub mod Refused
+pub mod Texts

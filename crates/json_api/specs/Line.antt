@@ -1,15 +1,27 @@
--- What a line says: the table of commands, over the value that `serde_json` reads.
-use Rattle.std.specs.Prelude.{◌≡◌, ℕ, ◌≤◌, List, [], ◌∷◌, length, codes, string_bytes, Bool, true, ◌&&◌, ◌||◌, Option, Some, None, IsSomeAnd, ⊤, IsUtf8}
+-- What a line says: the table, over the value that `serde_json` reads.
+use Rattle.std.specs.Prelude.{◌≡◌, ℕ, ◌<◌, ◌≤◌, ◌^◌, ◌⊎◌, List, [], ◌∷◌, length, codes, Bool, true, ◌&&◌, ◌||◌, Option, Some, None, IsSomeAnd, ⊤, IsUtf8, Result, Err, option_and_then}
 use Rattle.std.specs.Str.{bytes_eq}
-use Rattle.serde_json.specs.Data.{Data, string, Items, no_items, item, Members, no_members, member}
-use Rattle.serde_json.specs.Find.{get, as_str, as_array, as_object}
+use Rattle.serde_json.specs.Data.{Data, Items, no_items, item, Members, no_members, member}
+use Rattle.serde_json.specs.Find.{get, as_str, as_array, as_object, as_number, as_u64}
 use Rattle.serde_json.specs.Read.{read}
+use Rattle.names.specs.Name.{IsName}
+use Rattle.res_sets.specs.declared.numbers.Family.{Family}
+use Rattle.res_sets.specs.declared.numbers.Family.TheVariants.{Asn, V4, V6}
+use Rattle.res_sets.specs.declared.holdings.Resources.{Resources}
+use Rattle.res_sets.specs.Sets.{RangeSet}
+use Rattle.res_sets.specs.Texts.{Spells}
 use Rattle.origins.specs.declared.Origin.{Origin}
 use Rattle.origins.specs.Origin.{SpellsOrigin}
-use Rattle.authority_book.specs.declared.commands.Command.{Command}
-use Rattle.authority_book.specs.declared.commands.Command.TheVariants.{UpdateRoas}
+use Rattle.json_api.specs.declared.fields.Field.{Field}
+use Rattle.json_api.specs.declared.fields.Kind.{Kind}
+use Rattle.json_api.specs.declared.fields.Kind.TheVariants as kind
+use Rattle.json_api.specs.declared.slots.Slot.{Slot}
+use Rattle.json_api.specs.declared.slots.Slot.TheVariants.{Absent, Bad}
 use Rattle.json_api.specs.declared.line.Line.{Line}
-use Rattle.json_api.specs.declared.line.Line.TheVariants.{Command as CommandLine}
+use Rattle.json_api.specs.declared.line.LineFault.{LineFault}
+use Rattle.json_api.specs.declared.line.LineFault.TheVariants.{BadLine}
+use Rattle.json_api.specs.Names.{name_of, kind_of, row_named}
+use Rattle.json_api.specs.Table.{Slots, as_row, as_name, as_number as number_in, as_resources, as_origins, line_of}
 
 -- How many bytes a line has at most.
 abbrev pub longest_line : ℕ
@@ -26,47 +38,56 @@ AreOriginTexts no_items (origin ∷ origins) = ⊥
 AreOriginTexts (item value values) [] = ⊥
 AreOriginTexts (item value values) (origin ∷ origins) = IsOriginText value origin × AreOriginTexts values origins
 
--- A list of origins' texts, which is empty if it is left out.
-abbrev pub IsOriginList : Option Data → List Origin → Type 0
-IsOriginList None origins = origins ≡ []
-IsOriginList (Some value) origins = IsSomeAnd (as_array value) (λ values. AreOriginTexts values origins)
-
 -- The members' names all pass a test.
 abbrev pub all_names : (List ℕ → Bool) → Members → Bool
 all_names test no_members = true
 all_names test (member name value more) = test name && all_names test more
 
--- The names of the fields of `roas update`, and `command`.
-abbrev pub is_roas_field : List ℕ → Bool
-is_roas_field name =
-    bytes_eq name (codes "command") || bytes_eq name (codes "ca") || bytes_eq name (codes "add") || bytes_eq name (codes "remove")
+-- A text that spells the set. One that is left out is the empty set's.
+abbrev pub IsSetText : Family → Option Data → RangeSet → Type 0
+IsSetText family None set = set ≡ record { family = family; ranges = [] }
+IsSetText family (Some value) set = IsSomeAnd (as_str value) (λ text. Spells family text set)
 
--- The row `roas update` of the table: the authority `ca`, the origins `add`, the origins `remove`,
--- and no other field. So far there is one authority, `ta`.
-pub record IsRoasUpdate (value : Data) (name : List ℕ) (adds removes : List Origin) : Type 0 where
-  pub command : get (codes "command") value ≡ Some (string (codes "roas update"))
-  pub authority : get (codes "ca") value ≡ Some (string name)
-  pub is_anchor : name ≡ codes "ta"
-  pub added : IsOriginList (get (codes "add") value) adds
-  pub removed : IsOriginList (get (codes "remove") value) removes
-  pub no_other : IsSomeAnd (as_object value) (λ members. all_names is_roas_field members ≡ true)
+abbrev pub is_set_name : List ℕ → Bool
+is_set_name name = bytes_eq name (codes "asn") || bytes_eq name (codes "ipv4") || bytes_eq name (codes "ipv6")
 
--- The value says that the authority of this name gets this command.
-abbrev pub SaysCommand : Data → List ℕ → Command → Type 0
-SaysCommand value name (UpdateRoas added removed) = IsRoasUpdate value name added removed
+-- An object with the texts of three sets and nothing else.
+pub record AreResources (value : Data) (held : Resources) : Type 0 where
+  pub asn : IsSetText Asn (get (codes "asn") value) held.asn
+  pub v4 : IsSetText V4 (get (codes "ipv4") value) held.v4
+  pub v6 : IsSetText V6 (get (codes "ipv6") value) held.v6
+  pub no_other : IsSomeAnd (as_object value) (λ members. all_names is_set_name members ≡ true)
 
-abbrev pub Says : Data → Line → Type 0
-Says value (CommandLine name command) = SaysCommand value (string_bytes name) command
+-- The value is in the kind's grammar, and the slot has what it says.
+abbrev pub Says : Kind → Data → Slot → Type 0
+Says kind.Row value slot = IsSomeAnd (as_row slot) (λ row. option_and_then row_named (as_str value) ≡ Some row)
+Says kind.Name value slot = IsSomeAnd (as_name slot) (λ name. (as_str value ≡ Some name) × IsName name)
+Says kind.Number value slot = IsSomeAnd (number_in slot) (λ n. (option_and_then as_u64 (as_number value) ≡ Some n) × (n < 2 ^ 32))
+Says kind.Resources value slot = IsSomeAnd (as_resources slot) (AreResources value)
+Says kind.Origins value slot = IsSomeAnd (as_origins slot) (λ origins. IsSomeAnd (as_array value) (λ items. AreOriginTexts items origins))
 
--- The bytes are a line that means this: they aren't too many, and are the JSON text of a value that
--- says it.
-pub record IsLine (bytes : List ℕ) (line : Line) : Type 0 where
+-- The slot tells of a member: that it is left out, what it says, or that it is outside its grammar.
+abbrev pub Tells : Kind → Option Data → Slot → Type 0
+Tells of None slot = slot ≡ Absent
+Tells of (Some value) slot = Says of value slot ⊎ ((slot ≡ Bad) × ((said : Slot) → ¬ Says of value said))
+
+-- Each slot tells of the member of its field.
+abbrev pub AreSlots : Data → Slots → Type 0
+AreSlots value s = (f : Field) → Tells (kind_of f) (get (name_of f) value) (s f)
+
+-- The bytes are a line at all: not too many, and the JSON text of the value.
+pub record IsDocument (bytes : List ℕ) (value : Data) : Type 0 where
   pub short : length bytes ≤ longest_line
   pub utf8 : IsUtf8 bytes
-  pub value : Data
   pub text : read bytes ≡ Some value
-  pub says : Says value line
 
--- Two lines mean the same.
-abbrev pub IsSameLine : Line → Line → Type 0
-IsSameLine (CommandLine a first) (CommandLine b second) = (string_bytes a ≡ string_bytes b) × (first ≡ second)
+-- What bytes are read as: where they are a JSON text, what the table says of its value.
+pub record ReadsValue (value : Data) (result : Result Line LineFault) : Type 0 where
+  pub slots : Slots
+  pub are : AreSlots value slots
+  pub says : result ≡ line_of value slots
+
+abbrev pub ReadsLine : List ℕ → Result Line LineFault → Type 0
+ReadsLine bytes result =
+    ((value : Data) × (IsDocument bytes value × ReadsValue value result))
+    ⊎ (((value : Data) → ¬ IsDocument bytes value) × (result ≡ Err BadLine))

@@ -8,14 +8,6 @@ text_member name text = key name ∷ string text ∷ []
 abbrev pub number_member : List ℕ → ℕ → List Token
 number_member name n = key name ∷ number (decimal n) ∷ []
 
-abbrev pub accepted_tokens : List ℕ → ℕ → List Token
-accepted_tokens authority count =
-    begin_object
-    ∷ (text_member (codes "authority") authority
-    ++ number_member (codes "count") count
-    ++ text_member (codes "reply") (codes "accepted")
-    ++ end_object ∷ [])
-
 abbrev pub refusal_tokens : ℕ → List ℕ → List ℕ → List Token
 refusal_tokens code detail refused =
     begin_object

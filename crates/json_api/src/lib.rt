@@ -1,17 +1,17 @@
 //! Commands as lines of JSON, and the replies to them.
 #![tactic(auto)]
 
-mod compact;
-mod journal_reply;
+mod fields;
 mod line;
-mod name;
-mod plain;
+mod refusals;
 mod reply;
+mod rows;
+mod slots;
+mod texts;
+mod tokens;
+mod values;
 
-pub use journal_reply::{JournalRefusal, journal_refusal_into};
-pub use line::{Line, LineFault, LineReader, MAX_LINE_LEN, means_one_thing, read_line};
-pub use name::is_name;
-pub use reply::{
-    BAD_LINE_REPLY, LineReply, MEMORY_REPLY, accepted_into, constant_replies, refusal_into,
-    reply_text,
-};
+pub use line::{Line, LineFault, LineReader, MAX_LINE_LEN, MemberName, read_line};
+pub use refusals::{MEMORY_REPLY, Refused, fault_into, memory_reply, refused_into, verdict_into};
+pub use reply::accepted_into;
+pub use texts::{ListLine, RoaLine, RoaWord, Shown, StageWord, list_text, roas_text, show_text};

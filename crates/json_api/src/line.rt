@@ -1,22 +1,21 @@
-//! Lines: one JSON object each, which gives a command to an authority.
+//! Lines: one JSON object each, which gives a command to an authority or asks for something.
 
-ghost use Rattle.std.specs.Prelude.{◌≡◌, ◌↔◌, IsTrue, IfOk, IsSomeAnd, MatchOption, MatchResult, Some, None, ℕ, List, Err, IsUtf8, option_map, string_bytes, true};
-ghost use Rattle.std.specs.BTreeMap.{keys};
-ghost use Rattle.std.specs.List.{list_all};
-ghost use Rattle.serde_json.specs.Data.{Data, string};
-ghost use Rattle.serde_json.specs.Find.{get, as_object};
+ghost use Rattle.std.specs.Prelude.{◌≡◌, ◌≢◌, ◌⊎◌, ℕ, List, IfOk, IfSome, MatchResult, Some, None, Ok, Err, IsUtf8, string_bytes};
+ghost use Rattle.serde_json.specs.Data.{Data, object, Members};
 ghost use Rattle.serde_json.specs.Read.{read};
-ghost use Rattle.serde_json.specs.View.{view, items_view};
-ghost use Rattle.origins.specs.declared.Origin.{Origin};
-ghost use Rattle.origins.specs.Origin.{SpellsOrigin};
-ghost use Rattle.json_api.specs.declared.line.Line.{Line};
-ghost use Rattle.json_api.specs.Line.{IsLine, IsSameLine, Says, IsOriginText, AreOriginTexts, IsOriginList, all_names, is_roas_field};
+ghost use Rattle.serde_json.specs.View.{view};
+ghost use Rattle.json_api.specs.Names.{name_of};
+ghost use Rattle.json_api.specs.Table.{line_of};
+ghost use Rattle.json_api.specs.Line.{ReadsLine, ReadsValue};
+ghost use Rattle.json_api.specs.declared.line.LineFault.TheVariants.{Memory};
 
-use crate::plain::read_plain;
-use authority_book::{Command, OriginList};
+use crate::fields::Field;
+use crate::tokens::read_slots;
+use crate::values::{first_other, slots_of};
+use authority_book::Command;
 use json::Scratch;
-use origins::{Origin, read_origin};
-use serde_json::{Map, Value};
+use names::Name;
+use serde_json::Value;
 use std::alloc::{AllocError, AllocFailed, Global};
 use std::marker::Model;
 use thiserror::Error;
@@ -28,15 +27,80 @@ pub const MAX_LINE_LEN: usize = 1_048_576;
 #[derive(Drop)]
 pub enum Line {
     /// A command to the authority of this name.
-    Command { name: String, command: Command },
+    Command { name: Name, command: Command },
+    /// All authorities are asked for.
+    List,
+    /// An authority's state is asked for.
+    Show { name: Name },
+    /// An authority's origins are asked for.
+    Roas { name: Name },
+    /// An authority's commands are asked for.
+    History { name: Name },
+}
+
+/// The name of a member of a line.
+#[derive(Debug, Drop)]
+pub struct MemberName {
+    text: Text,
+}
+
+// A field's name takes no memory.
+#[derive(Debug, Drop)]
+enum Text {
+    Field(Field),
+    Other(String),
+}
+
+impl Model for MemberName {
+    ghost use Rattle.std.specs.Prelude.{ℕ, List};
+    ghost use Rattle.json_api.specs.MemberName.{text_of};
+
+    ghost Value = { List ℕ };
+
+    ghost view = { λ name. text_of name.text };
+}
+
+impl MemberName {
+    pub(crate) fn of(field: Field) -> MemberName
+        ensures { result ≡ name_of field }
+    {
+        MemberName {
+            text: Text::Field(field),
+        }
+    }
+
+    pub(crate) fn copied(alloc: Global, name: &str) -> Result<MemberName, AllocError>
+        ensures { IfOk result (λ copy. copy ≡ name.now) }
+    {
+        Ok(MemberName {
+            text: Text::Other(String::from_str(alloc, name)?),
+        })
+    }
+
+    /// The name's text.
+    pub fn as_str(&self) -> &str
+        ensures { result.now ≡ self.now }
+    {
+        match &self.text {
+            Text::Field(field) => field.name(),
+            Text::Other(text) => text,
+        }
+    }
 }
 
 /// Why a line is not read.
-#[derive(Clone, Copy, Debug, PartialEq, Eq, Drop, Error)]
+#[derive(Debug, Drop, Error)]
 pub enum LineFault {
-    /// The line is too long, is no JSON object, or is no command of the table.
-    #[error("not a line of the table of commands")]
+    /// The line is too long or is no JSON object.
+    #[error("not a JSON object")]
     BadLine,
+    /// The member `command` is missing, is no text or is no command of the table.
+    #[error("not a command of the table")]
+    UnknownCommand,
+    /// The first field that is missing, of another type or outside its grammar, or else the first
+    /// member that the command doesn't have.
+    #[error("a field is missing or bad")]
+    BadField { name: MemberName },
     #[error("out of memory")]
     Memory,
 }
@@ -82,12 +146,10 @@ impl LineReader {
         }
     }
 
-    /// Reads a line, without its line feed: one JSON object as `serde_json` reads it, of the members
-    /// `command` (`roas update`), `ca` (`ta`) and, where they are not empty, `add` and `remove` (lists
-    /// of origins' texts).
+    /// Reads a line, without its line feed: one JSON object as `serde_json` reads it, with the
+    /// members that the table has for its `command`. Of equal members the last counts.
     pub fn read(&mut self, alloc: Global, line: &[u8]) -> Result<Line, LineFault>
-        ensures ok { IfOk result (IsLine line.now) }
-        ensures bad_line { result ≡ Err LineFault.BadLine → (meant : Line) → ¬ IsLine line.now meant }
+        ensures { result ≢ Err Memory → ReadsLine line.now result }
     {
         read_with(alloc, line, &mut self.scratch)
     }
@@ -95,15 +157,13 @@ impl LineReader {
 
 /// Reads one line, as [`LineReader::read`] does.
 pub fn read_line(alloc: Global, line: &[u8]) -> Result<Line, LineFault>
-    ensures ok { IfOk result (IsLine line.now) }
-    ensures bad_line { result ≡ Err LineFault.BadLine → (meant : Line) → ¬ IsLine line.now meant }
+    ensures { result ≢ Err Memory → ReadsLine line.now result }
 {
     read_with(alloc, line, &mut Scratch::new(alloc))
 }
 
 fn read_with(alloc: Global, line: &[u8], scratch: &mut Scratch) -> Result<Line, LineFault>
-    ensures ok { IfOk result (IsLine line.now) }
-    ensures bad_line { result ≡ Err LineFault.BadLine → (meant : Line) → ¬ IsLine line.now meant }
+    ensures { result ≢ Err Memory → ReadsLine line.now result }
 {
     if line.len() > MAX_LINE_LEN {
         return Err(LineFault::BadLine);
@@ -111,17 +171,40 @@ fn read_with(alloc: Global, line: &[u8], scratch: &mut Scratch) -> Result<Line, 
     let Ok(text) = simdutf8::compat::from_utf8(line) else {
         return Err(LineFault::BadLine);
     };
-    if let Some(plain) = read_plain(alloc, text, scratch)? {
-        return Ok(plain);
+    if let Some(line) = read_plain(alloc, text, scratch)? {
+        return Ok(line);
     }
     let value = read_value(alloc, text)?;
-    command_line(alloc, &value)
+    line_in(alloc, &value)
+}
+
+// The line that the text is, where its tokens tell it. It is `None` for any other text, and for some
+// that are lines.
+fn read_plain(alloc: Global, text: &str, scratch: &mut Scratch) -> Result<Option<Line>, AllocError>
+    ensures { IfOk result (λ found. IfSome found (λ line. (value : Data)
+        × (read text.now ≡ Some value) × ReadsValue value (Ok line))) }
+{
+    let Some(mut slots) = read_slots(alloc, text, scratch)? else {
+        return Ok(None);
+    };
+    let Some(row) = slots.row() else {
+        return Ok(None);
+    };
+    if !slots.are_taken(row) {
+        return Ok(None);
+    }
+    match row.line(alloc, &mut slots, None) {
+        Ok(line) => Ok(Some(line)),
+        Err(LineFault::Memory) => Err(AllocError),
+        Err(_) => Ok(None),
+    }
 }
 
 // The JSON value that the text is.
 fn read_value(alloc: Global, text: &str) -> Result<Value, LineFault>
-    ensures ok { IfOk result (λ value. read text.now ≡ Some (view value)) }
-    ensures bad_line { result ≡ Err LineFault.BadLine → read text.now ≡ None }
+    ensures { MatchResult result
+        (λ value. read text.now ≡ Some (view value))
+        (λ fault. fault ≢ Memory → (read text.now ≡ None) × (fault ≡ LineFault.BadLine)) }
 {
     match Value::from_str(alloc, text) {
         Ok(value) => Ok(value),
@@ -130,109 +213,16 @@ fn read_value(alloc: Global, text: &str) -> Result<Value, LineFault>
     }
 }
 
-fn command_line(alloc: Global, value: &Value) -> Result<Line, LineFault>
-    ensures ok { IfOk result (Says (view value.now)) }
-    ensures bad_line { result ≡ Err LineFault.BadLine → (line : Line) → ¬ Says (view value.now) line }
+fn line_in(alloc: Global, value: &Value) -> Result<Line, LineFault>
+    ensures { result ≢ Err Memory → ReadsValue (view value.now) result }
 {
-    if !has_text(value, "command", "roas update")
-        || !has_text(value, "ca", "ta")
-        || !has_roas_fields_alone(value)
-    {
-        return Err(LineFault::BadLine);
-    }
-    let added = read_origins(alloc, value.get("add"))?;
-    let removed = read_origins(alloc, value.get("remove"))?;
-    Ok(Line::Command {
-        name: String::from_str(alloc, "ta")?,
-        command: Command::UpdateRoas { added, removed },
-    })
-}
-
-// Whether the member of that name is that text.
-fn has_text(value: &Value, name: &str, text: &str) -> bool
-    ensures { IsTrue result ↔ (get name.now (view value.now) ≡ Some (string text.now)) }
-{
-    match value.get(name) {
-        Some(Value::String(found)) => found.as_str() == text,
-        _ => false,
-    }
-}
-
-fn has_roas_fields_alone(value: &Value) -> bool
-    ensures { IsTrue result
-        ↔ IsSomeAnd (as_object (view value.now)) (λ members. all_names is_roas_field members ≡ true) }
-{
-    match value.as_object() {
-        Some(members) => have_roas_names(members),
-        None => false,
-    }
-}
-
-fn have_roas_names(members: &Map<String, Value>) -> bool
-    ensures { result ≡ list_all (λ name. is_roas_field (string_bytes name)) (keys members.now) }
-{
-    members.keys().all(|name| is_roas_field(name))
-}
-
-fn is_roas_field(name: &str) -> bool
-    ensures { result ≡ is_roas_field name.now }
-{
-    name == "command" || name == "ca" || name == "add" || name == "remove"
-}
-
-// The origins of a field, which may be left out.
-fn read_origins(alloc: Global, field: Option<&Value>) -> Result<OriginList, LineFault>
-    ensures ok { IfOk result (IsOriginList (option_map (λ value. view value.now) field.entry)) }
-    ensures bad_line { result ≡ Err LineFault.BadLine → (origins : List Origin)
-        → ¬ IsOriginList (option_map (λ value. view value.now) field.entry) origins }
-{
-    let Some(value) = field else {
-        return Ok(OriginList::new(alloc, Vec::new(alloc))?);
-    };
-    let Some(items) = value.as_array() else {
+    let Some(members) = value.as_object() else {
         return Err(LineFault::BadLine);
     };
-    let origins = read_items(alloc, items)?;
-    Ok(OriginList::new(alloc, origins)?)
+    let mut slots = slots_of(alloc, value)?;
+    let Some(row) = slots.row() else {
+        return Err(LineFault::UnknownCommand);
+    };
+    let other = first_other(alloc, members, row)?;
+    row.line(alloc, &mut slots, other)
 }
-
-fn read_items(alloc: Global, items: &[Value]) -> Result<Vec<Origin>, LineFault>
-    ensures ok { IfOk result (λ origins. AreOriginTexts (items_view items.now) origins.items) }
-    ensures bad_line { result ≡ Err LineFault.BadLine → (origins : List Origin)
-        → ¬ AreOriginTexts (items_view items.now) origins }
-{
-    let mut origins = Vec::with_capacity(alloc, items.len())?;
-    for item in items {
-        let Some(origin) = read_item(item) else {
-            return Err(LineFault::BadLine);
-        };
-        origins.push(origin)?;
-    }
-    Ok(origins)
-}
-
-fn read_item(item: &Value) -> Option<Origin>
-    ensures { MatchOption result ((origin : Origin) → ¬ IsOriginText (view item.now) origin)
-        (IsOriginText (view item.now)) }
-{
-    match item.as_str() {
-        Some(text) => origin_of(text),
-        None => None,
-    }
-}
-
-pub(crate) fn origin_of(text: &str) -> Option<Origin>
-    ensures { MatchOption result ((origin : Origin) → ¬ SpellsOrigin text.now origin)
-        (SpellsOrigin text.now) }
-{
-    match read_origin(text) {
-        Ok(origin) => Some(origin),
-        Err(_) => None,
-    }
-}
-
-/// A law, with nothing to run: a line means one thing at most.
-pub fn means_one_thing()
-    ensures { (bytes : List ℕ) (one other : Line) → IsLine bytes one → IsLine bytes other
-        → IsSameLine one other }
-{}

@@ -2,20 +2,20 @@
 use Rattle.std.proofs.Common.{◌≡◌, ℕ, suc, ◌+◌, ◌≤◌, ◌⊎◌, List, [], ◌∷◌, ◌++◌, length, sym, ◌∙◌, ap, subst, refl, inl, inr, arith, append_assoc}
 use Rattle.std.specs.Prelude.{Option, None, Some, IfSome, map}
 use Rattle.std.specs.Option.{option_map}
-use Rattle.disk_api.specs.Content.{BothTold}
-use Rattle.gate_journal.specs.Format.{stands_for, damaged_at, IsUnopened}
+use Rattle.disk_api.specs.Content.{BothKnown}
+use Rattle.gate_journal.specs.Format.{recovered, damaged_at, IsUnopened}
 use Rattle.authority_book.specs.declared.commands.Command.{Command}
 use Rattle.cmd_codec.specs.Spelling.{spelling}
 use Rattle.desk_core.specs.View.{View, journal_limit}
 use Rattle.desk_core.specs.Commands.{Records, HasCommands}
-use Rattle.desk_core.specs.Images.{Holds, HoldsTold}
+use Rattle.desk_core.specs.Images.{RecoversTo, RecoversToKnown}
 use Rattle.fault_count.specs.Rise.{HasRisen}
 use Rattle.disk_api.specs.Runs.{LeavesOnly}
 use Rattle.disk_api.specs.declared.disk.Disk.{Ghosts as DiskGhosts}
 use Rattle.desk_core.specs.Commands.{IsFirstBad}
 use Rattle.desk_core.specs.declared.faults.DeskOpenFault.{DeskOpenFault}
 use Rattle.desk_core.specs.declared.faults.DeskOpenFault.TheVariants.{Damaged, BadRecord, DiskFault, Memory}
-use Rattle.krill_top.specs.Desks.{StoodFor, IsLeft, IsKept, AreKept, IsCause, StandsAsBefore, StopsAt}
+use Rattle.krill_top.specs.Desks.{RecoveredTo, IsSafe, IsKept, AreKept, IsCause, RecoversAsBefore, StopsAt}
 use Rattle.krill_top.specs.Opened.{IsOpened, IsClosed, AreOpened, AreClosed, opening_fault_of}
 
 module _ {D : Type 0} (disk_of : DiskGhosts D) where
@@ -41,25 +41,25 @@ module _ {D : Type 0} (disk_of : DiskGhosts D) where
   closed_more desks disks desk disk is all = (is, all)
 
   -- the disk stood for the commands of the desk that was opened from it
-  stood_for : (told : Option (List ℕ)) (number : ℕ) (desk : View D) (commands : List Command) → desk.number ≡ number → HasCommands desk commands
-      → IfSome told (λ bytes. desk.records ≡ stands_for bytes) → IfSome told (λ bytes. damaged_at journal_limit bytes ≡ None) → StoodFor told number commands
+  stood_for : (known : Option (List ℕ)) (number : ℕ) (desk : View D) (commands : List Command) → desk.number ≡ number → HasCommands desk commands
+      → IfSome known (λ bytes. desk.records ≡ recovered bytes) → IfSome known (λ bytes. damaged_at journal_limit bytes ≡ None) → RecoveredTo known number commands
   stood_for None number desk commands is has records whole = tt
   stood_for (Some bytes) number desk commands is has records whole = (
     whole,
-    subst (λ (n : ℕ). Records n (stands_for bytes) commands) is (subst (λ (r : List (List ℕ)). Records desk.number r commands) records has.recorded),
+    subst (λ (n : ℕ). Records n (recovered bytes) commands) is (subst (λ (r : List (List ℕ)). Records desk.number r commands) records has.recorded),
   )
 
-  pub opened_stood_for : (number : ℕ) (disk : D) (desk : View D) (commands : List Command) → IsOpened disk_of number disk desk → HasCommands desk commands → StoodFor (disk_of.content disk) number commands
+  pub opened_stood_for : (number : ℕ) (disk : D) (desk : View D) (commands : List Command) → IsOpened disk_of number disk desk → HasCommands desk commands → RecoveredTo (disk_of.content disk) number commands
   opened_stood_for number disk desk commands is has = stood_for (disk_of.content disk) number desk commands is.number_is has is.records is.whole
 
   -- what a closed desk's disk holds, said of its commands
   pub closed_left : (desk : View D) (disk : D) (commands : List Command) (doubt : Option Command) → IsClosed disk_of desk disk
-      → desk.records ≡ map spelling commands → desk.doubt ≡ option_map spelling doubt → IsLeft disk_of commands doubt disk
+      → desk.records ≡ map spelling commands → desk.doubt ≡ option_map spelling doubt → IsSafe disk_of commands doubt disk
   closed_left desk disk commands doubt is records doubts = record {
-    told = subst (λ (r : List (List ℕ)). IfSome (disk_of.content disk) (Holds r (option_map spelling doubt))) records
-        (subst (λ (d : Option (List ℕ)). IfSome (disk_of.content disk) (Holds desk.records d)) doubts is.told);
-    images = λ c left. subst (λ (r : List (List ℕ)). HoldsTold (disk_of.content disk) r (option_map spelling doubt) c) records
-        (subst (λ (d : Option (List ℕ)). HoldsTold (disk_of.content disk) desk.records d c) doubts (is.images c left));
+    known = subst (λ (r : List (List ℕ)). IfSome (disk_of.content disk) (RecoversTo r (option_map spelling doubt))) records
+        (subst (λ (d : Option (List ℕ)). IfSome (disk_of.content disk) (RecoversTo desk.records d)) doubts is.known);
+    images = λ c left. subst (λ (r : List (List ℕ)). RecoversToKnown (disk_of.content disk) r (option_map spelling doubt) c) records
+        (subst (λ (d : Option (List ℕ)). RecoversToKnown (disk_of.content disk) desk.records d c) doubts (is.images c left));
   }
 
   -- a desk that was opened and closed again kept its commands
@@ -88,7 +88,7 @@ module _ {D : Type 0} (disk_of : DiskGhosts D) where
   -- why a disk wasn't opened, by what the desk says of it
   cause_of : (fault : DeskOpenFault) (number : ℕ) (old new : D)
       → ((at : ℕ) → fault ≡ Damaged at → (disk_of.content new ≡ disk_of.content old) × IfSome (disk_of.content old) (λ bytes. damaged_at journal_limit bytes ≡ Some at))
-      → ((at : ℕ) → fault ≡ BadRecord at → IfSome (disk_of.content old) (λ bytes. (damaged_at journal_limit bytes ≡ None) × IsFirstBad number (stands_for bytes) at))
+      → ((at : ℕ) → fault ≡ BadRecord at → IfSome (disk_of.content old) (λ bytes. (damaged_at journal_limit bytes ≡ None) × IsFirstBad number (recovered bytes) at))
       → (fault ≡ DiskFault → HasRisen (disk_of.fault_count old) (disk_of.fault_count new))
       → IsCause disk_of (opening_fault_of number fault) number old new
   cause_of (Damaged at) number old new damaged bad failed = let d = damaged at refl in (refl, d.0, d.1)
@@ -98,9 +98,9 @@ module _ {D : Type 0} (disk_of : DiskGhosts D) where
 
   -- what a refusal leaves of the disk
   as_before : (counts_now : (disk : D) (t : ℕ) (c : List ℕ) → t ≤ disk_of.moment disk → disk_of.may_leave disk c → disk_of.left_since disk t c)
-      → (old new : D) → option_map stands_for (disk_of.content new) ≡ option_map stands_for (disk_of.content old) → BothTold IsUnopened (disk_of.content old) (disk_of.content new)
-      → LeavesOnly disk_of old new (λ c. disk_of.may_leave old c ⊎ IfSome (disk_of.content old) (λ bytes. Holds (stands_for bytes) None c))
-      → disk_of.fault_count old ≤ disk_of.fault_count new → StandsAsBefore disk_of old new
+      → (old new : D) → option_map recovered (disk_of.content new) ≡ option_map recovered (disk_of.content old) → BothKnown IsUnopened (disk_of.content old) (disk_of.content new)
+      → LeavesOnly disk_of old new (λ c. disk_of.may_leave old c ⊎ IfSome (disk_of.content old) (λ bytes. RecoversTo (recovered bytes) None c))
+      → disk_of.fault_count old ≤ disk_of.fault_count new → RecoversAsBefore disk_of old new
   as_before counts_now old new same bytes any later = record {
     records = same;
     bytes = bytes;
@@ -114,10 +114,10 @@ module _ {D : Type 0} (disk_of : DiskGhosts D) where
       → AreOpened disk_of 0 before desks → AreClosed disk_of desks after → length before ≡ number
       → olds ≡ before ++ old ∷ rest → news ≡ after ++ new ∷ rest
       → ((at : ℕ) → fault ≡ Damaged at → (disk_of.content new ≡ disk_of.content old) × IfSome (disk_of.content old) (λ bytes. damaged_at journal_limit bytes ≡ Some at))
-      → ((at : ℕ) → fault ≡ BadRecord at → IfSome (disk_of.content old) (λ bytes. (damaged_at journal_limit bytes ≡ None) × IsFirstBad number (stands_for bytes) at))
+      → ((at : ℕ) → fault ≡ BadRecord at → IfSome (disk_of.content old) (λ bytes. (damaged_at journal_limit bytes ≡ None) × IsFirstBad number (recovered bytes) at))
       → (fault ≡ DiskFault → HasRisen (disk_of.fault_count old) (disk_of.fault_count new))
-      → option_map stands_for (disk_of.content new) ≡ option_map stands_for (disk_of.content old) → BothTold IsUnopened (disk_of.content old) (disk_of.content new)
-      → LeavesOnly disk_of old new (λ c. disk_of.may_leave old c ⊎ IfSome (disk_of.content old) (λ bytes. Holds (stands_for bytes) None c))
+      → option_map recovered (disk_of.content new) ≡ option_map recovered (disk_of.content old) → BothKnown IsUnopened (disk_of.content old) (disk_of.content new)
+      → LeavesOnly disk_of old new (λ c. disk_of.may_leave old c ⊎ IfSome (disk_of.content old) (λ bytes. RecoversTo (recovered bytes) None c))
       → disk_of.fault_count old ≤ disk_of.fault_count new → StopsAt disk_of (opening_fault_of number fault) olds news
   stopped counts_now before desks after old new rest fault number olds news opened closed place handed_in handed_back damaged bad failed same bytes any later = record {
     before = before;

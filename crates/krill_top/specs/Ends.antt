@@ -28,7 +28,7 @@ fault_of SinkFault = Some faults.Device
 fault_of (Spent bytes) = Some (faults.Spent bytes)
 fault_of Memory = Some faults.Memory
 
--- Where opening was refused: a disk that failed is a device, and want of memory is that.
+-- Where opening was refused: a disk that failed is a device, and out of memory is that.
 abbrev pub opening_fault : OpenFault → RunFault
 opening_fault (opening.WrongCount what needed found) = faults.Refused (opening.WrongCount what needed found)
 opening_fault (opening.Damaged device at) = faults.Refused (opening.Damaged device at)

@@ -2,11 +2,11 @@
 use Rattle.std.specs.Prelude.{◌≡◌, ℕ, ◌+◌, ◌≤◌, suc, None, List, [], ◌∷◌, Option, length, vec_capacity, IfSome, ⊤}
 use Rattle.std.specs.Option.{option_map}
 use Rattle.disk_api.specs.declared.disk.Disk.{Ghosts as DiskGhosts}
-use Rattle.gate_journal.specs.Format.{stands_for, damaged_at, opened}
+use Rattle.gate_journal.specs.Format.{recovered, damaged_at, opened}
 use Rattle.authority_book.specs.declared.commands.Command.{Command}
 use Rattle.desk_core.specs.View.{View, journal_limit}
 use Rattle.desk_core.specs.Commands.{HasCommands}
-use Rattle.desk_core.specs.Images.{Holds, HoldsTold}
+use Rattle.desk_core.specs.Images.{RecoversTo, RecoversToKnown}
 use Rattle.desk_core.specs.declared.faults.DeskOpenFault.{DeskOpenFault}
 use Rattle.desk_core.specs.declared.faults.DeskOpenFault.TheVariants as desk
 use Rattle.krill_top.specs.declared.faults.OpenFault.{OpenFault}
@@ -16,7 +16,7 @@ use Rattle.krill_top.specs.declared.faults.OpenFault.TheVariants.{Damaged, BadRe
 pub record IsOpened {D : Type 0} (disk_of : DiskGhosts D) (number : ℕ) (disk : D) (desk : View D) : Type 0 where
   pub number_is : desk.number ≡ number
   pub bytes : disk_of.content desk.disk ≡ option_map opened (disk_of.content disk)
-  pub records : IfSome (disk_of.content disk) (λ bytes. desk.records ≡ stands_for bytes)
+  pub records : IfSome (disk_of.content disk) (λ bytes. desk.records ≡ recovered bytes)
   pub whole : IfSome (disk_of.content disk) (λ bytes. damaged_at journal_limit bytes ≡ None)
   pub commands : (commands : List Command) × HasCommands desk commands
   pub is_open : desk.shut ≡ None
@@ -26,8 +26,8 @@ pub record IsOpened {D : Type 0} (disk_of : DiskGhosts D) (number : ℕ) (disk :
 -- The disk is that of the desk, and holds its records.
 pub record IsClosed {D : Type 0} (disk_of : DiskGhosts D) (desk : View D) (disk : D) : Type 0 where
   pub same : disk ≡ desk.disk
-  pub told : IfSome (disk_of.content disk) (Holds desk.records desk.doubt)
-  pub images : (c : List ℕ) → disk_of.may_leave disk c → HoldsTold (disk_of.content disk) desk.records desk.doubt c
+  pub known : IfSome (disk_of.content disk) (RecoversTo desk.records desk.doubt)
+  pub images : (c : List ℕ) → disk_of.may_leave disk c → RecoversToKnown (disk_of.content disk) desk.records desk.doubt c
 
 -- So of each disk and desk, from this number on.
 abbrev pub AreOpened : {D : Type 0} → DiskGhosts D → ℕ → List D → List (View D) → Type 0

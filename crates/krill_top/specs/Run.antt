@@ -18,7 +18,7 @@ use Rattle.krill_top.specs.declared.running.RunEnd.{RunEnd}
 use Rattle.krill_top.specs.Seen.{Seen, DeskState}
 use Rattle.krill_top.specs.Stands.{all_stored}
 use Rattle.krill_top.specs.Ended.{Converses}
-use Rattle.krill_top.specs.Desks.{StoodFor, IsLeft, IsOpeningRefused}
+use Rattle.krill_top.specs.Desks.{RecoveredTo, IsSafe, IsOpeningRefused}
 use Rattle.krill_top.specs.Ends.{fault_status, run_status, fault_of, opening_fault}
 
 -- A run that was refused at once: nothing was read or written, and no device was called.
@@ -47,13 +47,13 @@ IsNext number desk command =
 -- opening made of them, with the accepted commands' records. A command is in doubt only where the disk
 -- failed in this run.
 pub record IsServed {D : Type 0} (disk_of : DiskGhosts D) (number : ℕ) (old new : D) (begun ended : DeskState) : Type 0 where
-  pub found : StoodFor (disk_of.content old) number begun.commands
+  pub found : RecoveredTo (disk_of.content old) number begun.commands
   pub is_open : begun.doubt ≡ None
   pub accepted : List Command
   pub grows : ended.commands ≡ begun.commands ++ accepted
   pub recorded : Records number (map spelling ended.commands) ended.commands
   pub next : IfSome ended.doubt (IsNext number ended)
-  pub left : IsLeft disk_of ended.commands ended.doubt new
+  pub left : IsSafe disk_of ended.commands ended.doubt new
   pub bytes : ended.doubt ≡ None → disk_of.content new
       ≡ option_map (all_stored (map spelling begun.commands) (map spelling accepted)) (option_map opened (disk_of.content old))
   pub cause : ¬ (ended.doubt ≡ None) → HasRisen (disk_of.fault_count old) (disk_of.fault_count new)

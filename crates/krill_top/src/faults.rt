@@ -18,7 +18,7 @@ pub enum OpenFault {
     BadRecord { device: u32, at: u64 },
     /// The disk of that number failed.
     DiskFault { device: u32 },
-    /// Memory was wanting.
+    /// Out of memory.
     Memory,
 }
 
@@ -54,7 +54,7 @@ pub enum RunFault {
     Device,
     /// A session took as many bytes as it may.
     Spent { bytes: u64 },
-    /// Memory was wanting.
+    /// Out of memory.
     Memory,
 }
 

@@ -34,11 +34,11 @@ impl Session {
     ) -> SessionEnd
         ensures session { Served D.Disk S.Source K.Sink ends.old ends.new handler.old.desks handler.new.desks result }
         ensures source_fault { result ≡ SessionEnd.SourceFault →
-            HasRisen (S.faults ends.old.source) (S.faults ends.new.source) }
+            HasRisen (S.fault_count ends.old.source) (S.fault_count ends.new.source) }
         ensures sink_fault { result ≡ SessionEnd.SinkFault →
-            HasRisen (K.faults ends.old.sink) (K.faults ends.new.sink) }
-        ensures source_later { S.faults ends.old.source ≤ S.faults ends.new.source }
-        ensures sink_later { K.faults ends.old.sink ≤ K.faults ends.new.sink }
+            HasRisen (K.fault_count ends.old.sink) (K.fault_count ends.new.sink) }
+        ensures source_later { S.fault_count ends.old.source ≤ S.fault_count ends.new.source }
+        ensures sink_later { K.fault_count ends.old.sink ≤ K.fault_count ends.new.sink }
         ensures clock { ends.new.clock ≡ ends.old.clock }
     {
         serve_lines(alloc, handler, &mut ends.source, &mut ends.sink)

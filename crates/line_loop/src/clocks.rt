@@ -17,7 +17,7 @@ pub trait RawClock: Drop {
         ensures { IfSome (next self.old) (λ reading. option_map as_nanos result ≡ reading) };
 }
 
-/// A clock of std. It tells nothing.
+/// A clock of std. Its readings aren't known.
 #[derive(Drop)]
 pub struct HostClock<R> {
     rt: R,

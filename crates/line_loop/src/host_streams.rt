@@ -3,7 +3,7 @@ use crate::{RawReader, RawWriter};
 use raw_calls::{CallFault, Tally, called, taken};
 use std::io::{Read, Write};
 
-/// A reader of std. It tells what the reader tells, which is nothing of a file or a pipe.
+/// A reader of std. It is known where that is: a file or a pipe isn't.
 #[derive(Drop)]
 pub struct HostReader<R> {
     from: R,
@@ -42,7 +42,7 @@ impl<R: Read + Drop> RawReader for HostReader<R> {
     }
 }
 
-/// A writer of std. It tells what the writer tells, which is nothing of a file or a pipe.
+/// A writer of std. It is known where that is: a file or a pipe isn't.
 #[derive(Drop)]
 pub struct HostWriter<W> {
     to: W,

@@ -101,7 +101,7 @@ impl Source for MemorySource {
 
     ghost left = { λ source. Some (source_left source) };
 
-    ghost faults = { λ source. fault_count (source_schedule source) };
+    ghost fault_count = { λ source. fault_count (source_schedule source) };
 
     fn take(&mut self, _alloc: Global, into: &mut [u8]) -> Result<usize, SourceStop>
         ensures room { IfOk result (λ n. n ≤ length into.new) }
@@ -176,7 +176,7 @@ impl Sink for MemorySink {
 
     ghost taken = { λ sink. Some (sink_bytes sink) };
 
-    ghost faults = { λ sink. fault_count (sink_schedule sink) };
+    ghost fault_count = { λ sink. fault_count (sink_schedule sink) };
 
     fn give(&mut self, _alloc: Global, bytes: &[u8]) -> Result<usize, SinkStop>
         ensures piece { IfOk result (λ n. n ≤ length bytes.now) }

@@ -7,7 +7,7 @@ use raw_calls::CallFault;
 
 /// What bytes are read from. A read may give fewer than there is room for, and a signal may interrupt it.
 pub trait RawReader: Drop {
-    /// The bytes that it will still give, where it tells.
+    /// The bytes that it will still give, where it is known.
     ghost left: { Self → Option (List ℕ) };
 
     /// How often its calls have failed.
@@ -25,7 +25,7 @@ pub trait RawReader: Drop {
 
 /// What bytes are written to. A write may take fewer than it is given, and a signal may interrupt it.
 pub trait RawWriter: Drop {
-    /// All bytes that it has taken, where it tells.
+    /// All bytes that it has taken, where it is known.
     ghost taken: { Self → Option (List ℕ) };
 
     /// How often its calls have failed.

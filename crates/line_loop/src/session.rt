@@ -38,8 +38,8 @@ fn give_all<K: Sink>(alloc: Global, sink: &mut K, out: &mut Vec<u8>) -> Result<(
     ensures err { OnErr result ((written : List ℕ) × (cut_off : List ℕ)
         × Appends (K.taken sink.old) (K.taken sink.new) written
         × (out.old.items ≡ written ++ cut_off)) }
-    ensures later { K.faults sink.old ≤ K.faults sink.new }
-    ensures fault { result ≡ Err SinkStop.Fault → HasRisen (K.faults sink.old) (K.faults sink.new) }
+    ensures later { K.fault_count sink.old ≤ K.fault_count sink.new }
+    ensures fault { result ≡ Err SinkStop.Fault → HasRisen (K.fault_count sink.old) (K.fault_count sink.new) }
 {
     let mut at = 0;
     while at < out.len() {
@@ -54,8 +54,8 @@ fn give_and_stop<K: Sink>(alloc: Global, sink: &mut K, out: &mut Vec<u8>) -> Sin
     ensures written { (written : List ℕ) × (cut_off : List ℕ)
         × Appends (K.taken sink.old) (K.taken sink.new) written
         × (out.old.items ≡ written ++ cut_off) }
-    ensures later { K.faults sink.old ≤ K.faults sink.new }
-    ensures fault { result ≡ SinkStop.Fault → HasRisen (K.faults sink.old) (K.faults sink.new) }
+    ensures later { K.fault_count sink.old ≤ K.fault_count sink.new }
+    ensures fault { result ≡ SinkStop.Fault → HasRisen (K.fault_count sink.old) (K.fault_count sink.new) }
 {
     match give_all(alloc, sink, out) {
         Ok(()) => SinkStop::Memory,
@@ -105,8 +105,8 @@ fn answer_pending<H: LineHandler, K: Sink>(
     ensures err { OnErr result ((written : List ℕ)
         × Appends (K.taken sink.old) (K.taken sink.new) written
         × Interrupts H.answers handler.old window.old written handler.new) }
-    ensures later { K.faults sink.old ≤ K.faults sink.new }
-    ensures fault { result ≡ Err SinkStop.Fault → HasRisen (K.faults sink.old) (K.faults sink.new) }
+    ensures later { K.fault_count sink.old ≤ K.fault_count sink.new }
+    ensures fault { result ≡ Err SinkStop.Fault → HasRisen (K.fault_count sink.old) (K.fault_count sink.new) }
 {
     'batches: loop {
         match answer_batch(alloc, handler, window, out) {
@@ -133,8 +133,8 @@ fn finish<H: LineHandler, K: Sink>(
     ensures err { OnErr result ((written : List ℕ)
         × Appends (K.taken sink.old) (K.taken sink.new) written
         × InterruptsLast H.answers handler.old window.now written handler.new) }
-    ensures later { K.faults sink.old ≤ K.faults sink.new }
-    ensures fault { result ≡ Err SinkStop.Fault → HasRisen (K.faults sink.old) (K.faults sink.new) }
+    ensures later { K.fault_count sink.old ≤ K.fault_count sink.new }
+    ensures fault { result ≡ Err SinkStop.Fault → HasRisen (K.fault_count sink.old) (K.fault_count sink.new) }
 {
     match answer_last(alloc, handler, window, out) {
         Ok(()) => give_all(alloc, sink, out),
@@ -161,7 +161,7 @@ pub fn serve_lines<H: LineHandler, S: Source, K: Sink>(
     source: &mut S,
     sink: &mut K,
 ) -> SessionEnd
-    // What the source gave and what the sink took, where they tell.
+    // What the source gave and what the sink took, where they are known.
     ensures session { (given : List ℕ) × (written : List ℕ)
         × Consumes (S.left source.old) (S.left source.new) given
         × Appends (K.taken sink.old) (K.taken sink.new) written
@@ -169,11 +169,11 @@ pub fn serve_lines<H: LineHandler, S: Source, K: Sink>(
 
     // It doesn't give up by itself.
     ensures source_fault { result ≡ SessionEnd.SourceFault →
-        HasRisen (S.faults source.old) (S.faults source.new) }
+        HasRisen (S.fault_count source.old) (S.fault_count source.new) }
     ensures sink_fault { result ≡ SessionEnd.SinkFault →
-        HasRisen (K.faults sink.old) (K.faults sink.new) }
-    ensures source_later { S.faults source.old ≤ S.faults source.new }
-    ensures sink_later { K.faults sink.old ≤ K.faults sink.new }
+        HasRisen (K.fault_count sink.old) (K.fault_count sink.new) }
+    ensures source_later { S.fault_count source.old ≤ S.fault_count source.new }
+    ensures sink_later { K.fault_count sink.old ≤ K.fault_count sink.new }
 {
     let Ok(mut window) = Window::new(alloc) else {
         return SessionEnd::Memory;

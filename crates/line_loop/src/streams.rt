@@ -15,7 +15,7 @@ pub struct SourceOver<C> {
     from: C,
 }
 
-/// A source over a reader of std. It tells what the reader tells.
+/// A source over a reader of std. It is known where the reader is.
 pub type StreamSource<R> = SourceOver<HostReader<R>>;
 
 impl<R: Read> SourceOver<HostReader<R>> {
@@ -66,7 +66,7 @@ impl<C: RawReader> Source for SourceOver<C> {
 
     ghost left = { λ source. C.left (source_reader source) };
 
-    ghost faults = { λ source. C.fault_count (source_reader source) };
+    ghost fault_count = { λ source. C.fault_count (source_reader source) };
 
     fn take(&mut self, _alloc: Global, into: &mut [u8]) -> Result<usize, SourceStop> {
         read_once(&mut self.from, into)
@@ -79,7 +79,7 @@ pub struct SinkOver<C> {
     to: C,
 }
 
-/// A sink over a writer of std. It tells what the writer tells.
+/// A sink over a writer of std. It is known where the writer is.
 pub type StreamSink<W> = SinkOver<HostWriter<W>>;
 
 impl<W: Write> SinkOver<HostWriter<W>> {
@@ -156,7 +156,7 @@ impl<C: RawWriter> Sink for SinkOver<C> {
 
     ghost taken = { λ sink. C.taken (sink_writer sink) };
 
-    ghost faults = { λ sink. C.fault_count (sink_writer sink) };
+    ghost fault_count = { λ sink. C.fault_count (sink_writer sink) };
 
     fn give(&mut self, _alloc: Global, bytes: &[u8]) -> Result<usize, SinkStop>
         ensures piece { IfOk result (λ n. n ≤ length bytes.now) }

@@ -68,8 +68,8 @@ fn take_at<S: Source>(
         × (take (end + n) buffer.new ≡ take end buffer.old ++ chunk))) }
     ensures end { IfOk result (λ n. n ≡ 0 → 0 < room → IsAtEnd (S.left source.new)) }
     ensures err { OnErr result (Keeps (S.left source.old) (S.left source.new)) }
-    ensures later { S.faults source.old ≤ S.faults source.new }
-    ensures fault { result ≡ Err SourceStop.Fault → HasRisen (S.faults source.old) (S.faults source.new) }
+    ensures later { S.fault_count source.old ≤ S.fault_count source.new }
+    ensures fault { result ≡ Err SourceStop.Fault → HasRisen (S.fault_count source.old) (S.fault_count source.new) }
 {
     source.take(alloc, &mut buffer[end..end + room])
 }
@@ -186,9 +186,9 @@ impl Window {
         ensures end { IfOk result (λ n. n ≡ 0 → IsAtEnd (S.left source.new)) }
         ensures err { OnErr result ((self.new.bytes ≡ self.old.bytes)
             × Keeps (S.left source.old) (S.left source.new)) }
-        ensures later { S.faults source.old ≤ S.faults source.new }
+        ensures later { S.fault_count source.old ≤ S.fault_count source.new }
         ensures fault { result ≡ Err SourceStop.Fault →
-            HasRisen (S.faults source.old) (S.faults source.new) }
+            HasRisen (S.fault_count source.old) (S.fault_count source.new) }
     {
         self.make_room();
         let free = BUFFER_LEN - self.end;

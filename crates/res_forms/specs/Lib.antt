@@ -6,3 +6,4 @@ pub mod LeadingLaws
 pub mod PrefixLaws
 pub mod FormatLaws
 pub mod SetLaws
+pub mod Written

@@ -54,7 +54,7 @@ fn as_block(part: Part<'_>) -> Result<(Range, Part<'_>), ShapeFault>
 }
 
 /// The length of the prefix that a range is, if it is one.
-fn span_length(size: u32, range: Range) -> Option<u32>
+pub fn span_length(size: u32, range: Range) -> Option<u32>
     requires short { size ≤ 128 }
     requires fits { range.last < 2 ^ size }
     ensures { result ≡ span_length size (span_of range) }

@@ -5,6 +5,7 @@ use crate::fields::{Fields, number_of};
 use anyhow::{Result, bail};
 use disk_api::{Disk, DiskStop, FileDisk, MemoryDisk, PlayedFile};
 use std::alloc::Global;
+use std::fs;
 
 /// A file's bytes, how its calls go, and the calls of the disk: what each answers.
 pub fn played(alloc: Global, fields: &mut Fields<'_>) -> Result<String> {
@@ -15,8 +16,23 @@ pub fn played(alloc: Global, fields: &mut Fields<'_>) -> Result<String> {
 
 /// A file of the working directory, and the calls of the disk over it.
 pub fn file(rt: &HostRuntime, fields: &mut Fields<'_>) -> Result<String> {
-    let mut disk = FileDisk::open(rt, rt.alloc(), fields.text()?)?;
-    answers(rt.alloc(), &mut disk, fields.text()?)
+    let path = fields.text()?;
+    over_file(rt, path, fields.text()?)
+}
+
+fn over_file(rt: &HostRuntime, path: &str, calls: &str) -> Result<String> {
+    let mut disk = FileDisk::open(rt, rt.alloc(), path)?;
+    answers(rt.alloc(), &mut disk, calls)
+}
+
+/// A new file of the working directory that has so many zeros, and the calls of the disk over it.
+pub fn large(rt: &HostRuntime, fields: &mut Fields<'_>) -> Result<String> {
+    let path = fields.text()?;
+    let len = number_of(fields.text()?)?;
+    fs::File::create(rt, path)?.set_len(len)?;
+    let told = over_file(rt, path, fields.text()?);
+    fs::remove_file(rt, path)?;
+    told
 }
 
 fn answers<D: Disk>(alloc: Global, disk: &mut D, calls: &str) -> Result<String> {

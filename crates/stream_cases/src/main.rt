@@ -30,6 +30,7 @@ fn answer_to(rt: &HostRuntime, fields: &mut Fields<'_>) -> Result<String> {
         "std" => sessions::std_streams(rt.alloc(), fields),
         "played file" => files::played(rt.alloc(), fields),
         "file" => files::file(rt, fields),
+        "large file" => files::large(rt, fields),
         "moments" => clocks::moments(rt.alloc(), fields),
         "readings" => clocks::readings(rt.alloc(), fields),
         "system clock" => clocks::system(rt, fields),

@@ -106,7 +106,8 @@ fn push_child(text: &mut String, alloc: Global, config: &Config, child: &Child) 
     Ok(())
 }
 
-fn push_resources(text: &mut String, alloc: Global, resources: &Resources) -> Result<()> {
+/// Appends the three sets in brackets.
+pub fn push_resources(text: &mut String, alloc: Global, resources: &Resources) -> Result<()> {
     for set in [&resources.asn, &resources.v4, &resources.v6] {
         write!(text, " ({})", set.text(alloc)?)?;
     }

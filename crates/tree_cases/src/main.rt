@@ -1,5 +1,6 @@
-//! Cases of an authority's book: commands before the verdict, and what the accepted ones come to.
-//! Each line of standard input is one, and its answer is printed behind its name.
+//! Cases of trees of authorities: commands before the verdict, what the accepted ones come to, and
+//! what the authorities of a tree are certified for. Each line of standard input is one, and its
+//! answer is printed behind its name.
 //!
 //! A line has the case's name, the call and its arguments, with tabs between them. Commands stand with
 //! `|` between them, a command's fields with `;`, its origins with `,`. The file `stdout` beside `src`
@@ -8,6 +9,7 @@
 
 mod books;
 mod commands;
+mod trees;
 
 use anyhow::{Context, Result, bail};
 use std::alloc::Global;
@@ -35,6 +37,7 @@ fn split_field(text: &str, between: char) -> Result<(&str, &str)> {
 fn answer(alloc: Global, call: &str, arguments: &str) -> Result<String> {
     match call {
         "verdicts" => books::taken(alloc, arguments),
+        "tree" => trees::entitled(alloc, arguments),
         _ => bail!("no such call"),
     }
 }

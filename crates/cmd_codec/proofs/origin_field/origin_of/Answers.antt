@@ -1,8 +1,6 @@
-use Rattle.std.proofs.Common.{ℕ, List, drop, lit≤, ap, ◌∙◌}
-use Rattle.std.specs.Int.{w32, w128, from_be_bytes}
-use Rattle.std.proofs.lemmas.List.{take-take}
-use Rattle.std.proofs.lemmas.Option.{MatchOption-at_some}
-use Rattle.cmd_codec.proofs.OriginField.{read_field, no_family}
+use Rattle.std.proofs.Common.{◌∙◌, ap, take, List, ℕ}
+use Rattle.std.proofs.lemmas.List.{take_rest}
+use Rattle.cmd_codec.proofs.OriginField.{read_origin, no_family}
 use Rattle.cmd_codec.proofs.origin_field.origin_of.Goals as goal
 
 pub returns-in_err-v6 : goal.returns-in_err-v6
@@ -10,10 +8,6 @@ returns-in_err-v6 c = rw c.from_residual.ensures (no_family c.args.field.now c.i
 
 pub returns : goal.returns
 returns c =
-    let address = MatchOption-at_some _ _ c.unwrap.result c.unwrap.ensures c.first_chunk.ensures.cases in
-    let asn = MatchOption-at_some _ _ c.unwrap-2.result c.unwrap-2.ensures c.first_chunk-2.ensures.cases in
-    read_field c.args.field.now c.in_ok-v6.v6 c.from_be_bytes-address.result c.from_be_bytes-asn.result c.origin_with.result c.told-field
-    c.fits-field c.in_ok-v6.ensures
-    (c.from_be_bytes-address.ensures ∙ ap (λ (b : List ℕ). from_be_bytes w128 b) (address.same ∙ take-take 16 22 (drop 1 c.args.field.now) (lit≤ tt)))
-    (c.from_be_bytes-asn.ensures ∙ ap (λ (b : List ℕ). from_be_bytes w32 b) (asn.same ∙ take-take 4 4 (drop 19 c.args.field.now) (lit≤ tt)))
-    c.from_be_bytes-asn.type_inv c.origin_with.ensures
+    read_origin c.args.field.now c.in_ok-v6.v6 c.wide_number_at-address.result c.number_of-asn.result c.origin_with.result c.requires c.in_ok-v6.ensures.0 c.in_ok-v6.ensures.1
+    c.wide_number_at-address.ensures.value c.wide_number_at-address.ensures.bytes
+    (c.number_of-asn.ensures.bytes ∙ ap (λ (b : List ℕ). take 4 b) (take_rest c.args.field.now 19)) c.origin_with.ensures

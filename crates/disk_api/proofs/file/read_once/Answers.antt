@@ -53,3 +53,17 @@ pub returns-in-Err-Failed-clause-faults : goal.returns-in-Err-Failed-clause-faul
 returns-in-Err-Failed-clause-faults g c =
     let risen = count_at_failed (g.F.RawFile.fault_count c.tries.file) (g.F.RawFile.fault_count c.read_at.new.self) (g.F.RawFile.patience c.tries.file) (g.F.RawFile.patience c.read_at.new.self) c.in-Err-Failed.field-0 c.in-Err-Failed.field-0-is c.in-Err-Failed.ensures.faults in
     fault_counted (g.F.RawFile.fault_count c.args.file.now) (g.F.RawFile.fault_count c.tries.file) (g.F.RawFile.fault_count c.read_at.new.self) c.tries.invariant.counted risen
+
+pub returns-in-Ok-clause-ok : goal.returns-in-Ok-clause-ok
+returns-in-Ok-clause-ok g c =
+    count_at_ok (g.F.RawFile.fault_count c.tries.file) (g.F.RawFile.fault_count c.read_at.new.self) (g.F.RawFile.patience c.tries.file) (g.F.RawFile.patience c.read_at.new.self) c.in-Ok.n c.in-Ok.ensures.faults ∙ c.tries.invariant.counted
+
+pub returns-in-Err-Memory-clause-stop : goal.returns-in-Err-Memory-clause-stop
+returns-in-Err-Memory-clause-stop g c =
+    let risen = count_at_memory (g.F.RawFile.fault_count c.tries.file) (g.F.RawFile.fault_count c.read_at.new.self) (g.F.RawFile.patience c.tries.file) (g.F.RawFile.patience c.read_at.new.self) c.in-Err-Memory.field-0 c.in-Err-Memory.field-0-is c.in-Err-Memory.ensures.faults in
+    subst (λ (n : ℕ). HasRisen n (g.F.RawFile.fault_count c.read_at.new.self)) c.tries.invariant.counted risen
+
+pub returns-in-Err-Failed-clause-stop : goal.returns-in-Err-Failed-clause-stop
+returns-in-Err-Failed-clause-stop g c =
+    let risen = count_at_failed (g.F.RawFile.fault_count c.tries.file) (g.F.RawFile.fault_count c.read_at.new.self) (g.F.RawFile.patience c.tries.file) (g.F.RawFile.patience c.read_at.new.self) c.in-Err-Failed.field-0 c.in-Err-Failed.field-0-is c.in-Err-Failed.ensures.faults in
+    subst (λ (n : ℕ). HasRisen n (g.F.RawFile.fault_count c.read_at.new.self)) c.tries.invariant.counted risen

@@ -14,7 +14,7 @@ loop-got-preserved g c =
     let fits : c.in_ok-n.n ≤ length c.read.new.into = omega (arith, c.in_ok-n.ensures.within, size, left) in
     record {
       within = omega (arith, so_far.within, fits, length-take got into, length-append {A = ℕ});
-      told = got_more (g.D.Disk.content c.args.disk.now) (g.D.Disk.content c.loop-got.disk) c.args.at got c.in_ok-n.n into _ c.read.new.into _ so_far.rests.content_stays so_far.within fits so_far.told c.in_ok-n.ensures.bytes;
+      known = got_more (g.D.Disk.content c.args.disk.now) (g.D.Disk.content c.loop-got.disk) c.args.at got c.in_ok-n.n into _ c.read.new.into _ so_far.rests.content_stays so_far.within fits so_far.known c.in_ok-n.ensures.bytes;
       rests = rests_on g.D.Disk c.args.disk.now c.loop-got.disk c.read.new.self so_far.rests c.read.ensures.stays c.read.ensures.time;
       bytes = λ i. (c.type_inv.into i).fits;
       later = omega (arith, so_far.later, c.read.ensures.faults.later);

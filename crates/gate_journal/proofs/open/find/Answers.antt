@@ -12,9 +12,9 @@ pub returns-clause-found : goal.returns-clause-found
 returns-clause-found g c =
     let content = g.D.Disk.content c.args.disk.now in
     let at_mid = c.is_journal.ensures.rests.content_stays ∙ c.len.ensures.stays.content ∙ c.sync.ensures.content in
-    let told : IfSome content (λ bytes. c.in_ok-len.len ≡ length bytes) = subst (λ (o : Option (List ℕ)). IfSome o (λ bytes. c.in_ok-len.len ≡ length bytes)) c.sync.ensures.content c.in_ok-len.ensures.length in
+    let known : IfSome content (λ bytes. c.in_ok-len.len ≡ length bytes) = subst (λ (o : Option (List ℕ)). IfSome o (λ bytes. c.in_ok-len.len ≡ length bytes)) c.sync.ensures.content c.in_ok-len.ensures.length in
     IfOk-weaker c.read_heads.result _ _
-    (λ layout finds. opens_old c.args.limit c.in_ok-len.len content (g.D.Disk.content c.is_journal.new.disk) (g.D.Disk.content c.read_heads.new.disk) layout.places.items at_mid (c.read_heads.ensures.rests.content_stays ∙ at_mid) told
+    (λ layout finds. opens_old c.args.limit c.in_ok-len.len content (g.D.Disk.content c.is_journal.new.disk) (g.D.Disk.content c.read_heads.new.disk) layout.places.items at_mid (c.read_heads.ensures.rests.content_stays ∙ at_mid) known
     (omega arith) finds)
     c.read_heads.ensures.found
 

@@ -8,8 +8,8 @@ use Rattle.gate_journal.specs.declared.open.Layout.{Layout}
 use Rattle.gate_journal.specs.declared.fault.JournalFault.{JournalFault}
 use Rattle.gate_journal.specs.declared.fault.JournalFault.TheVariants.{Damaged}
 use Rattle.disk_api.specs.RunLaws.{rests_started, rests_far}
-use Rattle.gate_journal.proofs.Opened.{read_none_told, read_more_told, read_all_told, closed_only}
-use Rattle.gate_journal.proofs.Damage.{damaged_told}
+use Rattle.gate_journal.proofs.Opened.{read_none_known, read_more_known, read_all_known, closed_only}
+use Rattle.gate_journal.proofs.Damage.{damaged_known}
 use Rattle.gate_journal.proofs.Sizes.{none_in_turn, more_in_turn, all_measured}
 use Rattle.gate_journal.proofs.open.read_heads.Goals as goal
 
@@ -19,7 +19,7 @@ loop-places-init g c = record {
   within = omega (arith, c.requires.long);
   turn = none_in_turn c.new-places.result.items c.new-places.ensures.items;
   window = empty_window (g.D.Disk.content c.args.disk.now) c.empty-window.result.start c.empty-window.result.bytes.items c.empty-window.ensures;
-  told = read_none_told (g.D.Disk.content c.args.disk.now) c.args.limit c.args.len c.new-places.result.items c.new-places.ensures.items c.requires.long c.requires.told;
+  known = read_none_known (g.D.Disk.content c.args.disk.now) c.args.limit c.args.len c.new-places.result.items c.new-places.ensures.items c.requires.long c.requires.known;
   rests = rests_started g.D.Disk c.args.disk.now g.met.D.Disk.only_now;
   later = omega arith;
 }
@@ -39,7 +39,7 @@ loop-places-preserved g c =
       within = omega (arith, so_far.within, head.0);
       turn = more_in_turn at _ c.loop-places.places.items c.push.new.self.items _ so_far.turn c.in_ok-push.ensures.items refl refl;
       window = subst (λ (o : Option (List ℕ)). IfSome o (IsWindow c.read_head.new.window.start c.read_head.new.window.bytes.items)) same c.in_ok-size.ensures.window;
-      told = read_more_told content c.args.limit c.args.len at size c.loop-places.places.items c.push.new.self.items _ so_far.told stands c.requires.told (omega (arith, so_far.within, head.0)) head.1 (omega (arith, head.1, c.ranges.limit.fits)) refl c.in_ok-push.ensures.items;
+      known = read_more_known content c.args.limit c.args.len at size c.loop-places.places.items c.push.new.self.items _ so_far.known stands c.requires.known (omega (arith, so_far.within, head.0)) head.1 (omega (arith, head.1, c.ranges.limit.fits)) refl c.in_ok-push.ensures.items;
       rests = rests_far g.D.Disk c.args.disk.now c.loop-places.disk c.read_head.new.disk so_far.rests c.in_ok-size.ensures.rests;
       later = omega (arith, so_far.later, c.in_ok-size.ensures.later);
     }
@@ -51,7 +51,7 @@ pub returns-clause-found : goal.returns-clause-found
 returns-clause-found g c =
     let so_far = c.loop-places.invariant in
     let at = c.loop-places.at in
-    read_all_told (g.D.Disk.content c.args.disk.now) c.args.limit at c.loop-places.places.items so_far.told
+    read_all_known (g.D.Disk.content c.args.disk.now) c.args.limit at c.loop-places.places.items so_far.known
     (subst (λ (o : Option (List ℕ)). IfSome o (λ bytes. StandsAt (drop at bytes) Closed)) so_far.rests.content_stays (closed_only (g.D.Disk.content c.loop-places.disk) at c.in_ok-size.field-0 c.in_ok-size.ensures.stands c.in_default.not-Record))
 
 pub returns-in_err-size-clause-harmed : goal.returns-in_err-size-clause-harmed
@@ -60,5 +60,5 @@ returns-in_err-size-clause-harmed g c =
     let fault = c.in_err-size.field-0.0 in
     let is : c.from_residual.result ≡ Err fault = search rules in
     subst (λ (r : Result Layout JournalFault). IfErr r (λ f. (a : ℕ) → f ≡ Damaged a → IfSome (g.D.Disk.content c.args.disk.now) (λ bytes. damaged_at c.args.limit bytes ≡ Some a))) (sym is)
-    (λ a eq. damaged_told (g.D.Disk.content c.args.disk.now) (g.D.Disk.content c.loop-places.disk) c.args.limit c.args.len c.loop-places.at a c.loop-places.places.items so_far.rests.content_stays so_far.told c.requires.told c.requires.long
+    (λ a eq. damaged_known (g.D.Disk.content c.args.disk.now) (g.D.Disk.content c.loop-places.disk) c.args.limit c.args.len c.loop-places.at a c.loop-places.places.items so_far.rests.content_stays so_far.known c.requires.known c.requires.long
     (c.in_err-size.ensures.harmed a eq))

@@ -11,7 +11,7 @@ invariant-loop-places g l = record {
   within : l.at ≤ l.fn.len;
   turn : AreInTurn l.at l.places.items;
   window : IfSome (g.D.Disk.content l.fn.disk) (IsWindow l.window.start l.window.bytes.items);
-  told : IfSome (g.D.Disk.content l.fn.disk) (λ bytes. HasRead l.fn.limit l.at l.places.items bytes);
+  known : IfSome (g.D.Disk.content l.fn.disk) (λ bytes. HasRead l.fn.limit l.at l.places.items bytes);
   rests : Rests g.D.Disk l.fn.disk l.disk;
   later : g.D.Disk.fault_count l.fn.disk ≤ g.D.Disk.fault_count l.disk;
 }

@@ -9,7 +9,7 @@ invariant-batches g l = record {
   given : (written : List ℕ) × Appends (g.K.Sink.taken l.initial.sink) (g.K.Sink.taken l.sink) written
       × Advances (Answers g.H.LineHandler.answers) l.initial.handler l.initial.window written l.handler l.window;
   empty : l.out.items ≡ [];
-  later : g.K.Sink.faults l.initial.sink ≤ g.K.Sink.faults l.sink;
+  later : g.K.Sink.fault_count l.initial.sink ≤ g.K.Sink.fault_count l.sink;
 }
 
 abbrev pub decreases-batches : goal.decreases-batches

@@ -11,8 +11,8 @@ invariant-loop-taken g l = record {
   none : NoFeed l.window.bytes;
   short : length l.window.bytes ≤ LINE_LIMIT;
   empty : l.out.items ≡ [];
-  source_later : g.S.Source.faults l.initial.source ≤ g.S.Source.faults l.source;
-  sink_later : g.K.Sink.faults l.initial.sink ≤ g.K.Sink.faults l.sink;
+  source_later : g.S.Source.fault_count l.initial.source ≤ g.S.Source.fault_count l.source;
+  sink_later : g.K.Sink.fault_count l.initial.sink ≤ g.K.Sink.fault_count l.sink;
 }
 
 abbrev pub decreases-loop-taken : goal.decreases-loop-taken

@@ -12,7 +12,7 @@ use Rattle.gate_journal.specs.View.{stake_of}
 use Rattle.desk_core.specs.View.{View}
 use Rattle.desk_core.specs.Answers.{HasPlace, IsDeskFault, fault_of}
 use Rattle.desk_core.specs.declared.faults.DeskFault.{DeskFault}
-use Rattle.desk_core.specs.Images.{HoldsTold}
+use Rattle.desk_core.specs.Images.{RecoversToKnown}
 use Rattle.desk_core.specs.Commands.{HasCommands}
 use Rattle.desk_core.proofs.Recorded.{loaded_push}
 use Rattle.disk_api.specs.RunLaws.{started}
@@ -75,7 +75,7 @@ returns-in-Ok-append-clause-any_moment g c =
     let inside = c.self.inside in
     let payload = c.as_slice-record.result.now in
     let spelled : payload ≡ spelling c.args.command = c.as_slice-record.ensures.value ∙ c.in-Ok.ensures.payload.0 in
-    subst (λ (old : View _). LeavesOnly g.D.Disk old.disk c.append.new.self.disk (HoldsTold (g.D.Disk.content old.disk) old.records (stake_of old.shut old.doubt (spelling c.args.command))))
+    subst (λ (old : View _). LeavesOnly g.D.Disk old.disk c.append.new.self.disk (RecoversToKnown (g.D.Disk.content old.disk) old.records (stake_of old.shut old.doubt (spelling c.args.command))))
     c.self.view_is
     (moments g.D.Disk inside.number inside.config.settings inside.body.items c.args.command payload
     inside.journal c.prepare.new.journal c.append.new.self c.self.invariant c.prepare.ensures.journal spelled c.append.ensures.any_moment)
@@ -126,14 +126,14 @@ returns-in-Err-clause-any_moment g c =
     ] in
     let any = moments g.D.Disk inside.number inside.config.settings inside.body.items c.args.command payload
     inside.journal c.prepare.new.journal c.append.new.self c.self.invariant c.prepare.ensures.journal spelled c.append.ensures.any_moment in
-    let mine = subst (λ (old : View _). LeavesOnly g.D.Disk old.disk c.append.new.self.disk (HoldsTold (g.D.Disk.content old.disk) old.records (stake_of old.shut old.doubt (spelling c.args.command)))) c.self.view_is any in
-    subst (λ (v : View _). LeavesOnly g.D.Disk c.args.self.now.disk v.disk (HoldsTold (g.D.Disk.content c.args.self.now.disk) c.args.self.now.records (stake_of c.args.self.now.shut c.args.self.now.doubt (spelling c.args.command)))) (sym same) mine
+    let mine = subst (λ (old : View _). LeavesOnly g.D.Disk old.disk c.append.new.self.disk (RecoversToKnown (g.D.Disk.content old.disk) old.records (stake_of old.shut old.doubt (spelling c.args.command)))) c.self.view_is any in
+    subst (λ (v : View _). LeavesOnly g.D.Disk c.args.self.now.disk v.disk (RecoversToKnown (g.D.Disk.content c.args.self.now.disk) c.args.self.now.records (stake_of c.args.self.now.shut c.args.self.now.doubt (spelling c.args.command)))) (sym same) mine
 
 pub returns-in-Some-clause-any_moment : goal.returns-in-Some-clause-any_moment
 returns-in-Some-clause-any_moment g c =
     let desk = c.args.self.now in
     let safe = c.refusal.ensures.safe in
-    started g.D.Disk desk.disk (HoldsTold (g.D.Disk.content desk.disk) desk.records (stake_of desk.shut desk.doubt (spelling c.args.command))) g.met.D.Disk.only_now
+    started g.D.Disk desk.disk (RecoversToKnown (g.D.Disk.content desk.disk) desk.records (stake_of desk.shut desk.doubt (spelling c.args.command))) g.met.D.Disk.only_now
     (λ image left. stake_holds (g.D.Disk.content desk.disk) desk.records desk.shut desk.doubt (spelling c.args.command) image safe.settled (safe.images image left))
 
 pub returns-in-Ok-append-clause-safe : goal.returns-in-Ok-append-clause-safe
@@ -157,4 +157,4 @@ returns-in-Ok-append-clause-durable g c image left =
     let safe = returns-in-Ok-append-clause-safe g c in
     let records = format.payloads c.append.new.self.sizes c.add_to_body.new.body.items in
     held_before (g.D.Disk.content c.args.self.now.disk) (g.D.Disk.content c.append.new.self.disk) _ records None image (returns-in-Ok-append-clause-bytes g c)
-    (subst (λ (d : Option (List ℕ)). HoldsTold (g.D.Disk.content c.append.new.self.disk) records d image) (safe.settled c.in-Ok-append.ensures.place.1) (safe.images image left))
+    (subst (λ (d : Option (List ℕ)). RecoversToKnown (g.D.Disk.content c.append.new.self.disk) records d image) (safe.settled c.in-Ok-append.ensures.place.1) (safe.images image left))

@@ -1,16 +1,20 @@
 use Rattle.std.proofs.Common.{subst}
 use Rattle.disk_api.specs.Runs.{LeavesOnly}
-use Rattle.gate_journal.specs.Kept.{shows, doubt_of}
-use Rattle.gate_journal.specs.View.{View, StandsForOrDoubt, stake_of}
+use Rattle.gate_journal.specs.Kept.{shows}
+use Rattle.gate_journal.specs.View.{View, RecoversToInDoubt, stake_of}
 use Rattle.disk_api.specs.RunLaws.{started}
 use Rattle.gate_journal.proofs.Guarding.{stake_stands}
+use Rattle.gate_journal.proofs.Refused.{refusal_answers}
 use Rattle.gate_journal.proofs.journal.Journal.append.Goals as goal
 
-pub returns-then-self-clause-any_moment : goal.returns-then-self-clause-any_moment
-returns-then-self-clause-any_moment g c =
+pub returns-in-Some-clause-any_moment : goal.returns-in-Some-clause-any_moment
+returns-in-Some-clause-any_moment g c =
     let j = c.self.inside in
     let content = g.D.Disk.content j.disk in
     let payload = c.args.payload.now in
-    subst (λ (v : View _). LeavesOnly g.D.Disk v.disk v.disk (StandsForOrDoubt v.limit v.records (stake_of v.shut v.doubt payload))) c.self.view_is
-    (started g.D.Disk j.disk (StandsForOrDoubt j.limit (shows j.count content) (stake_of j.shut (doubt_of j.buffer.items) payload)) g.met.D.Disk.only_now
-    (λ image left. stake_stands j.limit (shows j.count content) j.shut (doubt_of j.buffer.items) payload image c.self.invariant.1.settled (c.self.invariant.1.images image left)))
+    subst (λ (v : View _). LeavesOnly g.D.Disk v.disk v.disk (RecoversToInDoubt v.limit v.records (stake_of v.shut v.doubt payload))) c.self.view_is
+    (started g.D.Disk j.disk (RecoversToInDoubt j.limit (shows j.count content) (stake_of j.shut j.doubt payload)) g.met.D.Disk.only_now
+    (λ image left. stake_stands j.limit (shows j.count content) j.shut j.doubt payload image c.self.invariant.1.settled (c.self.invariant.1.images image left)))
+
+pub returns-in-Some-clause-refused : goal.returns-in-Some-clause-refused
+returns-in-Some-clause-refused g c = refusal_answers g.D.Disk c.in-Some.fault c.args.payload.now c.args.self.now c.in-Some.ensures.answer

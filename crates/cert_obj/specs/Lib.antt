@@ -1,0 +1,9 @@
+pub mod Values
+pub mod Extensions
+pub mod ExtensionLaws
+pub mod Holdings
+pub mod HoldingLaws
+pub mod IdentifierLaws
+pub mod Formats
+pub mod Laws
+pub mod Views

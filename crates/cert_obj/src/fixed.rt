@@ -1,0 +1,71 @@
+//! The extensions that a kind and a key fix.
+
+ghost use Rattle.der_forms.specs.Place.{place};
+ghost use Rattle.der_forms.specs.Outcome.{Gives};
+ghost use Rattle.cert_obj.specs.Extensions.{basic_constraints, subject_key, issuer_key, key_usage, policies};
+
+use der_forms::tags::{OCTET_STRING, PRIMITIVE_0, SEQUENCE};
+use der_forms::{Part, ShapeFault, exactly};
+use object_parts::identifiers::{
+    AUTHORITY_KEY_IDENTIFIER, BASIC_CONSTRAINTS, KEY_USAGE, POLICIES, SUBJECT_KEY_IDENTIFIER,
+};
+use object_parts::{critical_extension, extension};
+
+/// The value of basicConstraints: an authority, and no length of paths.
+pub const CA_TRUE: [u8; 5] = [0x30, 0x03, 0x01, 0x01, 0xff];
+
+/// The usage of an authority's key: keyCertSign and cRLSign.
+pub const AUTHORITY_USAGE: [u8; 4] = [0x03, 0x02, 0x01, 0x06];
+
+/// The usage of an end-entity's key: digitalSignature.
+pub const ENTITY_USAGE: [u8; 4] = [0x03, 0x02, 0x07, 0x80];
+
+/// The one policy of the RPKI.
+pub const RPKI_POLICIES: [u8; 14] = [
+    0x30, 0x0c, 0x30, 0x0a, 0x06, 0x08, 0x2b, 0x06, 0x01, 0x05, 0x05, 0x07, 0x0e, 0x02,
+];
+
+/// That it is an authority's; what stands behind.
+pub fn basic_constraints(part: Part<'_>) -> Result<Part<'_>, ShapeFault>
+    ensures { Gives (λ q. (tt, place q)) result (basic_constraints.read (place part.entry)) }
+{
+    let (value, rest) = critical_extension(part, &BASIC_CONSTRAINTS)?;
+    exactly(value, &CA_TRUE)?;
+    Ok(rest)
+}
+
+/// The identifier of the subject's key; what stands behind it.
+pub fn subject_key<'a>(part: Part<'a>, subject: &[u8; 20]) -> Result<Part<'a>, ShapeFault>
+    ensures { Gives (λ q. (tt, place q)) result ((subject_key subject.now).read (place part.entry)) }
+{
+    let (value, rest) = extension(part, &SUBJECT_KEY_IDENTIFIER)?;
+    exactly(value.sole(OCTET_STRING)?, subject)?;
+    Ok(rest)
+}
+
+/// The identifier of the issuer's key; what stands behind it.
+pub fn issuer_key<'a>(part: Part<'a>, issuer: &[u8; 20]) -> Result<Part<'a>, ShapeFault>
+    ensures { Gives (λ q. (tt, place q)) result ((issuer_key issuer.now).read (place part.entry)) }
+{
+    let (value, rest) = extension(part, &AUTHORITY_KEY_IDENTIFIER)?;
+    exactly(value.sole(SEQUENCE)?.sole(PRIMITIVE_0)?, issuer)?;
+    Ok(rest)
+}
+
+/// The usage of the key; what stands behind it.
+pub fn key_usage<'a>(part: Part<'a>, usage: &[u8; 4]) -> Result<Part<'a>, ShapeFault>
+    ensures { Gives (λ q. (tt, place q)) result ((key_usage usage.now).read (place part.entry)) }
+{
+    let (value, rest) = critical_extension(part, &KEY_USAGE)?;
+    exactly(value, usage)?;
+    Ok(rest)
+}
+
+/// The policy; what stands behind it.
+pub fn policies(part: Part<'_>) -> Result<Part<'_>, ShapeFault>
+    ensures { Gives (λ q. (tt, place q)) result (policies.read (place part.entry)) }
+{
+    let (value, rest) = critical_extension(part, &POLICIES)?;
+    exactly(value, &RPKI_POLICIES)?;
+    Ok(rest)
+}

@@ -1,0 +1,4 @@
+mod Reaching
+mod Parents
+mod Arriving
+mod Those

@@ -1,0 +1,17 @@
+//! Certified sets and owed origins.
+
+use origins::Origin;
+use res_sets::Resources;
+
+/// What each authority of a tree is certified for: a set of resources for each name, at its place.
+#[derive(Debug, Drop)]
+pub struct Tree {
+    pub sets: Vec<Resources>,
+}
+
+/// A route origin that an authority owes a ROA for, and the authority's desk.
+#[derive(Clone, Copy, Debug, PartialEq, Eq)]
+pub struct Owed {
+    pub desk: u32,
+    pub origin: Origin,
+}

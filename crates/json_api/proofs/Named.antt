@@ -1,0 +1,56 @@
+-- Fields are known by their names and by their places.
+use Rattle.std.proofs.Common.{◌≡◌, ◌≢◌, ℕ, ◌<◌, List, [], ◌∷◌, Bool, true, false, true≢false, Option, Some, None, bytes_eq, codes, get_or, map, length, refl, sym, ap, subst, ◌∙◌, arith, if◌then◌else◌}
+use Rattle.std.proofs.lemmas.Slice.Eq.{bytes_eq-Decides}
+use Rattle.json_api.specs.declared.fields.Field.{Field}
+use Rattle.json_api.specs.declared.fields.Field.TheVariants.{Add, Ca, Child, Command, Parent, Remove, Resources, Signer}
+use Rattle.json_api.specs.Names.{name_of, place_of, fields, first_named, field_named}
+
+module _ {A : Type 0} (text_of : A → List ℕ) where
+  here : (text : List ℕ) (a b : A) (rest : Option A) (c : Bool) → bytes_eq text (text_of a) ≡ c → (rest ≡ Some b → text ≡ text_of b)
+      → (if c then Some a else rest) ≡ Some b → text ≡ text_of b
+  here text a b rest true same later e = (bytes_eq-Decides text (text_of a)).0 same ∙ ap text_of (cc)
+  here text a b rest false same later e = later e
+
+  -- what is found has the text
+  pub first_named-is : (of : List A) (text : List ℕ) (b : A) → first_named text_of of text ≡ Some b → text ≡ text_of b
+  first_named-is [] text b e = absurd (cc)
+  first_named-is (a ∷ more) text b e =
+      here text a b (first_named text_of more text) (bytes_eq text (text_of a)) refl (first_named-is more text b) e
+
+pub field_named-name_of : (f : Field) → field_named (name_of f) ≡ Some f
+field_named-name_of Add = refl
+field_named-name_of Ca = refl
+field_named-name_of Child = refl
+field_named-name_of Command = refl
+field_named-name_of Parent = refl
+field_named-name_of Remove = refl
+field_named-name_of Resources = refl
+field_named-name_of Signer = refl
+
+pub place_within : (f : Field) → place_of f < 8
+place_within Add = omega arith
+place_within Ca = omega arith
+place_within Child = omega arith
+place_within Command = omega arith
+place_within Parent = omega arith
+place_within Remove = omega arith
+place_within Resources = omega arith
+place_within Signer = omega arith
+
+name_at : ℕ → List ℕ
+name_at i = get_or (map name_of fields) i []
+
+name_at-place : (f : Field) → name_at (place_of f) ≡ name_of f
+unfolding name_at
+name_at-place Add = refl
+name_at-place Ca = refl
+name_at-place Child = refl
+name_at-place Command = refl
+name_at-place Parent = refl
+name_at-place Remove = refl
+name_at-place Resources = refl
+name_at-place Signer = refl
+
+-- one place, one name
+pub same_place : (f g : Field) → place_of f ≡ place_of g → name_of f ≡ name_of g
+same_place f g e = sym (name_at-place f) ∙ ap name_at e ∙ name_at-place g

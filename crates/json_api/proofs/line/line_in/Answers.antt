@@ -1,0 +1,27 @@
+use Rattle.std.proofs.Common.{◌≡◌, ◌≢◌, ℕ, List, Option, Some, None, sym, subst, ap, ◌∙◌}
+use Rattle.serde_json.specs.Data.{Members}
+use Rattle.serde_json.specs.Find.{as_object}
+use Rattle.serde_json.specs.View.{view, members_view}
+use Rattle.json_api.specs.declared.fields.Field.TheVariants.{Command}
+use Rattle.json_api.specs.declared.fields.Row.{Row}
+use Rattle.json_api.specs.Table.{as_row, line_at}
+use Rattle.json_api.specs.Slots.{slot_at}
+use Rattle.json_api.specs.Names.{first_other}
+use Rattle.json_api.proofs.Answered.{no_object, no_row, value_answers}
+use Rattle.json_api.proofs.line.line_in.Goals as goal
+
+pub returns-in_default : goal.returns-in_default
+returns-in_default c _ = no_object (view c.args.value.now) (let e = c.in_default.ensures in cc)
+
+pub returns-in_default-row : goal.returns-in_default-row
+returns-in_default-row c _ =
+    let object : as_object (view c.args.value.now) ≡ Some (members_view c.in-Some.members.now.entries) = sym c.in-Some.ensures in
+    no_row (view c.args.value.now) (members_view c.in-Some.members.now.entries) c.in_ok-slots.slots object c.in_ok-slots.ensures (let e = c.in_default-row.ensures in cc)
+
+pub returns : goal.returns
+returns c fine =
+    let ms = members_view c.in-Some.members.now.entries in
+    let row = c.in-Some-row.row in
+    let object : as_object (view c.args.value.now) ≡ Some ms = sym c.in-Some.ensures in
+    value_answers (view c.args.value.now) ms c.in_ok-slots.slots row c.line.result object c.in_ok-slots.ensures (sym c.in-Some-row.ensures)
+    (c.line.ensures fine ∙ ap (λ (other : Option (List ℕ)). line_at row (slot_at c.in_ok-slots.slots) other) c.in_ok-other.ensures)

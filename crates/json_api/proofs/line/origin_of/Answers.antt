@@ -1,4 +1,0 @@
-use Rattle.json_api.proofs.line.origin_of.Goals as goal
-
-pub returns-in-Err : goal.returns-in-Err
-returns-in-Err c origin spells = let other = c.in-Err.ensures.spelled origin spells in cc

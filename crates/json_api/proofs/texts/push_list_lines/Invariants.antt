@@ -1,0 +1,7 @@
+use Rattle.std.proofs.Common.{◌≡◌, ◌++◌, take, map}
+use Rattle.json_api.specs.Texts.{commas, list_line}
+use Rattle.json_api.proofs.Commas.{between}
+use Rattle.json_api.proofs.texts.push_list_lines.Given as goal
+
+abbrev pub invariant-loop-line : goal.invariant-loop-line
+invariant-loop-line l = (l.out.items ≡ l.initial.out.items ++ commas (map list_line (take l.line-index l.lines))) × (l.between ≡ between (take l.line-index l.lines))

@@ -1,0 +1,15 @@
+use Rattle.std.proofs.Common.{◌≡◌, ◌∷◌, Option, IfSome, Vec, Global, subst, sym}
+use Rattle.json.specs.Token.{Token}
+use Rattle.serde_json.specs.Data.{Items, array}
+use Rattle.origins.specs.declared.Origin.{Origin}
+use Rattle.json_api.specs.Line.{AreOriginTexts}
+use Rattle.json_api.specs.Passes.{ReadsItems}
+use Rattle.json_api.proofs.Passes.{list_read}
+use Rattle.json_api.proofs.tokens.take_origins.Goals as goal
+
+pub returns-clause-good : goal.returns-clause-good
+returns-clause-good c =
+    let first : c.args.reader.now ≡ Token.begin_array ∷ c.next.new.self = rw c.in-Some-BeginArray.field-0-is at c.in-Some-BeginArray.ensures.value in
+    let list = subst (λ (o : Option (Vec Origin Global)). IfSome o (λ origins. (ds : Items) × ReadsItems c.next.new.self ds c.take_items.new.reader × AreOriginTexts ds origins.items))
+    c.in-Some.is c.in_ok-origins.ensures.good in
+    (array list.0, list_read c.args.reader.now c.next.new.self c.take_items.new.reader list.0 first list.1, subst (λ os. AreOriginTexts list.0 os) (sym c.in_ok-new.ensures) list.2)

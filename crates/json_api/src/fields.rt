@@ -1,0 +1,190 @@
+//! The members that lines have, and the rows of the table of lines.
+
+ghost use Rattle.std.specs.Prelude.{◌≡◌};
+ghost use Rattle.json_api.specs.Names.{name_of, place_of, kind_of, fields, field_named, row_named, fields_of, is_among, takes, is_member};
+
+/// A member that some line of the table has. They stand in byte order of their names.
+#[derive(Clone, Copy, Debug, PartialEq, Eq)]
+pub enum Field {
+    Add,
+    Ca,
+    Child,
+    Command,
+    Parent,
+    Remove,
+    Resources,
+    Signer,
+}
+
+/// What a member's value has to be.
+#[derive(Clone, Copy, Debug, PartialEq, Eq)]
+pub enum Kind {
+    /// The text of a row's command.
+    Row,
+    /// The text of a name.
+    Name,
+    /// A whole number below 2^32.
+    Number,
+    /// An object of the texts of three sets.
+    Resources,
+    /// A list of origins' texts.
+    Origins,
+}
+
+/// A row of the table: what the member `command` says.
+#[derive(Clone, Copy, Debug, PartialEq, Eq)]
+pub enum Row {
+    Add,
+    Delete,
+    ParentsAdd,
+    ChildrenAdd,
+    ChildrenUpdate,
+    ChildrenRemove,
+    ChildrenSuspend,
+    ChildrenUnsuspend,
+    RoasUpdate,
+    List,
+    Show,
+    RoasList,
+    HistoryCommands,
+}
+
+pub(crate) const FIELDS: [Field; 8] = [
+    Field::Add,
+    Field::Ca,
+    Field::Child,
+    Field::Command,
+    Field::Parent,
+    Field::Remove,
+    Field::Resources,
+    Field::Signer,
+];
+
+impl Field {
+    /// The member's name.
+    pub(crate) fn name(self) -> &'static str
+        ensures { result.now ≡ name_of self }
+    {
+        match self {
+            Field::Add => "add",
+            Field::Ca => "ca",
+            Field::Child => "child",
+            Field::Command => "command",
+            Field::Parent => "parent",
+            Field::Remove => "remove",
+            Field::Resources => "resources",
+            Field::Signer => "signer",
+        }
+    }
+
+    /// The field of that name.
+    pub(crate) fn named(name: &str) -> Option<Field>
+        ensures { result ≡ field_named name.now }
+    {
+        match name {
+            "add" => Some(Field::Add),
+            "ca" => Some(Field::Ca),
+            "child" => Some(Field::Child),
+            "command" => Some(Field::Command),
+            "parent" => Some(Field::Parent),
+            "remove" => Some(Field::Remove),
+            "resources" => Some(Field::Resources),
+            "signer" => Some(Field::Signer),
+            _ => None,
+        }
+    }
+
+    pub(crate) fn place(self) -> usize
+        ensures { result ≡ place_of self }
+    {
+        match self {
+            Field::Add => 0,
+            Field::Ca => 1,
+            Field::Child => 2,
+            Field::Command => 3,
+            Field::Parent => 4,
+            Field::Remove => 5,
+            Field::Resources => 6,
+            Field::Signer => 7,
+        }
+    }
+
+    pub(crate) fn kind(self) -> Kind
+        ensures { result ≡ kind_of self }
+    {
+        match self {
+            Field::Add | Field::Remove => Kind::Origins,
+            Field::Ca | Field::Child | Field::Parent => Kind::Name,
+            Field::Command => Kind::Row,
+            Field::Resources => Kind::Resources,
+            Field::Signer => Kind::Number,
+        }
+    }
+}
+
+impl Row {
+    /// The row of that command.
+    pub(crate) fn named(text: &str) -> Option<Row>
+        ensures { result ≡ row_named text.now }
+    {
+        match text {
+            "add" => Some(Row::Add),
+            "delete" => Some(Row::Delete),
+            "parents add" => Some(Row::ParentsAdd),
+            "children add" => Some(Row::ChildrenAdd),
+            "children update" => Some(Row::ChildrenUpdate),
+            "children remove" => Some(Row::ChildrenRemove),
+            "children suspend" => Some(Row::ChildrenSuspend),
+            "children unsuspend" => Some(Row::ChildrenUnsuspend),
+            "roas update" => Some(Row::RoasUpdate),
+            "list" => Some(Row::List),
+            "show" => Some(Row::Show),
+            "roas list" => Some(Row::RoasList),
+            "history commands" => Some(Row::HistoryCommands),
+            _ => None,
+        }
+    }
+
+    /// The row's fields, in the order in which they are read.
+    fn fields(self) -> &'static [Field]
+        ensures { result.now ≡ fields_of self }
+    {
+        match self {
+            Row::Add => &[Field::Ca, Field::Signer],
+            Row::ParentsAdd => &[Field::Ca, Field::Parent],
+            Row::ChildrenAdd | Row::ChildrenUpdate => {
+                &[Field::Ca, Field::Child, Field::Resources]
+            }
+            Row::ChildrenRemove | Row::ChildrenSuspend | Row::ChildrenUnsuspend => {
+                &[Field::Ca, Field::Child]
+            }
+            Row::RoasUpdate => &[Field::Ca, Field::Add, Field::Remove],
+            Row::Delete | Row::Show | Row::RoasList | Row::HistoryCommands => &[Field::Ca],
+            Row::List => &[],
+        }
+    }
+
+    /// Whether `command` or a field of the row stands at that place.
+    pub(crate) fn takes(self, field: Field) -> bool
+        ensures { result ≡ takes self field }
+    {
+        field.place() == Field::Command.place() || is_among(self.fields(), field)
+    }
+
+    /// Whether the row has a member of that name.
+    pub(crate) fn has(self, name: &str) -> bool
+        ensures { result ≡ is_member self name.now }
+    {
+        match Field::named(name) {
+            Some(field) => self.takes(field),
+            None => false,
+        }
+    }
+}
+
+fn is_among(fields: &[Field], field: Field) -> bool
+    ensures { result ≡ is_among fields.now field }
+{
+    let place = field.place();
+    fields.iter().any(|other| other.place() == place)
+}

@@ -1,0 +1,174 @@
+//! What a line's members hold, field by field.
+
+ghost use Rattle.std.specs.Prelude.{◌≡◌, ◌≢◌, [], ℕ, ◌<◌, MatchResult, Ok, Some, None, OnOk, slice_set, length, true, IsTrue};
+ghost use Rattle.json_api.specs.Names.{name_of, place_of};
+ghost use Rattle.json_api.specs.Table.{as_row, as_name, as_number, as_resources, as_origins, or_default};
+ghost use Rattle.json_api.specs.Slots.{slot_at, are_taken};
+ghost use Rattle.json_api.specs.declared.line.LineFault.TheVariants.{BadField};
+
+use crate::fields::{FIELDS, Field, Row};
+use crate::line::{LineFault, MemberName};
+use authority_book::OriginList;
+use names::Name;
+use res_sets::Resources;
+use std::alloc::Global;
+use std::marker::Model;
+use std::mem;
+
+/// What a member is of which the last value counts.
+#[derive(Drop)]
+pub enum Slot {
+    /// It is left out.
+    Absent,
+    /// Its value is outside its grammar.
+    Bad,
+    Row(Row),
+    Name(Name),
+    Number(u32),
+    Resources(Resources),
+    Origins(OriginList),
+}
+
+/// A slot for each field.
+#[derive(Drop)]
+pub(crate) struct Slots {
+    items: [Slot; 8],
+}
+
+impl Model for Slots {
+    ghost use Rattle.std.specs.Prelude.{◌≡◌, List, length};
+    ghost use Rattle.json_api.specs.declared.slots.Slot.{Slot};
+
+    ghost Value = { List Slot };
+
+    ghost view = { λ slots. slots.items };
+
+    ghost invariant = { λ slots. length slots.items ≡ 8 };
+}
+
+impl Slots {
+    /// The slots in the order of the fields.
+    pub(crate) fn new(items: [Slot; 8]) -> Slots
+        ensures { result ≡ items }
+    {
+        Slots { items }
+    }
+
+    /// The slots of no member.
+    pub(crate) fn absent() -> Slots
+        ensures { (f : Field) → slot_at result f ≡ Slot.Absent }
+    {
+        Slots {
+            items: [
+                Slot::Absent,
+                Slot::Absent,
+                Slot::Absent,
+                Slot::Absent,
+                Slot::Absent,
+                Slot::Absent,
+                Slot::Absent,
+                Slot::Absent,
+            ],
+        }
+    }
+
+    pub(crate) fn set(&mut self, field: Field, slot: Slot)
+        ensures new { self.new ≡ slice_set self.old (place_of field) slot }
+        ensures here { slot_at self.new field ≡ slot }
+    {
+        self.items[field.place()] = slot;
+    }
+
+    pub(crate) fn get(&self, field: Field) -> &Slot
+        ensures { result.now ≡ slot_at self.now field }
+    {
+        &self.items[field.place()]
+    }
+
+    // Takes a slot out, and leaves the slot of no member.
+    fn take(&mut self, field: Field) -> Slot
+        ensures slot { result ≡ slot_at self.old field }
+        ensures left { self.new ≡ slice_set self.old (place_of field) Slot.Absent }
+    {
+        mem::replace(&mut self.items[field.place()], Slot::Absent)
+    }
+
+    /// The row that `command` names.
+    pub(crate) fn row(&self) -> Option<Row>
+        ensures { result ≡ as_row (slot_at self.now Field.Command) }
+    {
+        match self.get(Field::Command) {
+            Slot::Row(row) => Some(*row),
+            _ => None,
+        }
+    }
+
+    /// The name that the field has.
+    pub(crate) fn name(&self, field: Field) -> Result<Name, LineFault>
+        ensures { MatchResult result
+            (λ name. as_name (slot_at self.now field) ≡ Some name)
+            (λ fault. (as_name (slot_at self.now field) ≡ None) × (fault ≡ BadField (name_of field))) }
+    {
+        match self.get(field) {
+            Slot::Name(name) => Ok(*name),
+            _ => Err(bad_field(field)),
+        }
+    }
+
+    /// The number that the field has, or the default where it is left out.
+    pub(crate) fn number_or(&self, field: Field, default: u32) -> Result<u32, LineFault>
+        ensures { MatchResult result
+            (λ n. as_number (or_default (Slot.Number default) (slot_at self.now field)) ≡ Some n)
+            (λ fault. (as_number (or_default (Slot.Number default) (slot_at self.now field)) ≡ None)
+            × (fault ≡ BadField (name_of field))) }
+    {
+        match self.get(field) {
+            Slot::Absent => Ok(default),
+            Slot::Number(n) => Ok(*n),
+            _ => Err(bad_field(field)),
+        }
+    }
+
+    /// Takes the resources that the field has.
+    pub(crate) fn resources(&mut self, field: Field) -> Result<Resources, LineFault>
+        ensures { MatchResult result
+            (λ held. as_resources (slot_at self.old field) ≡ Some held)
+            (λ fault. (as_resources (slot_at self.old field) ≡ None) × (fault ≡ BadField (name_of field))) }
+    {
+        match self.take(field) {
+            Slot::Resources(held) => Ok(held),
+            _ => Err(bad_field(field)),
+        }
+    }
+
+    /// Takes the origins that the field has, of which there are none where it is left out.
+    pub(crate) fn origins(&mut self, alloc: Global, field: Field) -> Result<OriginList, LineFault>
+        ensures found { MatchResult result
+            (λ origins. as_origins (or_default (Slot.Origins []) (slot_at self.old field)) ≡ Some origins)
+            (λ fault. fault ≢ LineFault.Memory
+            → (as_origins (or_default (Slot.Origins []) (slot_at self.old field)) ≡ None)
+            × (fault ≡ BadField (name_of field))) }
+        ensures left { self.new ≡ slice_set self.old (place_of field) Slot.Absent }
+    {
+        match self.take(field) {
+            Slot::Absent => Ok(OriginList::new(alloc, Vec::new(alloc))?),
+            Slot::Origins(origins) => Ok(origins),
+            _ => Err(bad_field(field)),
+        }
+    }
+
+    /// Whether each member is one of the row's.
+    pub(crate) fn are_taken(&self, row: Row) -> bool
+        ensures { result ≡ are_taken row self.now }
+    {
+        FIELDS.iter().all(|field| row.takes(*field) || matches!(self.get(*field), Slot::Absent))
+    }
+}
+
+fn bad_field(field: Field) -> LineFault
+    ensures { result ≡ BadField (name_of field) }
+{
+    LineFault::BadField {
+        name: MemberName::of(field),
+    }
+}

@@ -1,0 +1,169 @@
+//! Lines read from their tokens, where each member is a text or a list of origins in good form.
+
+ghost use Rattle.std.specs.Prelude.{◌≡◌, ◌≤◌, ◌∷◌, ℕ, List, length, Some, IfOk, IfSome, IsTrue};
+ghost use Rattle.json.specs.Token.{string as string_token};
+ghost use Rattle.serde_json.specs.Data.{Data, string, object, Items, Members, put};
+ghost use Rattle.serde_json.specs.Read.{read};
+ghost use Rattle.origins.specs.Origin.{SpellsOrigin};
+ghost use Rattle.json_api.specs.Line.{Says, AreOriginTexts};
+ghost use Rattle.json_api.specs.Slots.{slot_at};
+ghost use Rattle.json_api.specs.Names.{kind_of};
+ghost use Rattle.json_api.specs.Passes.{ReadsValue, ReadsItems, ReadsMembers, AreMembers};
+
+use crate::fields::{Field, Kind, Row};
+use crate::slots::{Slot, Slots};
+use crate::values::origin_of;
+use authority_book::OriginList;
+use json::{Reader, Scratch, Token};
+use names::Name;
+use origins::Origin;
+use std::alloc::{AllocError, Global};
+
+/// The slots of a line whose members are all fields, each a text or a list of origins in good form.
+/// It is `None` for any other text.
+pub(crate) fn read_slots(
+    alloc: Global,
+    text: &str,
+    scratch: &mut Scratch,
+) -> Result<Option<Slots>, AllocError>
+    ensures { IfOk result (λ found. IfSome found
+        (λ slots. (ms : Members) × (read text.now ≡ Some (object ms)) × AreMembers ms slots)) }
+{
+    let mut reader = Reader::new(text, scratch)?;
+    let Some(Token::BeginObject) = reader.next() else {
+        return Ok(None);
+    };
+    let Some(slots) = read_members(alloc, &mut reader)? else {
+        return Ok(None);
+    };
+    if reader.next().is_some() {
+        return Ok(None);
+    }
+    Ok(Some(slots))
+}
+
+fn read_members(alloc: Global, reader: &mut Reader<'_>) -> Result<Option<Slots>, AllocError>
+    ensures { IfOk result (λ found. IfSome found
+        (λ slots. (ms : Members) × ReadsMembers reader.old ms reader.new × AreMembers ms slots)) }
+{
+    let mut slots = Slots::absent();
+    'members: loop {
+        let Ok(next) = reader.next_key() else {
+            return Ok(None);
+        };
+        let Some(name) = next else {
+            return Ok(Some(slots));
+        };
+        if !read_member(alloc, reader, name, &mut slots)? {
+            return Ok(None);
+        }
+    }
+}
+
+// Whether the member of that name is a field in good form.
+fn read_member(
+    alloc: Global,
+    reader: &mut Reader<'_>,
+    name: &str,
+    slots: &mut Slots,
+) -> Result<bool, AllocError>
+    ensures good { IfOk result (λ good. IsTrue good
+        → (d : Data) × ReadsValue reader.old d reader.new
+        × ((ms : Members) → AreMembers ms slots.old → AreMembers (put name.now d ms) slots.new)) }
+    ensures shorter { length reader.new ≤ length reader.old }
+{
+    let Some(field) = Field::named(name) else {
+        return Ok(false);
+    };
+    let Some(slot) = take_slot(alloc, reader, field.kind())? else {
+        return Ok(false);
+    };
+    slots.set(field, slot);
+    Ok(true)
+}
+
+// What the next value says, where it is a text or a list in its grammar.
+fn take_slot(alloc: Global, reader: &mut Reader<'_>, kind: Kind) -> Result<Option<Slot>, AllocError>
+    ensures good { IfOk result (λ found. IfSome found
+        (λ slot. (d : Data) × ReadsValue reader.old d reader.new × Says kind d slot)) }
+    ensures shorter { length reader.new ≤ length reader.old }
+{
+    match kind {
+        Kind::Row => Ok(take_row(reader)),
+        Kind::Name => Ok(take_name(reader)),
+        Kind::Origins => take_origins(alloc, reader),
+        Kind::Number | Kind::Resources => Ok(None),
+    }
+}
+
+fn take_row(reader: &mut Reader<'_>) -> Option<Slot>
+    ensures good { IfSome result
+        (λ slot. (d : Data) × ReadsValue reader.old d reader.new × Says Kind.Row d slot) }
+    ensures shorter { length reader.new ≤ length reader.old }
+{
+    let text = next_text(reader)?;
+    let row = Row::named(text)?;
+    Some(Slot::Row(row))
+}
+
+fn take_name(reader: &mut Reader<'_>) -> Option<Slot>
+    ensures good { IfSome result
+        (λ slot. (d : Data) × ReadsValue reader.old d reader.new × Says Kind.Name d slot) }
+    ensures shorter { length reader.new ≤ length reader.old }
+{
+    let text = next_text(reader)?;
+    let name = Name::read(text)?;
+    Some(Slot::Name(name))
+}
+
+fn take_origins(alloc: Global, reader: &mut Reader<'_>) -> Result<Option<Slot>, AllocError>
+    ensures good { IfOk result (λ found. IfSome found
+        (λ slot. (d : Data) × ReadsValue reader.old d reader.new × Says Kind.Origins d slot)) }
+    ensures shorter { length reader.new ≤ length reader.old }
+{
+    let Some(Token::BeginArray) = reader.next() else {
+        return Ok(None);
+    };
+    let Some(origins) = take_items(alloc, reader)? else {
+        return Ok(None);
+    };
+    Ok(Some(Slot::Origins(OriginList::new(alloc, origins)?)))
+}
+
+fn take_items(alloc: Global, reader: &mut Reader<'_>) -> Result<Option<Vec<Origin>>, AllocError>
+    ensures good { IfOk result (λ found. IfSome found
+        (λ origins. (ds : Items) × ReadsItems reader.old ds reader.new
+        × AreOriginTexts ds origins.items)) }
+    ensures shorter { length reader.new ≤ length reader.old }
+{
+    let mut origins = Vec::new(alloc);
+    'items: while !reader.take_end_array() {
+        let Some(origin) = take_origin(reader) else {
+            return Ok(None);
+        };
+        origins.push(origin)?;
+    }
+    Ok(Some(origins))
+}
+
+// The origin whose text the next value is.
+fn take_origin(reader: &mut Reader<'_>) -> Option<Origin>
+    ensures good { IfSome result (λ origin. (text : List ℕ)
+        × (reader.old ≡ string_token text ∷ reader.new) × SpellsOrigin text origin) }
+    ensures shorter { length reader.new ≤ length reader.old }
+{
+    match next_text(reader) {
+        Some(text) => origin_of(text),
+        None => None,
+    }
+}
+
+fn next_text<'a>(reader: &mut Reader<'a>) -> Option<&'a str>
+    ensures good { IfSome result (λ text. reader.old ≡ string_token text.now ∷ reader.new) }
+    ensures shorter { length reader.new ≤ length reader.old }
+{
+    match reader.next() {
+        Some(Token::String(text)) => Some(text),
+        _ => None,
+    }
+}
