@@ -171,3 +171,20 @@ counts_records number settings records loaded small =
     let all = count_of (empty_settings number) loaded.commands (omega arith) in
     let same : settings.count ≡ (fold_of number loaded.commands).count = ap (λ (s : Settings). s.count) loaded.fold in
     omega (arith, all, same, spelled)
+
+-- a desk with the same records, after a refused append
+pub kept_again : {D : Type 0} (disk_of : DiskGhosts D) (number : ℕ) (settings next : Settings) (body more : List ℕ) (old mid new : View D) →
+    IsKept disk_of number settings body old → IsSameButRoom old mid → next ≡ settings → more ≡ body → new.records ≡ mid.records → new.sizes ≡ mid.sizes → new.limit ≡ mid.limit →
+    IsSafeJournal disk_of new → IsKept disk_of number next more new
+kept_again disk_of number settings next body more old mid new kept same now_settings now_body records_same sizes_same limit safe =
+    let sizes : new.sizes ≡ old.sizes = sizes_same ∙ ap (λ (j : View _). j.sizes) same in
+    let records : payloads new.sizes more ≡ payloads old.sizes body =
+    ap (λ (l : List ℕ). payloads l more) sizes ∙ ap (λ (l : List ℕ). payloads old.sizes l) now_body in
+    record {
+      loaded = subst (λ (r : List (List ℕ)). IsLoaded number next r) (sym records) (subst (λ (s : Settings). IsLoaded number s (payloads old.sizes body)) (sym now_settings) kept.loaded);
+      known = subst (λ (r : List (List ℕ)). IfSome new.records (λ all. all ≡ r)) (sym records)
+          (subst (λ (o : Option (List (List ℕ))). IfSome o (λ all. all ≡ payloads old.sizes body)) (sym (records_same ∙ ap (λ (j : View _). j.records) same)) kept.known);
+      size = ap (λ (l : List ℕ). length l) now_body ∙ kept.size ∙ ap taken_by (sym sizes);
+      limit = limit ∙ (ap (λ (j : View _). j.limit) same ∙ kept.limit);
+      safe = safe;
+    }

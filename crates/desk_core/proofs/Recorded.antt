@@ -11,7 +11,6 @@ use Rattle.authority_book.specs.declared.refusals.Refusal.{Refusal}
 use Rattle.authority_book.specs.Settings.{Settings}
 use Rattle.authority_book.specs.Verdict.{refused_or_ok, verdict_of, IsAccepted}
 use Rattle.authority_book.specs.Fold.{fold_of, Taken}
-use Rattle.origins.specs.declared.Origin.{Origin}
 use Rattle.cmd_codec.specs.Spelling.{spelling, IsRecordable}
 use Rattle.desk_core.specs.Commands.{Records}
 use Rattle.desk_core.specs.Kept.{IsLoaded}

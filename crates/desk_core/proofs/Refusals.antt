@@ -1,5 +1,5 @@
 -- What a journal's refusal is for a desk whose verdict comes first.
-use Rattle.std.proofs.Common.{◌≡◌, ◌<◌, ◌≤◌, ◌+◌, ℕ, None, List, Ok, Err, map, length, refl, ◌∙◌, ap, subst}
+use Rattle.std.proofs.Common.{◌≡◌, ◌<◌, ◌≤◌, ◌+◌, ℕ, None, Some, List, Ok, Err, map, length, refl, ◌∙◌, ap, subst}
 use Rattle.disk_api.specs.declared.disk.Disk.{Ghosts as DiskGhosts}
 use Rattle.gate_journal.specs.Format.{held_for, held_by}
 use Rattle.gate_journal.specs.View.{View}
@@ -15,13 +15,13 @@ use Rattle.desk_core.proofs.Committed.{desk_of}
 
 module _ {D : Type 0} (disk_of : DiskGhosts D) (number : ℕ) (settings : Settings) (records : List (List ℕ)) (journal : View D)
     (limit : journal.limit ≡ journal_limit) (sizes : journal.sizes ≡ map length records) (command : Command) (signers : ℕ) where
-  pub placed : HasJournalPlace journal (needed_for command) → verdict_of settings command signers ≡ Ok tt → HasPlace (desk_of number settings records journal) command signers
+  pub placed : HasJournalPlace journal (needed_for command) → verdict_of settings command (Some signers) ≡ Ok tt → HasPlace (desk_of number settings records journal) command signers
   placed place granted = record {
     may_come = record { is_open = place.is_open; verdict = granted };
     fits = subst (λ (n : ℕ). held_by records + needed_for command ≤ n) limit (subst (λ (l : List ℕ). held_for l + needed_for command ≤ journal.limit) sizes place.fits);
   }
 
-  pub full : (held needed : ℕ) → IsJournalFull held needed (needed_for command) journal journal → verdict_of settings command signers ≡ Ok tt
+  pub full : (held needed : ℕ) → IsJournalFull held needed (needed_for command) journal journal → verdict_of settings command (Some signers) ≡ Ok tt
       → IsDeskFault disk_of (JournalFull held needed) command signers (desk_of number settings records journal) (desk_of number settings records journal)
   full held needed answer granted = record {
     may_come = record { is_open = answer.is_open; verdict = granted };
@@ -31,6 +31,6 @@ module _ {D : Type 0} (disk_of : DiskGhosts D) (number : ℕ) (settings : Settin
     same = refl;
   }
 
-  pub judged : (refusal : Refusal) → journal.shut ≡ None → verdict_of settings command signers ≡ Err refusal
+  pub judged : (refusal : Refusal) → journal.shut ≡ None → verdict_of settings command (Some signers) ≡ Err refusal
       → IsDeskFault disk_of (Verdict refusal) command signers (desk_of number settings records journal) (desk_of number settings records journal)
   judged refusal is_open refused = record { is_open = is_open; verdict = refused; same = refl }

@@ -16,7 +16,7 @@ use Rattle.krill_top.specs.declared.faults.RunFault.{RunFault}
 use Rattle.krill_top.specs.declared.serving.SessionEnds.{SessionEnds}
 use Rattle.krill_top.specs.declared.running.RunEnd.{RunEnd}
 use Rattle.krill_top.specs.Seen.{Seen, DeskState}
-use Rattle.krill_top.specs.Stands.{all_stored}
+use Rattle.krill_top.specs.Stands.{all_stored, RoseWithin}
 use Rattle.krill_top.specs.Ended.{Converses}
 use Rattle.krill_top.specs.Desks.{RecoveredTo, IsSafe, IsOpeningRefused}
 use Rattle.krill_top.specs.Ends.{fault_status, run_status, fault_of, opening_fault}
@@ -56,7 +56,7 @@ pub record IsServed {D : Type 0} (disk_of : DiskGhosts D) (number : ℕ) (old ne
   pub left : IsSafe disk_of ended.commands ended.doubt new
   pub bytes : ended.doubt ≡ None → disk_of.content new
       ≡ option_map (all_stored (map spelling begun.commands) (map spelling accepted)) (option_map opened (disk_of.content old))
-  pub cause : ¬ (ended.doubt ≡ None) → HasRisen (disk_of.fault_count old) (disk_of.fault_count new)
+  pub cause : ¬ (ended.doubt ≡ None) → RoseWithin (disk_of.fault_count old) (disk_of.fault_count new)
   pub later : disk_of.fault_count old ≤ disk_of.fault_count new
 
 -- So of a number's disk, if there is one.

@@ -46,6 +46,14 @@ all_stored payloads [] bytes = bytes
 all_stored payloads (payload ∷ more) bytes =
     all_stored (payloads ++ payload ∷ []) more (stored (held_by payloads) (entry_bytes payload) bytes)
 
+-- A count of faults rose between two moments.
+pub record RoseWithin (before after : ℕ) : Type 0 where
+  pub from : ℕ
+  pub to : ℕ
+  pub begins : before ≤ from
+  pub risen : HasRisen from to
+  pub ends : to ≤ after
+
 -- How a desk goes on, from one state to another: accepted commands come behind its own, and on a known
 -- disk their records with their bytes. A fault of its disk alone leaves one in doubt, and then no more
 -- come.
@@ -55,7 +63,7 @@ pub record GoesOn {D : Type 0} (disk_of : DiskGhosts D) (old new : D) (was is : 
   pub bytes : is.doubt ≡ None
       → disk_of.content new ≡ option_map (all_stored (map spelling was.commands) (map spelling accepted)) (disk_of.content old)
   pub stays : ¬ (was.doubt ≡ None) → is ≡ was
-  pub cause : was.doubt ≡ None → ¬ (is.doubt ≡ None) → HasRisen (disk_of.fault_count old) (disk_of.fault_count new)
+  pub cause : was.doubt ≡ None → ¬ (is.doubt ≡ None) → RoseWithin (disk_of.fault_count old) (disk_of.fault_count new)
   pub later : disk_of.fault_count old ≤ disk_of.fault_count new
 
 -- So of a number's desk, if there is one.

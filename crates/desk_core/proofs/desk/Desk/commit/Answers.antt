@@ -12,11 +12,11 @@ use Rattle.gate_journal.specs.View.{stake_of}
 use Rattle.desk_core.specs.View.{View}
 use Rattle.desk_core.specs.Answers.{HasPlace, IsDeskFault, fault_of}
 use Rattle.desk_core.specs.declared.faults.DeskFault.{DeskFault}
-use Rattle.desk_core.specs.Images.{RecoversToKnown}
+use Rattle.desk_core.specs.Images.{RecoversToKnown, IsSafe}
 use Rattle.desk_core.specs.Commands.{HasCommands}
 use Rattle.desk_core.proofs.Recorded.{loaded_push}
 use Rattle.disk_api.specs.RunLaws.{started}
-use Rattle.desk_core.proofs.Committed.{desk_of, safe_of, held_before, records_more, kept_sizes, fewer_than_bytes, has_push, kept_push, moments, stake_holds, refused_of, counts_records}
+use Rattle.desk_core.proofs.Committed.{desk_of, safe_of, kept_again, held_before, records_more, kept_sizes, fewer_than_bytes, has_push, kept_push, moments, stake_holds, refused_of, counts_records}
 use Rattle.desk_core.proofs.desk.Desk.commit.Goals as goal
 
 pub invariant_of-self-in-Ok-append : goal.invariant_of-self-in-Ok-append
@@ -158,3 +158,21 @@ returns-in-Ok-append-clause-durable g c image left =
     let records = format.payloads c.append.new.self.sizes c.add_to_body.new.body.items in
     held_before (g.D.Disk.content c.args.self.now.disk) (g.D.Disk.content c.append.new.self.disk) _ records None image (returns-in-Ok-append-clause-bytes g c)
     (subst (λ (d : Option (List ℕ)). RecoversToKnown (g.D.Disk.content c.append.new.self.disk) records d image) (safe.settled c.in-Ok-append.ensures.place.1) (safe.images image left))
+
+pub returns-in-Err-clause-safe : goal.returns-in-Err-clause-safe
+returns-in-Err-clause-safe g c =
+    let inside = c.self.inside in
+    let more = format.payloads c.append.new.self.sizes c.prepare.new.body.items in
+    let new = desk_of inside.number c.prepare.new.config.settings more c.append.new.self in
+    let same : c.match-command-7.self ≡ new = elim c.match-command-7.branch [
+      | goal.in-AddChild-3 w ↦ w.self-is
+      | goal.in-UpdateChild-3 w ↦ w.self-is
+      | goal.in-UpdateRoas+in-Some-3 w ↦ w.self-is
+      | goal.in-UpdateRoas+in-None-3 w ↦ w.self-is
+      | goal.in-Add-3 w ↦ w.self-is
+    ] in
+    let kept = kept_again g.D.Disk inside.number inside.config.settings c.prepare.new.config.settings inside.body.items c.prepare.new.body.items
+    inside.journal c.prepare.new.journal c.append.new.self c.self.invariant c.prepare.ensures.journal c.prepare.ensures.config c.prepare.ensures.body
+    c.in-Err.ensures.kept.0 c.in-Err.ensures.kept.1 c.in-Err.ensures.limit c.in-Err.ensures.safe in
+    subst (λ (v : View _). IsSafe g.D.Disk v) (sym same)
+    (safe_of g.D.Disk inside.number c.prepare.new.config.settings c.prepare.new.body.items c.append.new.self kept)
