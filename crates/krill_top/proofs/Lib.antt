@@ -1,2 +1,6 @@
 pub mod InTurn
+pub mod Standing
+pub mod Granted
+pub mod Commanding
+pub mod Reading
 pub mod Removed

@@ -1,6 +1,6 @@
 -- Desks and their states by their numbers, and how they go on.
 use Rattle.std.proofs.Common.{◌≡◌, ◌≢◌, ℕ, zero, suc, ◌≤◌, ◌⊎◌, List, [], ◌∷◌, ◌++◌, map, refl, sym, ◌∙◌, ap, subst, inl, inr, arith, append_assoc, append-nil}
-use Rattle.std.proofs.lemmas.Option.{none-some, same_Some}
+use Rattle.std.proofs.lemmas.Option.{none-some}
 use Rattle.std.proofs.lemmas.List.{map-append}
 use Rattle.std.specs.Prelude.{Option, None, Some, slice_get, slice_set}
 use Rattle.std.specs.Option.{option_map}
@@ -37,11 +37,6 @@ get_set_other (y ∷ l) zero zero x other = absurd (other refl)
 get_set_other (y ∷ l) zero (suc m) x other = refl
 get_set_other (y ∷ l) (suc n) zero x other = refl
 get_set_other (y ∷ l) (suc n) (suc m) x other = get_set_other l n m x (λ e. other (ap suc e))
-
-pub set_same : {A : Type 0} (l : List A) (n : ℕ) (x : A) → slice_get l n ≡ Some x → slice_set l n x ≡ l
-set_same [] n x e = refl
-set_same (y ∷ l) zero x e = ap (λ z. z ∷ l) (sym (same_Some e))
-set_same (y ∷ l) (suc n) x e = ap (λ k. y ∷ k) (set_same l n x e)
 
 -- ---- a desk and its state
 
@@ -109,9 +104,9 @@ module _ {D : Type 0} (disk_of : DiskGhosts D) where
   goes_same disk state = record {
     accepted = [];
     commands = sym (append-nil state.commands);
-    bytes = λ open. none_stored (map spelling state.commands) (disk_of.content disk);
+    bytes = λ is_open. none_stored (map spelling state.commands) (disk_of.content disk);
     stays = λ shut. refl;
-    cause = λ open shut. absurd (shut open);
+    cause = λ was_open shut. absurd (shut was_open);
     later = omega arith;
   }
 
@@ -139,31 +134,31 @@ module _ {D : Type 0} (disk_of : DiskGhosts D) where
   ]
 
   -- where a desk that went on is open, it was open before
-  was_open : (was is : DeskState) (doubt : Option Command) → was.doubt ≡ doubt → (¬ (was.doubt ≡ None) → is ≡ was) → is.doubt ≡ None → was.doubt ≡ None
-  was_open was is None is_doubt stays open = is_doubt
-  was_open was is (Some command) is_doubt stays open =
-      sym (ap (λ (s : DeskState). s.doubt) (stays (λ none. none-some command (sym none ∙ is_doubt)))) ∙ open
+  open_before : (was is : DeskState) (doubt : Option Command) → was.doubt ≡ doubt → (¬ (was.doubt ≡ None) → is ≡ was) → is.doubt ≡ None → was.doubt ≡ None
+  open_before was is None is_doubt stays is_open = is_doubt
+  open_before was is (Some command) is_doubt stays is_open =
+      sym (ap (λ (s : DeskState). s.doubt) (stays (λ none. none-some command (sym none ∙ is_doubt)))) ∙ is_open
 
   cause_of : (old mid new : D) (was between is : DeskState) (doubt : Option Command) → between.doubt ≡ doubt → GoesOn disk_of old mid was between → GoesOn disk_of mid new between is
       → was.doubt ≡ None → ¬ (is.doubt ≡ None) → RoseWithin (disk_of.fault_count old) (disk_of.fault_count new)
-  cause_of old mid new was between is None is_doubt first second open shut =
+  cause_of old mid new was between is None is_doubt first second begun shut =
       let rose = second.cause is_doubt shut in
       record { from = rose.from; to = rose.to; begins = omega (arith, first.later, rose.begins); risen = rose.risen; ends = rose.ends }
-  cause_of old mid new was between is (Some command) is_doubt first second open shut =
-      let rose = first.cause open (λ none. none-some command (sym none ∙ is_doubt)) in
+  cause_of old mid new was between is (Some command) is_doubt first second begun shut =
+      let rose = first.cause begun (λ none. none-some command (sym none ∙ is_doubt)) in
       record { from = rose.from; to = rose.to; begins = rose.begins; risen = rose.risen; ends = omega (arith, second.later, rose.ends) }
 
   goes_then : (old mid new : D) (was between is : DeskState) → GoesOn disk_of old mid was between → GoesOn disk_of mid new between is → GoesOn disk_of old new was is
   goes_then old mid new was between is first second = record {
     accepted = first.accepted ++ second.accepted;
     commands = second.commands ∙ ap (λ (l : List Command). l ++ second.accepted) first.commands ∙ append_assoc was.commands first.accepted second.accepted;
-    bytes = λ open.
+    bytes = λ is_open.
         let a = map spelling was.commands in
         let b = map spelling first.accepted in
         let c = map spelling second.accepted in
         let payloads : map spelling between.commands ≡ a ++ b = ap (map spelling) first.commands ∙ map-append spelling was.commands first.accepted in
-        second.bytes open
-        ∙ ap (option_map (all_stored (map spelling between.commands) c)) (first.bytes (was_open between is between.doubt refl second.stays open))
+        second.bytes is_open
+        ∙ ap (option_map (all_stored (map spelling between.commands) c)) (first.bytes (open_before between is between.doubt refl second.stays is_open))
         ∙ ap (λ (p : List (List ℕ)). option_map (all_stored p c) (option_map (all_stored a b) (disk_of.content old))) payloads
         ∙ known_twice a b c (disk_of.content old)
         ∙ ap (λ (p : List (List ℕ)). option_map (all_stored a p) (disk_of.content old)) (sym (map-append spelling first.accepted second.accepted));

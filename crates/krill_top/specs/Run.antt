@@ -85,7 +85,7 @@ pub record ServesOne {D S K C : Type 0} (disk_of : DiskGhosts D) (source_of : So
   pub served : Converses source_of sink_of before after begun ended end
   pub clock : after.clock ≡ before.clock
   pub disks : AreServed disk_of desks run.desks.items begun ended
-  pub source_fault : end ≡ SourceFault → HasRisen (source_of.faults before.source) (source_of.faults after.source)
-  pub sink_fault : end ≡ SinkFault → HasRisen (sink_of.faults before.sink) (sink_of.faults after.sink)
-  pub source_later : source_of.faults before.source ≤ source_of.faults after.source
-  pub sink_later : sink_of.faults before.sink ≤ sink_of.faults after.sink
+  pub source_fault : end ≡ SourceFault → HasRisen (source_of.fault_count before.source) (source_of.fault_count after.source)
+  pub sink_fault : end ≡ SinkFault → HasRisen (sink_of.fault_count before.sink) (sink_of.fault_count after.sink)
+  pub source_later : source_of.fault_count before.source ≤ source_of.fault_count after.source
+  pub sink_later : sink_of.fault_count before.sink ≤ sink_of.fault_count after.sink

@@ -1,5 +1,8 @@
 //! Why a command to an authority isn't accepted.
 
+ghost use Rattle.std.specs.Prelude.{◌≡◌};
+ghost use Rattle.krill_top.specs.Outcomes.{command_fault_of};
+
 use authority_book::Refusal;
 use desk_core::{DeskFault, DeskRose};
 use disk_api::Disk;
@@ -21,13 +24,11 @@ pub enum CommandFault<D: Disk> {
     Memory,
 }
 
-impl<D: Disk> From<DeskFault<D>> for CommandFault<D> {
-    ghost use Rattle.std.specs.Prelude.{◌≡◌};
-    ghost use Rattle.krill_top.specs.Outcomes.{command_fault_of};
-
-    ghost from_gives = { λ desk fault. fault ≡ command_fault_of desk };
-
-    fn from(fault: DeskFault<D>) -> Self {
+impl<D: Disk> CommandFault<D> {
+    // What a desk's fault is called here.
+    pub(crate) fn of_desk(fault: DeskFault<D>) -> Self
+        ensures { result ≡ command_fault_of fault }
+    {
         match fault {
             DeskFault::Shut { rose } => CommandFault::Shut { rose },
             DeskFault::Verdict { refusal } => CommandFault::Verdict { refusal },

@@ -108,8 +108,10 @@ impl<D: Disk> Desks<D> {
         let Some(place) = self.place_of(name) else {
             return Err(CommandFault::NoSuchAuthority);
         };
-        let count = self.desks[place].commit(alloc, command, signers)?;
-        Ok(count)
+        match self.desks[place].commit(alloc, command, signers) {
+            Ok(count) => Ok(count),
+            Err(fault) => Err(CommandFault::of_desk(fault)),
+        }
     }
 
     /// The reply to `list`: all names of the tree, in their order.
