@@ -4,3 +4,5 @@ pub mod Granted
 pub mod Commanding
 pub mod Reading
 pub mod Removed
+pub mod Sessions
+pub mod Served

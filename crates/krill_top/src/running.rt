@@ -81,6 +81,7 @@ fn serve_one<D: Disk, S: Source, K: Sink, C: Clock>(
     sessions: Vec<SessionEnds<S, K, C>>,
 ) -> RunEnd<D, S, K, C>
     requires all { length opened.desks.items ≡ most_desks }
+    requires opened { (disks : List D) × AreOpened D.Disk 0 disks opened.desks.items }
     requires empty { opened.disks.items ≡ [] }
     requires room { vec_len opened.desks ≤ vec_capacity opened.disks }
     requires session { length sessions.items ≡ 1 }
