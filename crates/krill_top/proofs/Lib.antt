@@ -3,6 +3,7 @@ pub mod Standing
 pub mod Granted
 pub mod Commanding
 pub mod Reading
-pub mod Removed
+pub mod Answering
 pub mod Sessions
+pub mod Removed
 pub mod Served

@@ -1,101 +1,106 @@
--- A session's replies over the handlers are its replies over the states of their desks.
-use Rattle.std.proofs.Common.{◌≡◌, ℕ, ◌⊎◌, Bool, false, List, [], ◌∷◌, ◌++◌, length, sym, ap, subst, refl, inl, inr}
+-- A session's replies over the program's desks are its replies over the states of these.
+use Rattle.std.proofs.Common.{◌≡◌, ℕ, ◌⊎◌, Bool, false, List, [], ◌∷◌, ◌++◌, length, sym, subst, refl, inl, inr}
 use Rattle.disk_api.specs.declared.disk.Disk.{Ghosts as DiskGhosts}
 use Rattle.line_loop.specs.Lines.{all_lines, ended_lines}
 use Rattle.line_loop.specs.Replies.{Answers, AnswersAtMostOne, BreaksOff}
 use Rattle.line_loop.specs.Session.{Serves, Breaks}
 use Rattle.line_loop.specs.declared.session.SessionEnd.{SessionEnd}
 use Rattle.line_loop.specs.declared.session.SessionEnd.TheVariants.{End, SourceFault, SinkFault, Spent, Memory}
-use Rattle.desk_core.specs.View.{View}
 use Rattle.krill_top.specs.declared.handler.Handler.{Handler}
 use Rattle.krill_top.specs.Seen.{Seen}
 use Rattle.krill_top.specs.Replies.{IsReply}
-use Rattle.krill_top.specs.Stands.{Leads, MayReply}
-use Rattle.krill_top.proofs.Standing.{go_on_then, stay, leads_so}
+use Rattle.krill_top.specs.Stands.{AreIn, GoOn, Goes, MayReply}
+use Rattle.krill_top.proofs.Standing.{go_on_same, go_on_then}
 
 module _ {D : Type 0} (disk_of : DiskGhosts D) where
-  -- nothing was answered
-  none_over : (P : Seen → Seen → Type 0) (old new : List (View D)) → new ≡ old → ((before : Seen) → P before before) → Leads disk_of P old new
-  none_over P old new same so = subst (λ (l : List (View D)). Leads disk_of P old l) (sym same) (stay disk_of P old (λ before all. so before))
+  abbrev Ends : (Seen → Seen → Type 0) → Handler D → Handler D → Seen → Type 0
+  Ends P old new before = Goes disk_of P old.desks new.desks before
 
-  -- one after the other
-  then_over : (P Q R : Seen → Seen → Type 0) (old mid new : List (View D)) → Leads disk_of P old mid → Leads disk_of Q mid new
-      → ((begun between ended : Seen) → P begun between → Q between ended → R begun ended) → Leads disk_of R old new
-  then_over P Q R old mid new first second so before all =
-      let one = first before all in
-      let two = second one.after one.stands in
+  -- nothing was heard
+  none_heard : (P : Seen → Seen → Type 0) (old new : Handler D) (before : Seen) → P before before → new ≡ old → AreIn old.desks before → Ends P old new before
+  none_heard P old new before so same stands = record {
+    after = before;
+    step = so;
+    stands = subst (λ (x : Handler D). AreIn x.desks before) (sym same) stands;
+    disks = subst (λ (x : Handler D). GoOn disk_of old.desks x.desks before before) (sym same) (go_on_same disk_of old.desks before stands);
+  }
+
+  answers_over : (lines : List (List ℕ)) (replies : List ℕ) (old new : Handler D) (before : Seen)
+      → Answers (MayReply disk_of) old lines replies new → AreIn old.desks before → Ends (λ b a. Answers IsReply b lines replies a) old new before
+  answers_over [] replies old new before a stands =
+      none_heard (λ b e. Answers IsReply b [] replies e) old new before (a.0, refl) a.1 stands
+  answers_over (line ∷ lines) replies old new before a stands =
+      let first = a.5 before stands in
+      let rest = answers_over lines a.1 a.3 new first.after a.6 first.stands in
       record {
-        after = two.after;
-        step = so before one.after two.after one.step two.step;
-        stands = two.stands;
-        disks = go_on_then disk_of old mid new before one.after two.after one.disks two.disks;
+        after = rest.after;
+        step = (a.0, a.1, a.2, first.after, a.4, first.step, rest.step);
+        stands = rest.stands;
+        disks = go_on_then disk_of old.desks a.3.desks new.desks before first.after rest.after first.disks rest.disks;
       }
 
-  answers_over : (lines : List (List ℕ)) (replies : List ℕ) (old new : Handler D)
-      → Answers (MayReply disk_of) old lines replies new → Leads disk_of (λ begun ended. Answers IsReply begun lines replies ended) old.desks new.desks
-  answers_over [] replies old new a =
-      none_over (λ begun ended. Answers IsReply begun [] replies ended) old.desks new.desks (ap (λ (h : Handler D). h.desks) a.1) (λ before. (a.0, refl))
-  answers_over (line ∷ lines) replies old new a =
-      let mid : Handler D = a.3 in
-      then_over (λ begun between. IsReply begun line a.0 a.2 between) (λ between ended. Answers IsReply between lines a.1 ended)
-      (λ begun ended. Answers IsReply begun (line ∷ lines) replies ended) old.desks mid.desks new.desks
-      a.5 (answers_over lines a.1 mid new a.6) (λ begun between ended one rest. (a.0, a.1, a.2, between, a.4, one, rest))
+  last_over : (lines : List (List ℕ)) (replies : List ℕ) (old new : Handler D) (before : Seen)
+      → AnswersAtMostOne (MayReply disk_of) old lines replies new → AreIn old.desks before → Ends (λ b a. AnswersAtMostOne IsReply b lines replies a) old new before
+  last_over [] replies old new before a stands =
+      none_heard (λ b e. AnswersAtMostOne IsReply b [] replies e) old new before (a.0, refl) a.1 stands
+  last_over (line ∷ []) replies old new before a stands =
+      let only = a.1 before stands in
+      record { after = only.after; step = (a.0, only.step); stands = only.stands; disks = only.disks }
+  last_over (line ∷ next ∷ lines) replies old new before a stands =
+      let first = a.4 before stands in
+      let rest = last_over (next ∷ lines) a.1 a.2 new first.after a.5 first.stands in
+      record {
+        after = rest.after;
+        step = (a.0, a.1, first.after, a.3, first.step, rest.step);
+        stands = rest.stands;
+        disks = go_on_then disk_of old.desks a.2.desks new.desks before first.after rest.after first.disks rest.disks;
+      }
 
-  last_over : (lines : List (List ℕ)) (replies : List ℕ) (old new : Handler D)
-      → AnswersAtMostOne (MayReply disk_of) old lines replies new → Leads disk_of (λ begun ended. AnswersAtMostOne IsReply begun lines replies ended) old.desks new.desks
-  last_over [] replies old new a =
-      none_over (λ begun ended. AnswersAtMostOne IsReply begun [] replies ended) old.desks new.desks (ap (λ (h : Handler D). h.desks) a.1) (λ before. (a.0, refl))
-  last_over (line ∷ []) replies old new a =
-      leads_so disk_of (λ begun ended. IsReply begun line replies a.0 ended) (λ begun ended. AnswersAtMostOne IsReply begun (line ∷ []) replies ended)
-      old.desks new.desks a.1 (λ begun ended one. (a.0, one))
-  last_over (line ∷ next ∷ lines) replies old new a =
-      let mid : Handler D = a.2 in
-      then_over (λ begun between. IsReply begun line a.0 false between) (λ between ended. AnswersAtMostOne IsReply between (next ∷ lines) a.1 ended)
-      (λ begun ended. AnswersAtMostOne IsReply begun (line ∷ next ∷ lines) replies ended) old.desks mid.desks new.desks
-      a.4 (last_over (next ∷ lines) a.1 mid new a.5) (λ begun between ended one rest. (a.0, a.1, between, a.3, one, rest))
+  breaks_over : (lines : List (List ℕ)) (written : List ℕ) (old new : Handler D) (before : Seen)
+      → BreaksOff (MayReply disk_of) old lines written new → AreIn old.desks before → Ends (λ b a. BreaksOff IsReply b lines written a) old new before
+  breaks_over lines written old new before b stands =
+      let first = answers_over b.heard b.replies old b.mid before b.answered stands in
+      let rest = last_over b.unheard b.more b.mid new first.after b.last first.stands in
+      record {
+        after = rest.after;
+        step = record {
+          heard = b.heard;
+          unheard = b.unheard;
+          rest = b.rest;
+          replies = b.replies;
+          more = b.more;
+          part = b.part;
+          cut_off = b.cut_off;
+          mid = first.after;
+          in_order = b.in_order;
+          answered = first.step;
+          last = rest.step;
+          taken = b.taken;
+          lost = b.lost;
+        };
+        stands = rest.stands;
+        disks = go_on_then disk_of old.desks b.mid.desks new.desks before first.after rest.after first.disks rest.disks;
+      }
 
-  breaks_over : (lines : List (List ℕ)) (written : List ℕ) (old new : Handler D)
-      → BreaksOff (MayReply disk_of) old lines written new → Leads disk_of (λ begun ended. BreaksOff IsReply begun lines written ended) old.desks new.desks
-  breaks_over lines written old new b =
-      let mid : Handler D = b.mid in
-      then_over (λ begun between. Answers IsReply begun b.heard b.replies between) (λ between ended. AnswersAtMostOne IsReply between b.unheard b.more ended)
-      (λ begun ended. BreaksOff IsReply begun lines written ended) old.desks mid.desks new.desks
-      (answers_over b.heard b.replies old mid b.answered) (last_over b.unheard b.more mid new b.last)
-      (λ begun between ended answered last. record {
-        heard = b.heard;
-        unheard = b.unheard;
-        rest = b.rest;
-        replies = b.replies;
-        more = b.more;
-        part = b.part;
-        cut_off = b.cut_off;
-        mid = between;
-        in_order = b.in_order;
-        answered = answered;
-        last = last;
-        taken = b.taken;
-        lost = b.lost;
-      })
-
-  broken_over : (given written : List ℕ) (at_end : Type 0) (old new : Handler D)
-      → Breaks (MayReply disk_of) old given at_end written new → Leads disk_of (λ begun ended. Breaks IsReply begun given at_end written ended) old.desks new.desks
-  broken_over given written at_end old new b = elim b.1 [
-    | inl all ↦ leads_so disk_of (λ begun ended. BreaksOff IsReply begun (all_lines given) written ended) (λ begun ended. Breaks IsReply begun given at_end written ended)
-        old.desks new.desks (breaks_over (all_lines given) written old new all.1) (λ begun ended broken. (b.0, inl (all.0, broken)))
-    | inr some ↦ leads_so disk_of (λ begun ended. BreaksOff IsReply begun (ended_lines given) written ended) (λ begun ended. Breaks IsReply begun given at_end written ended)
-        old.desks new.desks (breaks_over (ended_lines given) written old new some) (λ begun ended broken. (b.0, inr broken))
+  broken_over : (given written : List ℕ) (at_end : Type 0) (old new : Handler D) (before : Seen)
+      → Breaks (MayReply disk_of) old given at_end written new → AreIn old.desks before → Ends (λ b a. Breaks IsReply b given at_end written a) old new before
+  broken_over given written at_end old new before b stands = elim b.1 [
+    | inl all ↦ (let e = breaks_over (all_lines given) written old new before all.1 stands in
+        record { after = e.after; step = (b.0, inl (all.0, e.step)); stands = e.stands; disks = e.disks })
+    | inr some ↦ (let e = breaks_over (ended_lines given) written old new before some stands in
+        record { after = e.after; step = (b.0, inr e.step); stands = e.stands; disks = e.disks })
   ]
 
-  pub serves_over : (end : SessionEnd) (given written : List ℕ) (at_end : Type 0) (old new : Handler D)
-      → Serves (MayReply disk_of) old given at_end written new end → Leads disk_of (λ begun ended. Serves IsReply begun given at_end written ended end) old.desks new.desks
-  serves_over End given written at_end old new s =
-      leads_so disk_of (λ begun ended. Answers IsReply begun (all_lines given) written ended) (λ begun ended. Serves IsReply begun given at_end written ended End)
-      old.desks new.desks (answers_over (all_lines given) written old new s.2) (λ begun ended answered. (s.0, s.1, answered))
-  serves_over SourceFault given written at_end old new s =
-      leads_so disk_of (λ begun ended. Answers IsReply begun (ended_lines given) written ended) (λ begun ended. Serves IsReply begun given at_end written ended SourceFault)
-      old.desks new.desks (answers_over (ended_lines given) written old new s.1) (λ begun ended answered. (s.0, answered))
-  serves_over (Spent bytes) given written at_end old new s =
-      leads_so disk_of (λ begun ended. Answers IsReply begun (ended_lines given) written ended) (λ begun ended. Serves IsReply begun given at_end written ended (Spent bytes))
-      old.desks new.desks (answers_over (ended_lines given) written old new s.2) (λ begun ended answered. (s.0, s.1, answered))
-  serves_over SinkFault given written at_end old new s = broken_over given written at_end old new s
-  serves_over Memory given written at_end old new s = broken_over given written at_end old new s
+  pub serves_over : (ended : SessionEnd) (given written : List ℕ) (at_end : Type 0) (old new : Handler D) (before : Seen)
+      → Serves (MayReply disk_of) old given at_end written new ended → AreIn old.desks before → Ends (λ b a. Serves IsReply b given at_end written a ended) old new before
+  serves_over End given written at_end old new before s stands =
+      let e = answers_over (all_lines given) written old new before s.2 stands in
+      record { after = e.after; step = (s.0, s.1, e.step); stands = e.stands; disks = e.disks }
+  serves_over SourceFault given written at_end old new before s stands =
+      let e = answers_over (ended_lines given) written old new before s.1 stands in
+      record { after = e.after; step = (s.0, e.step); stands = e.stands; disks = e.disks }
+  serves_over (Spent bytes) given written at_end old new before s stands =
+      let e = answers_over (ended_lines given) written old new before s.2 stands in
+      record { after = e.after; step = (s.0, s.1, e.step); stands = e.stands; disks = e.disks }
+  serves_over SinkFault given written at_end old new before s stands = broken_over given written at_end old new before s stands
+  serves_over Memory given written at_end old new before s stands = broken_over given written at_end old new before s stands

@@ -1,6 +1,6 @@
 -- Desks and their states by their numbers, and how they go on.
 use Rattle.std.proofs.Common.{◌≡◌, ◌≢◌, ℕ, zero, suc, ◌≤◌, ◌⊎◌, List, [], ◌∷◌, ◌++◌, map, refl, sym, ◌∙◌, ap, subst, inl, inr, arith, append_assoc, append-nil}
-use Rattle.std.proofs.lemmas.Option.{none-some}
+use Rattle.std.proofs.lemmas.Option.{none-some, same_Some}
 use Rattle.std.proofs.lemmas.List.{map-append}
 use Rattle.std.specs.Prelude.{Option, None, Some, slice_get, slice_set}
 use Rattle.std.specs.Option.{option_map}
@@ -37,6 +37,11 @@ get_set_other (y ∷ l) zero zero x other = absurd (other refl)
 get_set_other (y ∷ l) zero (suc m) x other = refl
 get_set_other (y ∷ l) (suc n) zero x other = refl
 get_set_other (y ∷ l) (suc n) (suc m) x other = get_set_other l n m x (λ e. other (ap suc e))
+
+pub set_same : {A : Type 0} (l : List A) (n : ℕ) (x : A) → slice_get l n ≡ Some x → slice_set l n x ≡ l
+set_same [] n x e = refl
+set_same (y ∷ l) zero x e = ap (λ z. z ∷ l) (sym (same_Some y x e))
+set_same (y ∷ l) (suc n) x e = ap (λ k. y ∷ k) (set_same l n x e)
 
 -- ---- a desk and its state
 
