@@ -1,6 +1,6 @@
 -- Desks that were opened, served and closed: how each disk goes through a run.
 use Rattle.std.proofs.Common.{◌≡◌, ℕ, zero, suc, ◌+◌, ◌≤◌, List, [], ◌∷◌, length, map, refl, sym, ◌∙◌, ap, subst, arith}
-use Rattle.std.specs.Prelude.{Option, None, Some, IfSome, slice_get}
+use Rattle.std.specs.Prelude.{Option, None, Some, IfSome, slice_get, ⊤}
 use Rattle.std.specs.Option.{option_map}
 use Rattle.fault_count.specs.Rise.{HasRisen}
 use Rattle.disk_api.specs.declared.disk.Disk.{Ghosts as DiskGhosts}
@@ -42,7 +42,7 @@ module _ {D : Type 0} (disk_of : DiskGhosts D) where
   ClosedAt desk disk = ⊥
 
   -- the state of a desk as it was opened
-  begun_state : (number : ℕ) (disk : D) (desk : View D) → IsOpened disk_of number disk desk → DeskState
+  abbrev begun_state : (number : ℕ) (disk : D) (desk : View D) → IsOpened disk_of number disk desk → DeskState
   begun_state number disk desk is = record { commands = is.commands.0; doubt = None }
 
   begins : (number : ℕ) (disk : D) (desk : View D) (is : IsOpened disk_of number disk desk) → Begins number disk desk (begun_state number disk desk is)
@@ -59,7 +59,7 @@ module _ {D : Type 0} (disk_of : DiskGhosts D) where
   }
 
   -- the states of the desks as they were opened
-  pub begun_of : (from : ℕ) (disks : List D) (desks : List (View D)) → AreOpened disk_of from disks desks → Seen
+  abbrev pub begun_of : (from : ℕ) (disks : List D) (desks : List (View D)) → AreOpened disk_of from disks desks → Seen
   begun_of from [] [] all = []
   begun_of from [] (e ∷ es) all = absurd all
   begun_of from (d ∷ ds) [] all = absurd all
@@ -76,6 +76,12 @@ module _ {D : Type 0} (disk_of : DiskGhosts D) where
       subst (λ (n : ℕ). BeginsAt n (slice_get ds k) (slice_get es k) (slice_get (begun_of (suc from) ds es all.1) k)) (omega arith)
       (begins_from (suc from) ds es all.1 k)
 
+  pub begins_at : (disks : List D) (desks : List (View D)) (all : AreOpened disk_of 0 disks desks) (number : ℕ)
+      → BeginsAt number (slice_get disks number) (slice_get desks number) (slice_get (begun_of 0 disks desks all) number)
+  begins_at disks desks all number =
+      subst (λ (n : ℕ). BeginsAt n (slice_get disks number) (slice_get desks number) (slice_get (begun_of 0 disks desks all) number)) (omega arith)
+      (begins_from 0 disks desks all number)
+
   in_of : (number : ℕ) (disk : Option D) (desk : Option (View D)) (state : Option DeskState) → BeginsAt number disk desk state → InAt number desk state
   in_of number None None None is = tt
   in_of number None None (Some state) is = absurd is
@@ -86,7 +92,7 @@ module _ {D : Type 0} (disk_of : DiskGhosts D) where
 
   pub begun_in : (disks : List D) (desks : List (View D)) (all : AreOpened disk_of 0 disks desks) → AreIn desks (begun_of 0 disks desks all)
   begun_in disks desks all number =
-      in_of number (slice_get disks number) (slice_get desks number) (slice_get (begun_of 0 disks desks all) number) (begins_from 0 disks desks all number)
+      in_of number (slice_get disks number) (slice_get desks number) (slice_get (begun_of 0 disks desks all) number) (begins_at disks desks all number)
 
   closed_at : (desks : List (View D)) (disks : List D) → AreClosed disk_of desks disks → (k : ℕ) → ClosedAt (slice_get desks k) (slice_get disks k)
   closed_at [] [] all k = tt
@@ -145,7 +151,7 @@ module _ {D : Type 0} (disk_of : DiskGhosts D) where
   are_served disks desks served back ended all goes stands closed number =
       served_at number (slice_get disks number) (slice_get desks number) (slice_get served number) (slice_get back number)
       (slice_get (begun_of 0 disks desks all) number) (slice_get ended number)
-      (begins_from 0 disks desks all number) (goes number) (stands number) (closed_at served back closed number)
+      (begins_at disks desks all number) (goes number) (stands number) (closed_at served back closed number)
 
   -- as many desks stand in one list as in the other
   as_long : (old new : List (View D)) (before after : Seen) → GoOn disk_of old new before after → length new ≡ length old
@@ -177,6 +183,13 @@ module _ {D : Type 0} (disk_of : DiskGhosts D) where
       goes_behind number (s ∷ ss) (t ∷ ts) goes = goes
 
 module _ {D S K C : Type 0} (disk_of : DiskGhosts D) (source_of : SourceGhosts S) (sink_of : SinkGhosts K) where
+  -- the same session, over equal lists of desks
+  pub served_between : (before after : SessionEnds S K C) (end : SessionEnd) (desks handed left served : List (View D)) → handed ≡ desks → served ≡ left
+      → Served disk_of source_of sink_of before after handed left end → Served disk_of source_of sink_of before after desks served end
+  served_between before after end desks handed left served handed_is served_is session =
+      subst (λ (l : List (View D)). Served disk_of source_of sink_of before after desks l end) (sym served_is)
+      (subst (λ (l : List (View D)). Served disk_of source_of sink_of before after l left end) handed_is session)
+
   -- a session leaves as many desks as there were
   pub served_length : (disks : List D) (before after : SessionEnds S K C) (end : SessionEnd) (desks served : List (View D)) → AreOpened disk_of 0 disks desks
       → Served disk_of source_of sink_of before after desks served end → length served ≡ length desks
