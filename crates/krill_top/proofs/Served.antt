@@ -1,0 +1,158 @@
+-- A run over all desks, from what opening found, what the session did, and what closing leaves.
+use Rattle.std.proofs.Common.{◌≡◌, ℕ, zero, suc, ◌+◌, ◌≤◌, List, [], ◌∷◌, map, refl, sym, ◌∙◌, ap, subst, arith}
+use Rattle.std.specs.Prelude.{Option, None, Some, IfSome, slice_get, ⊤}
+use Rattle.std.specs.Option.{option_map}
+use Rattle.fault_count.specs.Rise.{HasRisen}
+use Rattle.disk_api.specs.declared.disk.Disk.{Ghosts as DiskGhosts}
+use Rattle.line_loop.specs.declared.traits.Source.{Ghosts as SourceGhosts}
+use Rattle.line_loop.specs.declared.traits.Sink.{Ghosts as SinkGhosts}
+use Rattle.line_loop.specs.declared.session.SessionEnd.{SessionEnd}
+use Rattle.line_loop.specs.declared.session.SessionEnd.TheVariants.{SourceFault, SinkFault}
+use Rattle.authority_book.specs.declared.commands.Command.{Command}
+use Rattle.cmd_codec.specs.Spelling.{spelling}
+use Rattle.desk_core.specs.View.{View}
+use Rattle.desk_core.specs.Commands.{Records, HasCommands}
+use Rattle.krill_top.specs.declared.serving.SessionEnds.{SessionEnds}
+use Rattle.krill_top.specs.declared.running.RunEnd.{RunEnd}
+use Rattle.krill_top.specs.Seen.{Seen, DeskState}
+use Rattle.krill_top.specs.Stands.{IsIn, InAt, AreIn, all_stored, GoesOn, GoesOnAt}
+use Rattle.krill_top.specs.Ends.{run_status, fault_of}
+use Rattle.krill_top.specs.Opened.{IsOpened, IsClosed, AreOpened, AreClosed}
+use Rattle.krill_top.specs.Ended.{Served}
+use Rattle.krill_top.specs.Run.{IsNext, IsServed, IsServedAt, ServesOne}
+use Rattle.krill_top.proofs.InTurn.{opened_stood_for, closed_left}
+
+module _ {D : Type 0} (disk_of : DiskGhosts D) where
+  -- the states in which the opened desks begin
+  abbrev opened_state : (number : ℕ) (disk : D) (desk : View D) → IsOpened disk_of number disk desk → DeskState
+  opened_state number disk desk opened = record { commands = opened.commands.0; doubt = None }
+
+  abbrev opened_states : (number : ℕ) (disks : List D) (desks : List (View D)) → AreOpened disk_of number disks desks → Seen
+  opened_states number [] [] all = []
+  opened_states number [] (desk ∷ desks) all = absurd all
+  opened_states number (disk ∷ disks) [] all = absurd all
+  opened_states number (disk ∷ disks) (desk ∷ desks) all =
+      opened_state number disk desk all.0 ∷ opened_states (suc number) disks desks all.1
+
+  -- a desk was opened, and has the commands of the state
+  record OpenedAs (number : ℕ) (disk : D) (desk : View D) (state : DeskState) : Type 0 where
+    pub opened : IsOpened disk_of number disk desk
+    pub has : HasCommands desk state.commands
+    pub is_open : state.doubt ≡ None
+
+  abbrev OpenedAt : ℕ → Option D → Option (View D) → Option DeskState → Type 0
+  OpenedAt number None None None = ⊤
+  OpenedAt number (Some disk) (Some desk) (Some state) = OpenedAs number disk desk state
+  OpenedAt number disk desk state = ⊥
+
+  abbrev ClosedAt : Option (View D) → Option D → Type 0
+  ClosedAt None None = ⊤
+  ClosedAt (Some desk) (Some disk) = IsClosed disk_of desk disk
+  ClosedAt desk disk = ⊥
+
+  opened_at : (number : ℕ) (disks : List D) (desks : List (View D)) (all : AreOpened disk_of number disks desks) (n at : ℕ) → at ≡ number + n
+      → OpenedAt at (slice_get disks n) (slice_get desks n) (slice_get (opened_states number disks desks all) n)
+  opened_at number [] [] all n at is = tt
+  opened_at number [] (desk ∷ desks) all n at is = absurd all
+  opened_at number (disk ∷ disks) [] all n at is = absurd all
+  opened_at number (disk ∷ disks) (desk ∷ desks) all zero at is = record {
+    opened = subst (λ (k : ℕ). IsOpened disk_of k disk desk) (omega (arith, is)) all.0;
+    has = all.0.commands.1;
+    is_open = refl;
+  }
+  opened_at number (disk ∷ disks) (desk ∷ desks) all (suc n) at is = opened_at (suc number) disks desks all.1 n at (omega (arith, is))
+
+  closed_at : (desks : List (View D)) (disks : List D) → AreClosed disk_of desks disks → (n : ℕ) → ClosedAt (slice_get desks n) (slice_get disks n)
+  closed_at [] [] all n = tt
+  closed_at [] (disk ∷ disks) all n = absurd all
+  closed_at (desk ∷ desks) [] all n = absurd all
+  closed_at (desk ∷ desks) (disk ∷ disks) all zero = all.0
+  closed_at (desk ∷ desks) (disk ∷ disks) all (suc n) = closed_at desks disks all.1 n
+
+  in_at : (number : ℕ) (disk : Option D) (desk : Option (View D)) (state : Option DeskState) → OpenedAt number disk desk state → InAt number desk state
+  in_at number None None None is = tt
+  in_at number None None (Some state) is = absurd is
+  in_at number None (Some desk) state is = absurd is
+  in_at number (Some disk) None state is = absurd is
+  in_at number (Some disk) (Some desk) None is = absurd is
+  in_at number (Some disk) (Some desk) (Some state) is = record {
+    number_is = is.opened.number_is;
+    commands = is.has;
+    doubt = is.opened.settled ∙ ap (option_map spelling) (sym is.is_open);
+    shut = (λ none. is.is_open, λ none. is.opened.is_open);
+    next = subst (λ (d : Option Command). IfSome d (IsNext number state)) (sym is.is_open) tt;
+  }
+
+  served_one : (number : ℕ) (disk : D) (desk new : View D) (back : D) (was is : DeskState) → OpenedAs number disk desk was → GoesOn disk_of desk.disk new.disk was is → IsIn number new is → IsClosed disk_of new back
+      → IsServed disk_of number disk back was is
+  served_one number disk desk new back was is opened goes stands closed =
+      let back_count : disk_of.fault_count back ≡ disk_of.fault_count new.disk = ap disk_of.fault_count closed.same in
+      record {
+        found = opened_stood_for disk_of number disk desk was.commands opened.opened opened.has;
+        is_open = opened.is_open;
+        accepted = goes.accepted;
+        grows = goes.commands;
+        recorded = subst (λ (n : ℕ). Records n (map spelling is.commands) is.commands) stands.number_is
+            (subst (λ (r : List (List ℕ)). Records new.number r is.commands) stands.commands.recorded.spelled stands.commands.recorded);
+        next = stands.next;
+        left = closed_left disk_of new back is.commands is.doubt closed stands.commands.recorded.spelled stands.doubt;
+        bytes = λ none. ap disk_of.content closed.same ∙ goes.bytes none
+            ∙ ap (option_map (all_stored (map spelling was.commands) (map spelling goes.accepted))) opened.opened.bytes;
+        cause = λ shut.
+            let rose = goes.cause opened.is_open shut in
+            record {
+              from = rose.from;
+              to = rose.to;
+              begins = omega (arith, opened.opened.later, rose.begins);
+              risen = rose.risen;
+              ends = omega (arith, rose.ends, back_count);
+            };
+        later = omega (arith, opened.opened.later, goes.later, back_count);
+      }
+
+  served_at : (number : ℕ) (disk : Option D) (desk new : Option (View D)) (back : Option D) (was is : Option DeskState)
+      → OpenedAt number disk desk was → GoesOnAt disk_of desk new was is → InAt number new is → ClosedAt new back → IsServedAt disk_of number disk back was is
+  served_at number None None None None None None opened goes stands closed = tt
+  served_at number None None None (Some back) None None opened goes stands closed = absurd closed
+  served_at number None None None back None (Some is) opened goes stands closed = absurd goes
+  served_at number None None (Some new) back None is opened goes stands closed = absurd goes
+  served_at number None None new back (Some was) is opened goes stands closed = absurd opened
+  served_at number None (Some desk) new back was is opened goes stands closed = absurd opened
+  served_at number (Some disk) None new back was is opened goes stands closed = absurd opened
+  served_at number (Some disk) (Some desk) new back None is opened goes stands closed = absurd opened
+  served_at number (Some disk) (Some desk) None back (Some was) is opened goes stands closed = absurd goes
+  served_at number (Some disk) (Some desk) (Some new) back (Some was) None opened goes stands closed = absurd goes
+  served_at number (Some disk) (Some desk) (Some new) None (Some was) (Some is) opened goes stands closed = absurd closed
+  served_at number (Some disk) (Some desk) (Some new) (Some back) (Some was) (Some is) opened goes stands closed =
+      served_one number disk desk new back was is opened goes stands closed
+
+module _ {D S K C : Type 0} (disk_of : DiskGhosts D) (source_of : SourceGhosts S) (sink_of : SinkGhosts K) where
+  pub serves : (disks : List D) (before after : SessionEnds S K C) (end : SessionEnd) (run : RunEnd D S K C) (desks served : List (View D))
+      → AreOpened disk_of 0 disks desks → Served disk_of source_of sink_of before after desks served end → AreClosed disk_of served run.desks.items
+      → run.sessions.items ≡ after ∷ [] → run.status ≡ run_status (fault_of end) → run.fault ≡ fault_of end
+      → (end ≡ SourceFault → HasRisen (source_of.fault_count before.source) (source_of.fault_count after.source))
+      → (end ≡ SinkFault → HasRisen (sink_of.fault_count before.sink) (sink_of.fault_count after.sink))
+      → source_of.fault_count before.source ≤ source_of.fault_count after.source → sink_of.fault_count before.sink ≤ sink_of.fault_count after.sink
+      → after.clock ≡ before.clock
+      → ServesOne disk_of source_of sink_of disks before run
+  serves disks before after end run desks served opened session closed sessions status fault source_fault sink_fault source_later sink_later clock =
+      let begun : Seen = opened_states disk_of 0 disks desks opened in
+      let all : (n : ℕ) → OpenedAt disk_of n (slice_get disks n) (slice_get desks n) (slice_get begun n) = λ n. opened_at disk_of 0 disks desks opened n n (omega arith) in
+      let done = session begun (λ n. in_at disk_of n (slice_get disks n) (slice_get desks n) (slice_get begun n) (all n)) in
+      record {
+        after = after;
+        end = end;
+        begun = begun;
+        ended = done.after;
+        handed_back = sessions;
+        status = status;
+        fault = fault;
+        served = done.step;
+        clock = clock;
+        disks = λ n. served_at disk_of n (slice_get disks n) (slice_get desks n) (slice_get served n) (slice_get run.desks.items n) (slice_get begun n) (slice_get done.after n)
+            (all n) (done.disks n) (done.stands n) (closed_at disk_of served run.desks.items closed n);
+        source_fault = source_fault;
+        sink_fault = sink_fault;
+        source_later = source_later;
+        sink_later = sink_later;
+      }
