@@ -95,7 +95,11 @@ fn serve_one<D: Disk, S: Source, K: Sink, C: Clock>(
     let ended = Session::serve(alloc, &mut handler, &mut ends);
     put_in_front(&mut sessions, ends);
     let desks = handler.into_desks().into_inner();
-    run_end(fault_of(ended), close_desks(Opened { desks, disks }), sessions)
+    run_end(
+        fault_of(ended),
+        close_desks(Opened { desks, disks }),
+        sessions,
+    )
 }
 
 /// The status of a run that ended so.
