@@ -1,5 +1,5 @@
 -- What a line comes to, by its slots.
-use Rattle.std.proofs.Common.{◌≡◌, ℕ, List, Option, Some, None, Ok, Err, true, refl, sym, ap, subst, ◌∙◌}
+use Rattle.std.proofs.Common.{◌≡◌, ℕ, List, Option, Some, None, Err, true, refl, sym, ap, subst, ◌∙◌}
 use Rattle.std.specs.Prelude.{Result}
 use Rattle.serde_json.specs.Data.{Data, null, boolean, number, string, array, object, Members}
 use Rattle.serde_json.specs.Find.{get, get_member, as_object}
@@ -11,8 +11,8 @@ use Rattle.json_api.specs.declared.line.LineFault.{LineFault}
 use Rattle.json_api.specs.declared.line.LineFault.TheVariants.{BadLine, UnknownCommand}
 use Rattle.json_api.specs.declared.slots.Slot.{Slot}
 use Rattle.json_api.specs.declared.slots.Slot.TheVariants.{Absent}
-use Rattle.json_api.specs.Names.{name_of, kind_of, field_named, first_other}
-use Rattle.json_api.specs.Table.{as_row, line_at, of_row, of_members, line_of}
+use Rattle.json_api.specs.Names.{name_of, kind_of, first_other}
+use Rattle.json_api.specs.Table.{as_row, line_at, of_row, of_members}
 use Rattle.json_api.specs.Slots.{slot_at, are_taken}
 use Rattle.json_api.specs.Line.{Tells, AreSlots, ReadsValue}
 use Rattle.json_api.specs.Passes.{IsMember, AreMembers}

@@ -1,7 +1,7 @@
 -- Texts with commas between them, one text more at a time, and pieces that are pushed one by one.
-use Rattle.std.proofs.Common.{◌≡◌, ℕ, zero, suc, ◌+◌, ◌<◌, List, [], ◌∷◌, ◌++◌, length, take, map, refl, sym, ap, ◌∙◌, arith, append_assoc, append-nil, codes}
-use Rattle.std.proofs.lemmas.List.{take_more}
-use Rattle.json_api.specs.Texts.{commas}
+use Rattle.std.proofs.Common.{◌≡◌, ℕ, ◌+◌, List, [], ◌∷◌, ◌++◌, length, take, map, refl, sym, ap, ◌∙◌, arith, append_assoc, codes}
+use Rattle.authority_book.specs.declared.commands.Command.{Command}
+use Rattle.json_api.specs.Texts.{commas, history_line, history_lines}
 
 -- the comma before the next text
 abbrev pub between : {A : Type 0} → List A → List ℕ
@@ -52,3 +52,42 @@ turn f xs i x old out sep mid new longer so first second = (
       ∙ commas-next f xs i x old out longer so.0,
   sym (between-more (take i xs) x) ∙ ap between (sym longer),
 )
+
+-- ---- commands with their places
+
+module _ (ca : List ℕ) where
+  lines-more : (n : ℕ) (xs : List Command) (x : Command)
+      → history_lines ca n (xs ++ x ∷ []) ≡ history_lines ca n xs ++ history_line ca (n + length xs + 1) x ∷ []
+  lines-more n [] x =
+      let e : n + 1 ≡ n + 0 + 1 = omega arith in
+      ap (λ (k : ℕ). history_line ca k x ∷ []) e
+  lines-more n (a ∷ xs) x =
+      let e : n + 1 + length xs + 1 ≡ n + length (a ∷ xs) + 1 = omega arith in
+      ap (λ t. history_line ca (n + 1) a ∷ t)
+      (lines-more (n + 1) xs x ∙ ap (λ (k : ℕ). history_lines ca (n + 1) xs ++ history_line ca k x ∷ []) e)
+
+  between-lines : (n : ℕ) (xs : List Command) → between (history_lines ca n xs) ≡ between xs
+  between-lines n [] = refl
+  between-lines n (a ∷ xs) = refl
+
+  -- one turn: the comma, then the command with its place
+  pub history-turn : (xs : List Command) (i count : ℕ) (x : Command) (old out sep mid new : List ℕ) → length (take i xs) ≡ count → take (i + 1) xs ≡ take i xs ++ x ∷ []
+      → out ≡ old ++ commas (history_lines ca 0 (take i xs)) → sep ≡ between (take i xs) → mid ≡ out ++ sep → new ≡ mid ++ history_line ca (count + 1) x
+      → (new ≡ old ++ commas (history_lines ca 0 (take (i + 1) xs))) × (codes "," ≡ between (take (i + 1) xs))
+  history-turn xs i count x old out sep mid new long longer is between_is first second =
+      let some = take i xs in
+      let text = history_line ca (count + 1) x in
+      let place : 0 + length some + 1 ≡ count + 1 = omega (arith, long) in
+      let joined : commas (history_lines ca 0 (take (i + 1) xs)) ≡ commas (history_lines ca 0 some) ++ between some ++ text
+      = ap (λ t. commas (history_lines ca 0 t)) longer ∙ ap commas (lines-more 0 some x)
+      ∙ ap (λ (k : ℕ). commas (history_lines ca 0 some ++ history_line ca k x ∷ [])) place
+      ∙ commas-more (history_lines ca 0 some) text
+      ∙ ap (λ (c : List ℕ). commas (history_lines ca 0 some) ++ c ++ text) (between-lines 0 some) in (
+        second
+            ∙ ap (λ (m : List ℕ). m ++ text) (first ∙ ap (λ (s : List ℕ). out ++ s) between_is)
+            ∙ ap (λ (o : List ℕ). o ++ between some ++ text) is
+            ∙ ap (λ (o : List ℕ). o ++ text) (append_assoc old (commas (history_lines ca 0 some)) (between some))
+            ∙ append_assoc old (commas (history_lines ca 0 some) ++ between some) text
+            ∙ ap (λ (t : List ℕ). old ++ t) (sym joined),
+        sym (between-more some x) ∙ ap between (sym longer),
+      )

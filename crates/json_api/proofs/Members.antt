@@ -1,7 +1,7 @@
 -- The slots that are filled from a line's members, one member more at a time.
-use Rattle.std.proofs.Common.{◌≡◌, ◌≢◌, ℕ, ◌<◌, List, [], length, Bool, true, false, true≢false, Option, Some, None, bytes_eq, get_or, set, refl, sym, ap, subst, ◌∙◌, arith, inl}
+use Rattle.std.proofs.Common.{◌≡◌, ℕ, List, Bool, true, false, true≢false, Option, Some, None, bytes_eq, set, refl, sym, subst, ◌∙◌, inl}
 use Rattle.std.proofs.lemmas.Slice.Eq.{bytes_eq-Decides}
-use Rattle.std.proofs.lemmas.List.{get_or-set_same, get_or-set_other}
+use Rattle.std.proofs.lemmas.List.{get_or-set_other}
 use Rattle.serde_json.specs.Data.{Data, Members, no_members, put}
 use Rattle.serde_json.specs.Find.{get_member}
 use Rattle.serde_json.proofs.Views.{get_member-put, get_member-put_other}
@@ -12,7 +12,7 @@ use Rattle.json_api.specs.Names.{name_of, place_of, kind_of, fields, field_named
 use Rattle.json_api.specs.Slots.{slot_at}
 use Rattle.json_api.specs.Line.{Says, Tells}
 use Rattle.json_api.specs.Passes.{IsMember, AreMembers}
-use Rattle.json_api.proofs.Named.{first_named-is, field_named-name_of, place_within, same_place}
+use Rattle.json_api.proofs.Named.{first_named-is, field_named-name_of, same_place}
 
 no_member : (slots : List Slot) → ((f : Field) → slot_at slots f ≡ Absent) → (found : Option Field) → IsMember found None slots
 no_member slots absent None = refl

@@ -1,5 +1,5 @@
 -- Members that a row doesn't have.
-use Rattle.std.proofs.Common.{◌≡◌, ℕ, List, [], ◌∷◌, Bool, true, false, true≢false, ◌&&◌, ◌||◌, Option, Some, None, Ordering, Less, Equal, Greater, nat_cmp, inl, inr, refl, sym, ap, subst, ◌∙◌, if◌then◌else◌}
+use Rattle.std.proofs.Common.{◌≡◌, ℕ, List, Bool, true, false, true≢false, ◌&&◌, ◌||◌, Option, Some, None, Ordering, Less, Equal, Greater, nat_cmp, inl, inr, refl, sym, ap, subst, ◌∙◌, if◌then◌else◌}
 use Rattle.std.specs.List.{list_all}
 use Rattle.std.specs.Cmp.Lexicographic.{slice_cmp}
 use Rattle.std.specs.Ordering.{match_ordering}
@@ -13,7 +13,7 @@ use Rattle.json_api.specs.declared.fields.Kind.TheVariants as kind
 use Rattle.json_api.specs.declared.fields.Row.{Row}
 use Rattle.json_api.specs.declared.slots.Slot.{Slot}
 use Rattle.json_api.specs.declared.slots.Slot.TheVariants as slot
-use Rattle.json_api.specs.Names.{name_of, kind_of, fields, field_named, takes, takes_some, is_member, first_other}
+use Rattle.json_api.specs.Names.{kind_of, fields, field_named, takes, takes_some, is_member, first_other}
 use Rattle.json_api.specs.Slots.{slot_at, is_absent, are_taken}
 use Rattle.json_api.specs.Line.{Says, Tells}
 use Rattle.json_api.specs.Passes.{IsMember, AreMembers}

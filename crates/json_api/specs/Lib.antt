@@ -8,3 +8,4 @@ pub mod Reply
 pub mod Tokens
 pub mod Refused
 pub mod Texts
+pub mod Members

@@ -1,5 +1,5 @@
 -- The slots as they are kept, for private clauses.
-use Rattle.std.specs.Prelude.{ℕ, List, Bool, true, false, ◌||◌, get_or}
+use Rattle.std.specs.Prelude.{List, Bool, true, false, ◌||◌, get_or}
 use Rattle.std.specs.List.{list_all}
 use Rattle.json_api.specs.declared.fields.Field.{Field}
 use Rattle.json_api.specs.declared.fields.Row.{Row}

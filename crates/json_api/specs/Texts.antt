@@ -1,5 +1,5 @@
 -- The texts of the replies that tell of authorities: compact JSON, the members in byte order.
-use Rattle.std.specs.Prelude.{ℕ, suc, Bool, true, false, List, [], ◌∷◌, ◌++◌, map, Option, None, Some, codes, decimal}
+use Rattle.std.specs.Prelude.{ℕ, ◌+◌, Bool, true, false, List, [], ◌∷◌, ◌++◌, map, Option, None, Some, codes, decimal}
 use Rattle.json.specs.Print.{quoted}
 use Rattle.res_sets.specs.declared.holdings.Resources.{Resources}
 use Rattle.res_sets.specs.Sets.{RangeSet}
@@ -11,9 +11,8 @@ use Rattle.authority_book.specs.declared.commands.Command.TheVariants as command
 use Rattle.authority_book.specs.declared.rows.Child.{Child}
 use Rattle.json_api.specs.declared.fields.Field.{Field}
 use Rattle.json_api.specs.declared.fields.Field.TheVariants as field
+use Rattle.json_api.specs.declared.fields.Row.{Row}
 use Rattle.json_api.specs.declared.fields.Row.TheVariants as row
-use Rattle.json_api.specs.declared.slots.Slot.{Slot}
-use Rattle.json_api.specs.declared.slots.Slot.TheVariants.{Absent, Bad, Row, Name, Number, Resources as Held, Origins}
 use Rattle.json_api.specs.declared.texts.ListLine.{ListLine}
 use Rattle.json_api.specs.declared.texts.RoaLine.{RoaLine}
 use Rattle.json_api.specs.declared.texts.RoaWord.{RoaWord}
@@ -95,32 +94,43 @@ roas_spelling authority lines serial =
 
 -- ---- `history commands`
 
--- the members of a command's line in byte order, with all its fields
-abbrev pub members_of : List ℕ → Command → List (Field × Slot)
-members_of ca (commands.Add name signer) = (field.Ca, Name name) ∷ (field.Command, Row row.Add) ∷ (field.Signer, Number signer) ∷ []
-members_of ca commands.Delete = (field.Ca, Name ca) ∷ (field.Command, Row row.Delete) ∷ []
-members_of ca (commands.AddParent parent) = (field.Ca, Name ca) ∷ (field.Command, Row row.ParentsAdd) ∷ (field.Parent, Name parent) ∷ []
-members_of ca (commands.AddChild child grant) = (field.Ca, Name ca) ∷ (field.Child, Name child) ∷ (field.Command, Row row.ChildrenAdd) ∷ (field.Resources, Held grant) ∷ []
-members_of ca (commands.UpdateChild child grant) = (field.Ca, Name ca) ∷ (field.Child, Name child) ∷ (field.Command, Row row.ChildrenUpdate) ∷ (field.Resources, Held grant) ∷ []
-members_of ca (commands.RemoveChild child) = (field.Ca, Name ca) ∷ (field.Child, Name child) ∷ (field.Command, Row row.ChildrenRemove) ∷ []
-members_of ca (commands.SuspendChild child) = (field.Ca, Name ca) ∷ (field.Child, Name child) ∷ (field.Command, Row row.ChildrenSuspend) ∷ []
-members_of ca (commands.UnsuspendChild child) = (field.Ca, Name ca) ∷ (field.Child, Name child) ∷ (field.Command, Row row.ChildrenUnsuspend) ∷ []
-members_of ca (commands.UpdateRoas added removed) = (field.Add, Origins added) ∷ (field.Ca, Name ca) ∷ (field.Command, Row row.RoasUpdate) ∷ (field.Remove, Origins removed) ∷ []
+-- a member whose value is a name
+unfoldable pub named_line : Field → List ℕ → List ℕ
+named_line f name = quoted (name_of f) ++ codes ":" ++ quoted name
 
-abbrev pub slot_text : Slot → List ℕ
-slot_text Absent = []
-slot_text Bad = []
-slot_text (Row of) = quoted (command_of of)
-slot_text (Name name) = quoted name
-slot_text (Number n) = decimal n
-slot_text (Held held) = resources_text held
-slot_text (Origins origins) = codes "[" ++ commas (map (λ origin. quoted (origin_text origin)) origins) ++ codes "]"
+-- the member `command`
+unfoldable pub row_line : Row → List ℕ
+row_line of = quoted (name_of field.Command) ++ codes ":" ++ quoted (command_of of)
 
-abbrev pub member_text : Field × Slot → List ℕ
-member_text member = quoted (name_of member.0) ++ codes ":" ++ slot_text member.1
+unfoldable pub signer_line : ℕ → List ℕ
+signer_line signer = quoted (name_of field.Signer) ++ codes ":" ++ decimal signer
 
-abbrev pub line_text : List ℕ → Command → List ℕ
-line_text ca command = codes "{" ++ commas (map member_text (members_of ca command)) ++ codes "}"
+unfoldable pub held_line : Resources → List ℕ
+held_line held = quoted (name_of field.Resources) ++ codes ":" ++ resources_text held
+
+abbrev pub origin_member : Origin → List ℕ
+origin_member origin = quoted (origin_text origin)
+
+unfoldable pub origins_text : List Origin → List ℕ
+origins_text origins = codes "[" ++ commas (map origin_member origins) ++ codes "]"
+
+unfoldable pub origins_line : Field → List Origin → List ℕ
+origins_line f origins = quoted (name_of f) ++ codes ":" ++ origins_text origins
+
+-- The members of a command's line in byte order, with all its fields: those of its row.
+abbrev pub members_of : List ℕ → Command → List (List ℕ)
+members_of ca (commands.Add name signer) = named_line field.Ca name ∷ row_line row.Add ∷ signer_line signer ∷ []
+members_of ca commands.Delete = named_line field.Ca ca ∷ row_line row.Delete ∷ []
+members_of ca (commands.AddParent parent) = named_line field.Ca ca ∷ row_line row.ParentsAdd ∷ named_line field.Parent parent ∷ []
+members_of ca (commands.AddChild child grant) = named_line field.Ca ca ∷ named_line field.Child child ∷ row_line row.ChildrenAdd ∷ held_line grant ∷ []
+members_of ca (commands.UpdateChild child grant) = named_line field.Ca ca ∷ named_line field.Child child ∷ row_line row.ChildrenUpdate ∷ held_line grant ∷ []
+members_of ca (commands.RemoveChild child) = named_line field.Ca ca ∷ named_line field.Child child ∷ row_line row.ChildrenRemove ∷ []
+members_of ca (commands.SuspendChild child) = named_line field.Ca ca ∷ named_line field.Child child ∷ row_line row.ChildrenSuspend ∷ []
+members_of ca (commands.UnsuspendChild child) = named_line field.Ca ca ∷ named_line field.Child child ∷ row_line row.ChildrenUnsuspend ∷ []
+members_of ca (commands.UpdateRoas added removed) = origins_line field.Add added ∷ named_line field.Ca ca ∷ row_line row.RoasUpdate ∷ origins_line field.Remove removed ∷ []
+
+unfoldable pub line_text : List ℕ → Command → List ℕ
+line_text ca command = codes "{" ++ commas (members_of ca command) ++ codes "}"
 
 -- a command with its place, from 1
 abbrev pub history_line : List ℕ → ℕ → Command → List ℕ
@@ -128,7 +138,7 @@ history_line ca count command = codes "{\"count\":" ++ decimal count ++ codes ",
 
 abbrev pub history_lines : List ℕ → ℕ → List Command → List (List ℕ)
 history_lines ca before [] = []
-history_lines ca before (command ∷ more) = history_line ca (suc before) command ∷ history_lines ca (suc before) more
+history_lines ca before (command ∷ more) = history_line ca (before + 1) command ∷ history_lines ca (before + 1) more
 
 abbrev pub history_spelling : List ℕ → List Command → List ℕ
 history_spelling authority commands =

@@ -1,7 +1,7 @@
 //! The members that lines have, and the rows of the table of lines.
 
 ghost use Rattle.std.specs.Prelude.{◌≡◌};
-ghost use Rattle.json_api.specs.Names.{name_of, place_of, kind_of, fields, field_named, row_named, fields_of, is_among, takes, is_member};
+ghost use Rattle.json_api.specs.Names.{name_of, place_of, kind_of, fields, field_named, row_named, command_of, fields_of, is_among, takes, is_member};
 
 /// A member that some line of the table has. They stand in byte order of their names.
 #[derive(Clone, Copy, Debug, PartialEq, Eq)]
@@ -142,6 +142,27 @@ impl Row {
             "roas list" => Some(Row::RoasList),
             "history commands" => Some(Row::HistoryCommands),
             _ => None,
+        }
+    }
+
+    /// The text of the row's command.
+    pub(crate) fn command(self) -> &'static str
+        ensures { result.now ≡ command_of self }
+    {
+        match self {
+            Row::Add => "add",
+            Row::Delete => "delete",
+            Row::ParentsAdd => "parents add",
+            Row::ChildrenAdd => "children add",
+            Row::ChildrenUpdate => "children update",
+            Row::ChildrenRemove => "children remove",
+            Row::ChildrenSuspend => "children suspend",
+            Row::ChildrenUnsuspend => "children unsuspend",
+            Row::RoasUpdate => "roas update",
+            Row::List => "list",
+            Row::Show => "show",
+            Row::RoasList => "roas list",
+            Row::HistoryCommands => "history commands",
         }
     }
 

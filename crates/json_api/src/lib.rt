@@ -2,6 +2,7 @@
 #![tactic(auto)]
 
 mod fields;
+mod history;
 mod line;
 mod refusals;
 mod reply;
@@ -11,6 +12,7 @@ mod texts;
 mod tokens;
 mod values;
 
+pub use history::history_text;
 pub use line::{Line, LineFault, LineReader, MAX_LINE_LEN, MemberName, read_line};
 pub use refusals::{MEMORY_REPLY, Refused, fault_into, memory_reply, refused_into, verdict_into};
 pub use reply::accepted_into;

@@ -4,7 +4,7 @@ use crate::first_field;
 use crate::origin_texts::{command_of, list_of, origins_of, push_origins};
 use anyhow::{Context, Result};
 use authority_book::{Command, Config, verdict};
-use json_api::refusal_into;
+use json_api::verdict_into;
 use std::alloc::Global;
 
 /// How long the list is, whether it is empty, its first repetition, which of the others it has, and
@@ -61,7 +61,7 @@ fn push_verdict(
         }
         Err(refusal) => {
             let mut reply = Vec::new(alloc);
-            refusal_into(alloc, &refusal, &mut reply)?;
+            verdict_into(alloc, &mut reply, &refusal)?;
             let reply = str::from_utf8(&reply)
                 .ok()
                 .context("a reply that is no text")?;

@@ -1,5 +1,5 @@
-//! Cases of commands: as lines, as records, before the verdict, and in replies. Each line of standard
-//! input is one, and its answer is printed behind its name.
+//! Cases of commands: as records and before the verdict. Each line of standard input is one, and its
+//! answer is printed behind its name.
 //!
 //! A line has the case's name, the call and its arguments, with tabs between them. Origins stand with
 //! `;` between them, bytes that are no text in hex. The file `stdout` beside `src` has the answers of
@@ -7,10 +7,8 @@
 #![tactic(auto)]
 
 mod books;
-mod lines;
 mod origin_texts;
 mod records;
-mod replies;
 
 use anyhow::{Context, Result, bail};
 use std::alloc::Global;
@@ -37,14 +35,11 @@ fn first_field(text: &str) -> Result<(&str, &str)> {
 
 fn answer(alloc: Global, call: &str, arguments: &str) -> Result<String> {
     match call {
-        "line" => lines::read(alloc, arguments.as_bytes()),
-        "line in hex" => lines::read(alloc, &hex::decode(alloc, arguments)?),
-        "line filled up" => lines::read_filled(alloc, arguments),
         "record" => records::read_record(alloc, arguments),
         "record of" => records::written(alloc, arguments),
         "fronts" => records::read_fronts(alloc, arguments),
         "origins" => books::listed(alloc, arguments),
         "book" => books::taken(alloc, arguments),
-        _ => replies::answer(alloc, call, arguments),
+        _ => bail!("an unknown call"),
     }
 }

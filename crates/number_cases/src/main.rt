@@ -6,6 +6,7 @@
 //! has the answers of other programs and of the standards, never this one's own.
 #![tactic(auto)]
 
+mod built;
 mod numbers;
 mod route_origins;
 mod sets;
@@ -40,7 +41,9 @@ fn answer(alloc: Global, call: &str, arguments: &str) -> Result<String> {
         "ipv4" => numbers::ipv4(alloc, arguments),
         "ipv6" => numbers::ipv6(alloc, arguments),
         "origin" => route_origins::read(alloc, arguments),
+        "prefix" => route_origins::read_prefix(alloc, arguments),
         "all resources" => sets::whole(alloc),
+        "no resources" => built::nothing(alloc),
         _ => set_answer(alloc, call, arguments),
     }
 }
@@ -54,6 +57,9 @@ fn set_answer(alloc: Global, call: &str, arguments: &str) -> Result<String> {
         "holds" => sets::holds(alloc, family, texts),
         "pair" => sets::pair(alloc, family, texts),
         "members" => sets::members(alloc, family, texts),
+        "pushed" => built::pushed(alloc, family, texts),
+        "joined" => built::joined(alloc, family, texts),
+        "same" => built::same(alloc, family, texts),
         _ => bail!("an unknown call"),
     }
 }

@@ -2,7 +2,7 @@
 
 use crate::plain_text;
 use anyhow::Result;
-use origins::{Origin, read_origin};
+use origins::{Origin, Prefix, read_origin};
 use std::alloc::Global;
 
 /// The origin that the text writes, field by field, or why there is none.
@@ -12,6 +12,17 @@ pub fn read(alloc: Global, text: &str) -> Result<String> {
         Ok(origin) => shown(alloc, &origin),
         Err(fault) => Ok(format!(in alloc; "{fault:?}")?),
     }
+}
+
+/// The prefix that the text writes, as family, address and length, or `none`.
+pub fn read_prefix(alloc: Global, text: &str) -> Result<String> {
+    let text = plain_text(alloc, text)?;
+    let Some(prefix) = Prefix::read(text.as_str()) else {
+        return Ok(String::from_str(alloc, "none")?);
+    };
+    let family = if prefix.v6 { "ipv6" } else { "ipv4" };
+    let (address, length) = (prefix.address, prefix.length);
+    Ok(format!(in alloc; "{family}\t{address}\t{length}")?)
 }
 
 // The family, the addresses and the numbers of the origin, its text and its file's name.

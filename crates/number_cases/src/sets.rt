@@ -119,7 +119,7 @@ fn low_numbers(alloc: Global, set: &Ranges) -> Result<String> {
     Ok(numbers)
 }
 
-fn set_of(alloc: Global, family: Family, text: &str) -> Result<Ranges>
+pub fn set_of(alloc: Global, family: Family, text: &str) -> Result<Ranges>
     ensures { IfOk result (λ set. set.family ≡ family) }
 {
     let set = Ranges::read_text(alloc, family, text).context("a set that isn't read")?;
@@ -127,14 +127,14 @@ fn set_of(alloc: Global, family: Family, text: &str) -> Result<Ranges>
 }
 
 // The range between two numbers with a hyphen between them.
-fn range_of(text: &str) -> Result<Range> {
+pub fn range_of(text: &str) -> Result<Range> {
     let (first, last) = text.split_once('-').context("no range")?;
     let (first, last) = (first.parse::<u128>()?, last.parse::<u128>()?);
     ensure!(first <= last, "a range that falls");
     Ok(Range { first, last })
 }
 
-fn shown(alloc: Global, set: &Ranges) -> Result<String> {
+pub fn shown(alloc: Global, set: &Ranges) -> Result<String> {
     let mut text = String::new(alloc);
     push_shown(alloc, &mut text, set)?;
     Ok(text)

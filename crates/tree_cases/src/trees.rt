@@ -3,7 +3,7 @@
 use crate::books::push_resources;
 use crate::commands::command_of;
 use anyhow::Result;
-use authority_book::{Config, NameRow};
+use authority_book::{Config, NameRow, verdict_unasked};
 use entitle::{Owed, Tree, certified, owed};
 use std::alloc::Global;
 
@@ -24,7 +24,7 @@ pub fn entitled(alloc: Global, arguments: &str) -> Result<String> {
 fn configs_of(alloc: Global, desks: &str) -> Result<Vec<Config>> {
     let mut configs = Vec::new(alloc);
     for commands in desks.split('\t') {
-        let desk = configs.len() as u32;
+        let desk = u32::try_from(configs.len())?;
         configs.push(config_of(alloc, desk, commands)?)?;
     }
     Ok(configs)
@@ -35,7 +35,7 @@ fn config_of(alloc: Global, desk: u32, commands: &str) -> Result<Config> {
     for command in commands.split('|') {
         if !command.is_empty() {
             let command = command_of(alloc, command)?;
-            if authority_book::verdict_unasked(&config, &command).is_ok() {
+            if verdict_unasked(&config, &command).is_ok() {
                 config.reserve(alloc, &command)?;
                 config.apply(command);
             }

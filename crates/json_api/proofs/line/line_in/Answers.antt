@@ -1,12 +1,8 @@
-use Rattle.std.proofs.Common.{◌≡◌, ◌≢◌, ℕ, List, Option, Some, None, sym, subst, ap, ◌∙◌}
-use Rattle.serde_json.specs.Data.{Members}
+use Rattle.std.proofs.Common.{◌≡◌, ℕ, List, Option, Some, sym, ap, ◌∙◌}
 use Rattle.serde_json.specs.Find.{as_object}
 use Rattle.serde_json.specs.View.{view, members_view}
-use Rattle.json_api.specs.declared.fields.Field.TheVariants.{Command}
-use Rattle.json_api.specs.declared.fields.Row.{Row}
-use Rattle.json_api.specs.Table.{as_row, line_at}
+use Rattle.json_api.specs.Table.{line_at}
 use Rattle.json_api.specs.Slots.{slot_at}
-use Rattle.json_api.specs.Names.{first_other}
 use Rattle.json_api.proofs.Answered.{no_object, no_row, value_answers}
 use Rattle.json_api.proofs.line.line_in.Goals as goal
 

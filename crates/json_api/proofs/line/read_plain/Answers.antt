@@ -1,7 +1,6 @@
-use Rattle.std.proofs.Common.{◌≡◌, ◌≢◌, List, Option, Some, None, Ok, Err, IfSome, true, sym, subst, ◌∙◌}
+use Rattle.std.proofs.Common.{◌≡◌, List, Option, Some, None, Ok, IfSome, true, sym, subst, ◌∙◌}
 use Rattle.serde_json.specs.Data.{object, Members}
 use Rattle.serde_json.specs.Read.{read}
-use Rattle.json_api.specs.declared.line.LineFault.TheVariants.{Memory}
 use Rattle.json_api.specs.declared.fields.Field.TheVariants.{Command}
 use Rattle.json_api.specs.declared.slots.Slot.{Slot}
 use Rattle.json_api.specs.Table.{as_row, line_at}

@@ -1,6 +1,6 @@
 use Rattle.std.proofs.Common.{◌≡◌, ℕ, List, [], ◌∷◌, ◌++◌, ap, ◌∙◌}
 use Rattle.json.specs.Token.{Token}
-use Rattle.json.specs.Print.{print, quoted}
+use Rattle.json.specs.Print.{print}
 use Rattle.json_api.proofs.Written.{print-string}
 use Rattle.json_api.proofs.texts.quoted_bytes.Goals as goal
 

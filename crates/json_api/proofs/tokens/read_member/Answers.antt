@@ -1,8 +1,8 @@
-use Rattle.std.proofs.Common.{◌≡◌, ℕ, List, Option, Some, IfSome, set, sym, subst, ◌∙◌}
-use Rattle.serde_json.specs.Data.{Data, Members, put}
+use Rattle.std.proofs.Common.{◌≡◌, ℕ, List, Option, IfSome, set, sym, subst}
+use Rattle.serde_json.specs.Data.{Data, put}
 use Rattle.json_api.specs.declared.fields.Kind.{Kind}
 use Rattle.json_api.specs.declared.slots.Slot.{Slot}
-use Rattle.json_api.specs.Names.{name_of, kind_of, place_of, fields}
+use Rattle.json_api.specs.Names.{name_of, place_of, fields}
 use Rattle.json_api.specs.Slots.{slot_at}
 use Rattle.json_api.specs.Line.{Says}
 use Rattle.json_api.specs.Passes.{ReadsValue, AreMembers}

@@ -1,4 +1,4 @@
-use Rattle.std.proofs.Common.{◌≡◌, ap, sym, subst, Some, refl}
+use Rattle.std.proofs.Common.{ap, sym, subst, Some, refl}
 use Rattle.serde_json.specs.Data.{string}
 use Rattle.names.specs.Name.{IsName}
 use Rattle.json_api.proofs.Passes.{text_read}

@@ -1,4 +1,4 @@
-use Rattle.std.proofs.Common.{◌≡◌, Some, ◌∙◌, sym}
+use Rattle.std.proofs.Common.{◌≡◌, Some}
 use Rattle.serde_json.specs.Data.{string}
 use Rattle.json_api.specs.Names.{row_named}
 use Rattle.json_api.proofs.Passes.{text_read}
