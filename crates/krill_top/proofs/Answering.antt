@@ -142,7 +142,7 @@ module _ {D : Type 0} (disk_of : DiskGhosts D) where
       let not_blank : ¬ IsBlank line = λ blank. omega (arith, blank.short, long) in
       text_replies old old line bad_line_text false not_blank
       (told_or_memory (IsReadText line) old.desks bad_line_text (inl (λ before all.
-          record { said = Err BadLine; reads = inr (none, refl); answer = record { text_is = refl; not_accepted = refl; same = refl } })))
+      record { said = Err BadLine; reads = inr (none, refl); answer = record { text_is = refl; not_accepted = refl; same = refl } })))
 
   pub read_said : {E : Type 0} (said kind : Line) (reply : Seen → List ℕ) (desks : List (View D)) (result : Result (Vec ℕ Global) E) (told : List ℕ) (accepted : Bool)
       → said ≡ kind → accepted ≡ false

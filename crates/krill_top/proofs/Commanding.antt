@@ -107,7 +107,6 @@ module _ {D : Type 0} (disk_of : DiskGhosts D) (number : ℕ) (command : Command
   goes_unchanged : (old new : View D) (was : DeskState) → new ≡ old → GoesOn disk_of old.disk new.disk was was
   goes_unchanged old new was same = subst (λ (d : View D). GoesOn disk_of old.disk d.disk was was) (sym same) (goes_same disk_of old.disk was)
 
-
   -- the state after a fault that shut the journal
   in_doubt : (old new : View D) (rose : ℕ × (ℕ × ℕ)) (was : DeskState) → IsFaultAnswer disk_of rose command signers old new → IsAccepted (fold_of number was.commands) command → IsIn number old was
       → IsIn number new (record { commands = was.commands; doubt = Some command })

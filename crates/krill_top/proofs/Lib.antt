@@ -5,5 +5,5 @@ pub mod Commanding
 pub mod Reading
 pub mod Answering
 pub mod Sessions
-pub mod Removed
 pub mod Served
+pub mod Removed

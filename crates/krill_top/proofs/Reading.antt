@@ -42,6 +42,6 @@ shown_text (Err wanting) name settings held parent children none parents childs 
 shown_text (Ok text) name settings held parent children none parents childs is =
     is
     ∙ ap (λ (t : List ℕ). codes "{\"authority\":" ++ quoted name ++ codes ",\"certified\":" ++ t ++ codes ",\"children\":[" ++ commas (map child_line children)
-        ++ codes "],\"parent\":" ++ parent_text parent ++ codes ",\"reply\":\"show\",\"serial\":" ++ decimal 0 ++ codes ",\"stage\":" ++ stage_text stage.None ++ codes "}") (none_text held none)
+    ++ codes "],\"parent\":" ++ parent_text parent ++ codes ",\"reply\":\"show\",\"serial\":" ++ decimal 0 ++ codes ",\"stage\":" ++ stage_text stage.None ++ codes "}") (none_text held none)
     ∙ ap (λ (p : Option (List ℕ)). show_spelling (record (shown_before name settings) { parent = p }) children) parents
     ∙ ap (λ (c : List Child). show_spelling (shown_before name settings) c) childs

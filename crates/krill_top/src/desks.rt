@@ -60,7 +60,8 @@ impl<D: Disk> Desks<D> {
 
     /// The desks, with the commands that were accepted.
     pub fn into_inner(self) -> Vec<Desk<D>>
-        ensures { result.items ≡ self }
+        ensures desks { result.items ≡ self }
+        ensures all { length result.items ≡ most_desks }
     {
         self.desks
     }

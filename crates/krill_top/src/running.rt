@@ -81,7 +81,6 @@ fn serve_one<D: Disk, S: Source, K: Sink, C: Clock>(
     sessions: Vec<SessionEnds<S, K, C>>,
 ) -> RunEnd<D, S, K, C>
     requires all { length opened.desks.items ≡ most_desks }
-    requires opened { (disks : List D) × AreOpened D.Disk 0 disks opened.desks.items }
     requires empty { opened.disks.items ≡ [] }
     requires room { vec_len opened.desks ≤ vec_capacity opened.disks }
     requires session { length sessions.items ≡ 1 }
@@ -96,7 +95,11 @@ fn serve_one<D: Disk, S: Source, K: Sink, C: Clock>(
     let ended = Session::serve(alloc, &mut handler, &mut ends);
     put_in_front(&mut sessions, ends);
     let desks = handler.into_desks().into_inner();
-    run_end(fault_of(ended), close_desks(Opened { desks, disks }), sessions)
+    run_end(
+        fault_of(ended),
+        close_desks(Opened { desks, disks }),
+        sessions,
+    )
 }
 
 /// The status of a run that ended so.
