@@ -23,6 +23,7 @@ bench:
 	python3 bench/der
 	python3 bench/commits
 	python3 bench/reopen
+	python3 bench/published
 	python3 bench/objects
 	python3 bench/rrdp
 	python3 bench/board

@@ -5,8 +5,10 @@
 #![tactic(auto)]
 
 mod manifests;
+mod places;
 mod roas;
 
+use crate::places::{BodyKind, changes, cuts};
 use anyhow::{Result, bail};
 use std::alloc::Global;
 
@@ -37,6 +39,10 @@ fn answer(alloc: Global, call: &str, first: &str, second: &str) -> Result<String
         "read roa" => roas::read(alloc, first),
         "write manifest" => manifests::write(alloc, first, second),
         "read manifest" => manifests::read(alloc, first),
+        "cuts roa" => cuts(alloc, BodyKind::Roa, first),
+        "cuts manifest" => cuts(alloc, BodyKind::Manifest, first),
+        "changes roa" => changes(alloc, BodyKind::Roa, first),
+        "changes manifest" => changes(alloc, BodyKind::Manifest, first),
         _ => bail!("an unknown call: {call}"),
     }
 }

@@ -1,0 +1,49 @@
+-- An authority whose certificate is accepted, and the places in use for what it publishes
+-- (RFC 6481 section 2).
+use Rattle.std.specs.Prelude.{ℕ, ◌+◌, ◌-◌, Bool, ◌&&◌, nat_lt, nat_le, nat_eq, List, ◌++◌, length, take, drop, codes}
+use Rattle.std.specs.List.{list_all, starts_with, ends_with}
+use Rattle.sha1.specs.Sha1.{sha1}
+use Rattle.hex.specs.Hex.{encode_lower}
+use Rattle.names.specs.Name.{is_name_byte}
+use Rattle.key_ids.specs.Places.{Bases}
+use Rattle.cert_obj.specs.Values.{Sets, CertValue}
+
+-- The URI of its certificate, what that says, and the resources that it has: the certificate's, or the
+-- issuer's where it inherits.
+pub record Authority : Type 0 where
+  pub uri : List ℕ
+  pub cert : CertValue
+  pub held : Sets
+
+-- The identifier of the key of a certificate (RFC 6487 section 4.8.2).
+abbrev pub key_id : CertValue → List ℕ
+key_id cert = sha1 cert.key
+
+-- A file in its folder, of that name.
+abbrev pub file_place : Authority → List ℕ → List ℕ
+file_place authority name = authority.cert.uris.folder ++ name
+
+-- Its CRL, and the certificate of a key that it issues.
+abbrev pub crl_place : Authority → List ℕ
+crl_place authority = file_place authority (encode_lower (key_id authority.cert) ++ codes ".crl")
+
+abbrev pub certificate_place : Authority → CertValue → List ℕ
+certificate_place authority cert = file_place authority (encode_lower (key_id cert) ++ codes ".cer")
+
+-- The manifest of a key, in that folder.
+abbrev pub manifest_in_folder : List ℕ → CertValue → List ℕ
+manifest_in_folder folder cert = folder ++ encode_lower (key_id cert) ++ codes ".mft"
+
+-- Its manifest, which its certificate names.
+abbrev pub manifest_place : Authority → List ℕ
+manifest_place authority = authority.cert.uris.manifest
+
+-- The name of an authority: 1 to 64 letters, digits, `-` and `_`.
+abbrev pub is_authority_name : List ℕ → Bool
+is_authority_name text = nat_lt 0 (length text) && nat_le (length text) 64 && list_all is_name_byte text
+
+-- The folder of an authority: the base, a name, and `/0/`.
+abbrev pub is_folder : Bases → List ℕ → Bool
+is_folder bases uri =
+    starts_with nat_eq uri bases.rsync && ends_with nat_eq uri (codes "/0/")
+    && is_authority_name (take (length uri - (length bases.rsync + 3)) (drop (length bases.rsync) uri))

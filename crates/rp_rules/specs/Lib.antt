@@ -1,0 +1,11 @@
+pub mod Rules
+pub mod Checks
+pub mod Objects
+pub mod Holdings
+pub mod Authorities
+pub mod Certificates
+pub mod Points
+pub mod Walk
+pub mod Yield
+pub mod Views
+pub mod Sound

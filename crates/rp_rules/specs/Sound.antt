@@ -1,0 +1,46 @@
+-- Sound sets: the walk refuses no object and visits each.
+use Rattle.std.specs.Prelude.{◌≡◌, ℕ, Bool, true, not, List, length, Some, Ok, Err}
+use Rattle.std.specs.List.{list_all, find}
+use Rattle.pub_set.specs.declared.objects.Object.{Object}
+use Rattle.pub_set.specs.Objects.{content_at}
+use Rattle.rp_rules.specs.declared.rules.Rule.{Rule}
+use Rattle.rp_rules.specs.Certificates.{Setting, is_among}
+use Rattle.rp_rules.specs.Walk.{Visit, visited, walk}
+use Rattle.rp_rules.specs.Yield.{AuditedValue, yield, points}
+
+abbrev pub is_visited : List Visit → Object → Bool
+is_visited visits o = is_among (visited visits) o.uri
+
+-- A sound set, and what is visited in it.
+pub record IsSoundBy (s : Setting) (objects : List Object) (visits : List Visit) : Type 0 where
+  pub walk : walk s (content_at objects) ≡ Ok visits
+  pub all : list_all (is_visited visits) objects ≡ true
+
+abbrev pub IsSound : Setting → List Object → Type 0
+IsSound s objects = (visits : List Visit) × IsSoundBy s objects visits
+
+-- The first refusal of the walk.
+abbrev pub IsRefused : Setting → List Object → List ℕ → Rule → Type 0
+IsRefused s objects uri rule = walk s (content_at objects) ≡ Err (record { uri = uri; rule = rule })
+
+-- Nothing is refused, and this is the least URI that isn't visited: a set's objects stand by rising URI.
+pub record IsUnreached (s : Setting) (objects : List Object) (uri : List ℕ) : Type 0 where
+  pub visits : List Visit
+  pub walk : walk s (content_at objects) ≡ Ok visits
+  pub object : Object
+  pub first : find (λ o. not (is_visited visits o)) objects ≡ Some object
+  pub place : object.uri ≡ uri
+
+-- ---- what is told of a sound set
+
+-- This is the yield, these are the points, and so many objects has the set, which is sound.
+pub record IsAuditOf (s : Setting) (objects : List Object) (audited : AuditedValue) : Type 0 where
+  pub visits : List Visit
+  pub sound : IsSoundBy s objects visits
+  pub origins : audited.origins ≡ yield visits
+  pub points : audited.points ≡ points (content_at objects) visits
+  pub count : audited.objects ≡ length objects
+
+-- They are told of some sound set.
+abbrev pub IsAudit : AuditedValue → Type 0
+IsAudit audited = ∥ ((s : Setting) × (objects : List Object) × IsAuditOf s objects audited) ∥₁

@@ -1,0 +1,11 @@
+//! The walk of a relying party over a published set, as definitions (RFC 6487 section 7, RFC 9286 section 6,
+//! RFC 9582), and what an audit of a set gives.
+#![tactic(auto)]
+
+mod audited;
+mod laws;
+mod rules;
+
+pub use audited::{Audited, AuditedPoint, YieldedOrigin};
+pub use laws::more_vouched_stays_sound;
+pub use rules::Rule;
