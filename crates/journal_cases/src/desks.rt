@@ -121,7 +121,9 @@ fn since(alloc: Global, desk: &Desk<MemoryDisk>, told: &mut String, from: u64) -
     }
     told.push('\t')?;
     for command in desk.since(alloc, from)? {
-        let Command::UpdateRoas { added, .. } = command;
+        let Command::UpdateRoas { added, .. } = command else {
+            bail!("a command of another kind");
+        };
         for origin in added.as_slice() {
             write!(told, "/{}", origin.max)?;
         }
