@@ -1,8 +1,8 @@
 -- The laws of the formats of the extensions.
-use Rattle.std.proofs.Common.{List, ℕ, [], ◌∷◌}
+use Rattle.std.proofs.Common.{List, ℕ}
 use Rattle.der.specs.Tags as tag
 use Rattle.der_forms.specs.Form.{IsWhole, IsFront}
-use Rattle.der_forms.specs.Forms.{content, within, sole, both, only, preceded, tested}
+use Rattle.der_forms.specs.Forms.{content, sole, both, only, preceded}
 use Rattle.der_forms.specs.Leaves.{exactly}
 use Rattle.der_forms.specs.FormLaws.{content-law, within-law}
 use Rattle.der_forms.specs.SequenceLaws.{both-law, only-law}

@@ -1,6 +1,6 @@
--- The formats of a certificate's extensions but for its resources (RFC 5280 section 4.2, RFC 6487 section
--- 4.8), in the order in which they stand.
-use Rattle.std.specs.Prelude.{◌≡◌, ℕ, true, if◌then◌else◌, Option, Some, None, List, [], ◌∷◌}
+-- The formats of a certificate's extensions but for its resources (RFC 5280 section 4.2, RFC 6487
+-- section 4.8), in the order in which they stand.
+use Rattle.std.specs.Prelude.{ℕ, if◌then◌else◌, Option, Some, None, List, [], ◌∷◌}
 use Rattle.der.specs.Tags as tag
 use Rattle.der_forms.specs.Form.{Whole, Front}
 use Rattle.der_forms.specs.Forms.{content, within, sole, both, only, preceded, tested}
@@ -22,9 +22,11 @@ subject_key key = extension SUBJECT_KEY_IDENTIFIER (sole tag.octet_string (exact
 
 -- authorityKeyIdentifier: that key's, and nothing else (section 4.8.3).
 abbrev pub issuer_key : List ℕ → Front (Unit {0})
-issuer_key key = extension AUTHORITY_KEY_IDENTIFIER (sole tag.sequence (sole tag.primitive_0 (exactly key)))
+issuer_key key =
+    extension AUTHORITY_KEY_IDENTIFIER (sole tag.sequence (sole tag.primitive_0 (exactly key)))
 
--- keyUsage (section 4.8.4): an authority's key signs certificates and CRLs, an end-entity's key objects.
+-- keyUsage (section 4.8.4): an authority's key signs certificates and CRLs, an end-entity's key
+-- objects.
 abbrev pub authority_usage : List ℕ
 authority_usage = 0x03 ∷ 0x02 ∷ 0x01 ∷ 0x06 ∷ []
 
@@ -44,7 +46,8 @@ uri_in bytes = if is_uri bytes then Some bytes else None
 -- CRL distribution points: one, of one name, which is a URI (section 4.8.6).
 unfoldable pub distribution_points : Whole (List ℕ)
 distribution_points =
-    sole tag.sequence (sole tag.sequence (sole tag.context_0 (sole tag.context_0 (sole tag.primitive_6 uri))))
+    sole tag.sequence (sole tag.sequence
+    (sole tag.context_0 (sole tag.context_0 (sole tag.primitive_6 uri))))
 
 abbrev pub distribution : Front (List ℕ)
 distribution = extension DISTRIBUTION_POINTS distribution_points
@@ -63,7 +66,9 @@ issuer_information = extension AUTHORITY_INFORMATION issuer_places
 -- Subject information access of an authority: its folder, its manifest (section 4.8.8.1) and the
 -- notification file (RFC 8182 section 3.2).
 unfoldable pub authority_places : Whole (List ℕ × (List ℕ × List ℕ))
-authority_places = sole tag.sequence (both (access CA_REPOSITORY) (both (access RPKI_MANIFEST) (only (access RPKI_NOTIFY))))
+authority_places =
+    sole tag.sequence (both (access CA_REPOSITORY)
+    (both (access RPKI_MANIFEST) (only (access RPKI_NOTIFY))))
 
 abbrev pub authority_information : Front (List ℕ × (List ℕ × List ℕ))
 authority_information = extension SUBJECT_INFORMATION authority_places
@@ -78,7 +83,8 @@ entity_information = extension SUBJECT_INFORMATION entity_places
 -- Policies: the RPKI's, without qualifiers (section 4.8.9, RFC 6484 section 1.2).
 abbrev pub rpki_policies : List ℕ
 rpki_policies =
-    0x30 ∷ 0x0c ∷ 0x30 ∷ 0x0a ∷ 0x06 ∷ 0x08 ∷ 0x2b ∷ 0x06 ∷ 0x01 ∷ 0x05 ∷ 0x05 ∷ 0x07 ∷ 0x0e ∷ 0x02 ∷ []
+    0x30 ∷ 0x0c ∷ 0x30 ∷ 0x0a ∷ 0x06 ∷ 0x08 ∷
+    0x2b ∷ 0x06 ∷ 0x01 ∷ 0x05 ∷ 0x05 ∷ 0x07 ∷ 0x0e ∷ 0x02 ∷ []
 
 abbrev pub policies : Front (Unit {0})
 policies = critical_extension POLICIES (exactly rpki_policies)

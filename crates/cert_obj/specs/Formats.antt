@@ -1,5 +1,5 @@
 -- The format of a certificate (RFC 5280 section 4.1, RFC 6487 section 4).
-use Rattle.std.specs.Prelude.{◌≡◌, ℕ, ◌≤◌, Bool, true, ◌&&◌, nat_le, Option, List, [], ◌∷◌, length, take, drop, slice_index, ◌⊎◌}
+use Rattle.std.specs.Prelude.{◌≡◌, ℕ, Bool, true, ◌&&◌, nat_le, Option, List, [], ◌∷◌, length, take, drop, slice_index, ◌⊎◌}
 use Rattle.std.proofs.Common.{inl, inr}
 use Rattle.sha1.specs.Sha1.{sha1}
 use Rattle.sha2.specs.Sha256.{sha256}
@@ -31,8 +31,12 @@ unfoldable pub anchor_rest : Whole Published
 anchor_rest = preceded (key_usage authority_usage) published
 
 -- The URIs of the issuer's CRL and certificate, and what stands behind them.
-unfoldable pub issued_authority : Whole (List ℕ × (List ℕ × Published))
-issued_authority = preceded (key_usage authority_usage) (both distribution (both issuer_information published))
+abbrev pub IssuedAuthority : Type 0
+IssuedAuthority = List ℕ × (List ℕ × Published)
+
+unfoldable pub issued_authority : Whole IssuedAuthority
+issued_authority =
+    preceded (key_usage authority_usage) (both distribution (both issuer_information published))
 
 abbrev pub Entity : Type 0
 Entity = List ℕ × Option Sets
@@ -40,16 +44,22 @@ Entity = List ℕ × Option Sets
 unfoldable pub entity : Whole Entity
 entity = both entity_information (preceded policies entity_held)
 
-unfoldable pub issued_entity : Whole (List ℕ × (List ℕ × Entity))
-issued_entity = preceded (key_usage entity_usage) (both distribution (both issuer_information entity))
+abbrev pub IssuedEntity : Type 0
+IssuedEntity = List ℕ × (List ℕ × Entity)
+
+unfoldable pub issued_entity : Whole IssuedEntity
+issued_entity =
+    preceded (key_usage entity_usage) (both distribution (both issuer_information entity))
 
 -- An authority's certificate: the anchor's, or one that names the key that issued it.
-unfoldable pub authority_extensions : List ℕ → List ℕ → Whole (Published ⊎ (List ℕ × (List ℕ × Published)))
+unfoldable pub authority_extensions : List ℕ → List ℕ → Whole (Published ⊎ IssuedAuthority)
 authority_extensions issuer subject =
-    preceded basic_constraints (preceded (subject_key subject) (choice anchor_rest (preceded (issuer_key issuer) issued_authority)))
+    preceded basic_constraints (preceded (subject_key subject)
+    (choice anchor_rest (preceded (issuer_key issuer) issued_authority)))
 
-unfoldable pub entity_extensions : List ℕ → List ℕ → Whole (List ℕ × (List ℕ × Entity))
-entity_extensions issuer subject = preceded (subject_key subject) (preceded (issuer_key issuer) issued_entity)
+unfoldable pub entity_extensions : List ℕ → List ℕ → Whole IssuedEntity
+entity_extensions issuer subject =
+    preceded (subject_key subject) (preceded (issuer_key issuer) issued_entity)
 
 -- What the extensions say.
 pub record Extended : Type 0 where
@@ -63,13 +73,20 @@ pub record IsExtended (e : Extended) : Type 0 where
   pub uris : AreUris e.kind e.uris
 
 abbrev pub Kinds : Type 0
-Kinds = (Published ⊎ (List ℕ × (List ℕ × Published))) ⊎ (List ℕ × (List ℕ × Entity))
+Kinds = (Published ⊎ IssuedAuthority) ⊎ IssuedEntity
 
 abbrev pub of_kinds : Kinds → Extended
 of_kinds (inl (inl p)) = record {
   kind = Anchor;
   held = p.1;
-  uris = record { crl = []; issuer = []; folder = p.0.0; manifest = p.0.1.0; notify = p.0.1.1; object = [] };
+  uris = record {
+    crl = [];
+    issuer = [];
+    folder = p.0.0;
+    manifest = p.0.1.0;
+    notify = p.0.1.1;
+    object = [];
+  };
 }
 of_kinds (inl (inr x)) = record {
   kind = Authority;
@@ -86,7 +103,14 @@ of_kinds (inl (inr x)) = record {
 of_kinds (inr x) = record {
   kind = EndEntity;
   held = x.1.1.1;
-  uris = record { crl = x.0; issuer = x.1.0; folder = []; manifest = []; notify = []; object = x.1.1.0 };
+  uris = record {
+    crl = x.0;
+    issuer = x.1.0;
+    folder = [];
+    manifest = [];
+    notify = [];
+    object = x.1.1.0;
+  };
 }
 
 abbrev pub published_of : UriTexts → Option Sets → Published
@@ -103,7 +127,8 @@ kinds_of e = kinds_for e.kind e.uris e.held
 -- The extensions under an issuer of a subject, each by the identifier of its key.
 unfoldable pub kinds : List ℕ → List ℕ → Whole Extended
 kinds issuer subject =
-    mapped (choice (authority_extensions issuer subject) (entity_extensions issuer subject)) of_kinds kinds_of IsExtended
+    mapped (choice (authority_extensions issuer subject) (entity_extensions issuer subject))
+    of_kinds kinds_of IsExtended
 
 unfoldable pub extensions : List ℕ → List ℕ → Whole Extended
 extensions issuer subject = sole tag.context_3 (sole tag.sequence (kinds issuer subject))
@@ -113,7 +138,8 @@ extensions issuer subject = sole tag.context_3 (sole tag.sequence (kinds issuer 
 -- Whether 270 bytes are a public key (RFC 7935 section 3).
 unfoldable pub is_public_key : List ℕ → Bool
 is_public_key bytes =
-    are_same (take 9 bytes) key_header && nat_le 128 (slice_index bytes 9) && are_same (drop 265 bytes) key_exponent
+    are_same (take 9 bytes) key_header && nat_le 128 (slice_index bytes 9)
+    && are_same (drop 265 bytes) key_exponent
 
 -- Whether they are one with that identifier.
 abbrev pub is_key_of : List ℕ → List ℕ → Bool
@@ -122,7 +148,8 @@ is_key_of subject bytes = are_same (sha1 bytes) subject && is_public_key bytes
 -- The subject's key, whose identifier the subject's name has.
 unfoldable pub key_of : List ℕ → Front (List ℕ)
 key_of subject =
-    within tag.sequence (preceded key_algorithm (sole tag.bit_string (tested (octet_bits 270) (is_key_of subject))))
+    within tag.sequence (preceded key_algorithm
+    (sole tag.bit_string (tested (octet_bits 270) (is_key_of subject))))
 
 -- The subject's name, its key and the extensions.
 unfoldable pub subject : List ℕ → Whole (List ℕ × (List ℕ × Extended))
@@ -155,11 +182,14 @@ abbrev pub extended_of : CertValue → Extended
 extended_of c = record { kind = c.kind; held = c.held; uris = c.uris }
 
 abbrev pub parts_of : CertValue → Parts
-parts_of c = (c.serial, (c.issuer, ((c.not_before, c.not_after), (sha1 c.key, (c.key, extended_of c)))))
+parts_of c =
+    (c.serial, (c.issuer, ((c.not_before, c.not_after), (sha1 c.key, (c.key, extended_of c)))))
 
 -- The content of what is signed.
 unfoldable pub tbs_content : Whole CertValue
-tbs_content = mapped (preceded version (both number (preceded signature_algorithm (after name body)))) of_parts parts_of IsCert
+tbs_content =
+    mapped (preceded version (both number (preceded signature_algorithm (after name body))))
+    of_parts parts_of IsCert
 
 -- The bytes that are signed.
 unfoldable pub signed_bytes : CertValue → List ℕ
@@ -171,7 +201,8 @@ of_signed x = record { cert = x.0; digest = sha256 x.1; signature = x.2 }
 abbrev pub signed_of : SignedCert → CertValue × List ℕ × List ℕ
 signed_of y = (y.cert, signed_bytes y.cert, y.signature)
 
--- A certificate that has a spelling, the digest of the bytes that are signed, and a signature of 256 bytes.
+-- A certificate that has a spelling, the digest of the bytes that are signed, and a signature of
+-- 256 bytes.
 pub record IsSignedCert (y : SignedCert) : Type 0 where
   pub cert : IsCert y.cert
   pub digest : y.digest ≡ sha256 (signed_bytes y.cert)

@@ -1,9 +1,9 @@
 -- The laws of the formats of a certificate's resources.
-use Rattle.std.proofs.Common.{◌≡◌, ℕ, ◌+◌, ◌<◌, ◌≤◌, ◌^◌, Bool, true, false, not, ◌&&◌, leb, ltb, Option, Some, None, List, [], ◌∷◌, ◌++◌, refl, subst, arith}
+use Rattle.std.proofs.Common.{◌≡◌, ℕ, ◌+◌, ◌<◌, ◌≤◌, true, false, not, ◌&&◌, leb, ltb, Option, Some, None, List, [], ◌∷◌, ◌++◌, refl, subst, arith}
 use Rattle.std.proofs.lemmas.List.{append-nil}
 use Rattle.std.proofs.lemmas.Bool.{and_parts, leb-true, ltb-true}
 use Rattle.der_forms.specs.Form.{IsWhole, IsFront}
-use Rattle.der_forms.specs.Forms.{AreAll, OnSomeOf, ends, tested, possibly, through}
+use Rattle.der_forms.specs.Forms.{AreAll, OnSomeOf, ends, tested, possibly}
 use Rattle.der_forms.specs.FormLaws.{ends-law}
 use Rattle.der_forms.specs.ValueLaws.{IsInverse, through-law, tested-law}
 use Rattle.der_forms.specs.KindLaws.{AreFrontsApart, no_front-ends, no_front-possibly, possibly-law}

@@ -1,5 +1,5 @@
 -- The formats of a certificate's resources (RFC 6487 sections 4.8.10 and 4.8.11).
-use Rattle.std.specs.Prelude.{◌≡◌, ℕ, Bool, true, not, ◌&&◌, if◌then◌else◌, Option, Some, None, List, [], ◌∷◌}
+use Rattle.std.specs.Prelude.{ℕ, Bool, true, not, ◌&&◌, if◌then◌else◌, Option, Some, None, List, []}
 use Rattle.der_forms.specs.Form.{Whole, Front}
 use Rattle.der_forms.specs.Forms.{ends, tested, possibly, through}
 use Rattle.object_parts.specs.declared.identifiers.TheConstants.{IP_BLOCKS, AS_IDENTIFIERS}
@@ -8,7 +8,8 @@ use Rattle.res_forms.specs.Formats.{as_identifiers, ip_blocks, has_numbers}
 use Rattle.cert_obj.specs.declared.values.CertKind.TheVariants.{EndEntity}
 use Rattle.cert_obj.specs.Values.{Sets, is_empty_list, IsHeld, may_hold}
 
--- What an extension of addresses says: None where they are the issuer's, else a set of each family.
+-- What an extension of addresses says: None where they are the issuer's, else a set of each
+-- family.
 abbrev pub Addresses : Type 0
 Addresses = Option (List (ℕ × ℕ) × List (ℕ × ℕ))
 
@@ -32,8 +33,8 @@ numbers = critical_extension AS_IDENTIFIERS (tested as_identifiers has_numbers)
 abbrev pub some_sets : List (ℕ × ℕ) → List (ℕ × ℕ) → List (ℕ × ℕ) → Option (Option Sets)
 some_sets asn v4 v6 = Some (Some (record { asn = asn; v4 = v4; v6 = v6 }))
 
--- What the two extensions say together: both inherit or none does, and without an extension there are none of
--- its numbers.
+-- What the two extensions say together: both inherit or none does, and without an extension there
+-- are none of its numbers.
 abbrev pub joined : Option Addresses → Option Numbers → Option (Option Sets)
 joined None None = some_sets [] [] []
 joined None (Some None) = None
@@ -50,7 +51,8 @@ held_in x = joined x.0 x.1.0
 
 -- Sets without a number have no extension.
 abbrev pub listed_addresses : List (ℕ × ℕ) → List (ℕ × ℕ) → Option Addresses
-listed_addresses v4 v6 = if is_empty_list v4 && is_empty_list v6 then None else Some (Some (v4, v6))
+listed_addresses v4 v6 =
+    if is_empty_list v4 && is_empty_list v6 then None else Some (Some (v4, v6))
 
 abbrev pub listed_numbers : List (ℕ × ℕ) → Option Numbers
 listed_numbers asn = if is_empty_list asn then None else Some (Some asn)

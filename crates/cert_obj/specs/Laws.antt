@@ -1,15 +1,14 @@
 -- The laws of the format of a certificate.
-use Rattle.std.proofs.Common.{◌≡◌, ℕ, ◌<◌, ◌≤◌, ◌^◌, Bool, true, false, ◌&&◌, leb, Option, Some, None, List, [], ◌∷◌, ◌++◌, length, take, drop, refl, sym, ap, ◌∙◌, subst, ◌⊎◌, inl, inr}
+use Rattle.std.proofs.Common.{◌≡◌, ℕ, true, ◌&&◌, leb, Option, List, [], ◌∷◌, length, take, drop, refl, sym, ap, ◌∙◌, inl, inr}
 use Rattle.std.specs.Prelude.{slice_index}
 use Rattle.std.proofs.lemmas.Bool.{and_parts, and_from, leb-true, le-leb}
 use Rattle.sha1.specs.Sha1.{sha1}
 use Rattle.sha2.specs.Sha256.{sha256}
 use Rattle.signer_api.specs.PublicKey.{IsPublicKey, key_header, key_exponent}
 use Rattle.der.specs.Tags as tag
-use Rattle.der.specs.Grammar.{AreBytes}
-use Rattle.der_forms.specs.Form.{Whole, Front, IsWhole, IsFront}
-use Rattle.der_forms.specs.Forms.{within, sole, both, after, preceded, tested, choice, mapped, EitherOf}
-use Rattle.der_forms.specs.Leaves.{number, constant, octet_bits, are_same}
+use Rattle.der_forms.specs.Form.{IsWhole, IsFront}
+use Rattle.der_forms.specs.Forms.{sole, both, after, preceded, tested, choice, EitherOf}
+use Rattle.der_forms.specs.Leaves.{number, octet_bits, are_same}
 use Rattle.der_forms.specs.FormLaws.{within-law}
 use Rattle.der_forms.specs.SequenceLaws.{after-law, both-law}
 use Rattle.der_forms.specs.FrameLaws.{sole-law, preceded-law}
@@ -31,7 +30,7 @@ use Rattle.cert_obj.specs.ExtensionLaws.{basic_constraints-law, subject_key-law,
 use Rattle.cert_obj.specs.Holdings.{held, entity_held}
 use Rattle.cert_obj.specs.HoldingLaws.{held-law, entity_held-law}
 use Rattle.cert_obj.specs.IdentifierLaws.{sha1-length, sha1-bytes}
-use Rattle.cert_obj.specs.Formats.{Published, published, anchor_rest, issued_authority, Entity, entity, issued_entity, authority_extensions, entity_extensions, Extended, IsExtended, Kinds, of_kinds, published_of, kinds_for, kinds_of, kinds, extensions, is_public_key, is_key_of, key_of, subject, body, version, Parts, of_parts, extended_of, parts_of, tbs_content, signed_bytes, of_signed, signed_of, IsSignedCert, signed_cert}
+use Rattle.cert_obj.specs.Formats.{published, anchor_rest, issued_authority, entity, issued_entity, authority_extensions, entity_extensions, Extended, IsExtended, Kinds, of_kinds, kinds_for, kinds_of, kinds, extensions, is_public_key, is_key_of, key_of, subject, body, version, Parts, of_parts, parts_of, tbs_content, signed_bytes, of_signed, signed_of, IsSignedCert, signed_cert}
 
 -- ---- the extensions of each kind
 

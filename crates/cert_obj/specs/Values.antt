@@ -33,9 +33,9 @@ pub record UriTexts : Type 0 where
   pub notify : List ℕ
   pub object : List ℕ
 
--- What is signed (RFC 5280 section 4.1.2): serial, the 20 bytes of the identifier of the issuer's key, the
--- times, the 270 bytes of the key, and what the extensions say. The resources are None where they are the
--- issuer's.
+-- What is signed (RFC 5280 section 4.1.2): serial, the 20 bytes of the identifier of the issuer's
+-- key, the times, the 270 bytes of the key, and what the extensions say. The resources are None
+-- where they are the issuer's.
 pub record CertValue : Type 0 where
   pub serial : ℕ
   pub issuer : List ℕ
@@ -82,7 +82,8 @@ cert_value c = record {
 }
 
 abbrev pub read_value : ReadCert → SignedCert
-read_value r = record { cert = cert_value r.cert; digest = r.digest.bytes; signature = r.signature.bytes }
+read_value r =
+    record { cert = cert_value r.cert; digest = r.digest.bytes; signature = r.signature.bytes }
 
 -- ---- what has a spelling
 
@@ -153,8 +154,8 @@ may_hold Anchor held = true
 may_hold Authority held = true
 may_hold EndEntity held = has_no_numbers held
 
--- A certificate that has a spelling: its times lie in the years 2000 to 9999, it has the URIs of its kind,
--- and its resources are canonical sets.
+-- A certificate that has a spelling: its times lie in the years 2000 to 9999, it has the URIs of its
+-- kind, and its resources are canonical sets.
 pub record IsCert (c : CertValue) : Type 0 where
   pub serial : c.serial < 2 ^ 64
   pub issuer : (length c.issuer ≡ 20) × AreBytes c.issuer

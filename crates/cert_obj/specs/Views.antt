@@ -1,5 +1,5 @@
 -- What the formats see of what is read.
-use Rattle.std.specs.Prelude.{ℕ, List, Option, string_bytes, ◌⊎◌}
+use Rattle.std.specs.Prelude.{ℕ, List, string_bytes, ◌⊎◌}
 use Rattle.std.proofs.Common.{inl, inr}
 use Rattle.cert_obj.specs.declared.uris.Places.{Places}
 use Rattle.cert_obj.specs.declared.kinds.PublishedRead.{PublishedRead}
@@ -27,7 +27,8 @@ authority_value (Anchor published) = inl (published_value published)
 authority_value (Issued issued) = inr (issued_value issued)
 
 abbrev pub entity_value : EntityRead → List ℕ × (List ℕ × Entity)
-entity_value x = (string_bytes x.crl, (string_bytes x.issuer, (string_bytes x.object, held_value x.held)))
+entity_value x =
+    (string_bytes x.crl, (string_bytes x.issuer, (string_bytes x.object, held_value x.held)))
 
 abbrev pub extended_value : ExtendedRead → Extended
 extended_value e = record { kind = e.kind; held = held_value e.held; uris = uris_value e.uris }

@@ -129,3 +129,7 @@ whole (x ∷ xs) rest h some same = sym (ap (λ ys. x ∷ (xs ++ ys)) (nothing_m
 -- of lists that rise, a prefix which ends with the same serial is the whole list
 pub same_serial : (xs ys : List Sheet) → IsPrefix xs ys → rises ys ≡ true → xs ≢ [] → last_serial xs ≡ last_serial ys → xs ≡ ys
 same_serial xs ys p h some same = whole xs p.0 (ap rises p.1 ∙ h) some (same ∙ sym (ap last_serial p.1)) ∙ p.1
+
+-- what comes next begins with what was shown
+pub prefix_coming : (shown next : List Sheet) (pending : List (List Sheet)) → next ≡ coming shown pending → take (length shown) (coming shown pending) ≡ shown → IsPrefix shown next
+prefix_coming shown next pending is h = subst (IsPrefix shown) (sym is) (prefix_of_take shown (coming shown pending) h)

@@ -6,7 +6,8 @@ use Rattle.notice_board.specs.declared.sheets.SheetRow.{SheetRow}
 use Rattle.notice_board.specs.declared.sheets.ShownStage.TheVariants.{Absent}
 use Rattle.notice_board.specs.Lists.{last_sheet}
 
--- the row of an authority that the edition doesn't know: it has no key, holds nothing and publishes nothing
+-- the row of an authority that the edition doesn't know: it has no key, holds nothing and
+-- publishes nothing
 pub record IsUnknown (number : ℕ) (row : SheetRow) : Type 0 where
   pub desk : row.desk ≡ number
   pub asn : row.certified.asn.ranges ≡ []

@@ -17,8 +17,8 @@ IsKept shown views =
 abbrev pub newcomer : View
 newcomer = record { seen = []; told = [] }
 
--- showing y in the place of x, or looking: what is seen afterwards is what was shown, and begins with
--- what was seen before and with what was told of
+-- showing y in the place of x, or looking: what is seen afterwards is what was shown, and begins
+-- with what was seen before and with what was told of
 abbrev pub Looks : View → List Sheet → List Sheet → View → Type 0
 Looks v x y w =
     (w.seen ≡ y) × IsPrefix v.seen w.seen × IsPrefix v.told w.seen

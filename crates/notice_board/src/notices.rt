@@ -101,7 +101,7 @@ impl Notice {
     {
         let shown = with_one_more(&self.shown, &sheet);
         match Arc::new(alloc, sheet) {
-            Ok(sheet) => Ok(Notice { sheet, shown }),
+            Ok(next) => Ok(Notice { sheet: next, shown }),
             Err(_) => Err(AllocError),
         }
     }

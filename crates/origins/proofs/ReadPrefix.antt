@@ -13,7 +13,7 @@ pub reads_made : (text : List ℕ) (v6 : Bool) (address len : ℕ) (r : Option P
 reads_made text v6 address len None is bad = λ prefix spelled.
     let same = same_prefixes text _ _ _ _ _ _ _ _ spelled is in
     bad (subst (λ (x : Bool). IsPrefix x address len) same.v6_same
-        (subst (λ (x : ℕ). IsPrefix prefix.v6 x len) same.address_same
-        (subst (λ (x : ℕ). IsPrefix prefix.v6 prefix.address x) same.len_same prefix.prefix)))
+    (subst (λ (x : ℕ). IsPrefix prefix.v6 x len) same.address_same
+    (subst (λ (x : ℕ). IsPrefix prefix.v6 prefix.address x) same.len_same prefix.prefix)))
 reads_made text v6 address len (Some p) is has =
     rw (has.0, has.1, has.2) is

@@ -1,34 +1,34 @@
 -- The laws of the formats of the extensions.
-use Rattle.std.proofs.Common.{◌≡◌, ℕ, suc, ◌+◌, ◌-◌, ◌*◌, ◌/◌, ◌%◌, ◌^◌, ◌<◌, ◌≤◌, Bool, true, false, cond, ◌&&◌, eqb, ltb, leb, Option, Some, None, List, [], ◌∷◌, ◌++◌, length, refl, sym, ap, subst, ◌∙◌, arith, ◌⊎◌, inl, inr}
+use Rattle.std.proofs.Common.{◌≡◌, ℕ, suc, ◌-◌, ◌*◌, ◌/◌, ◌^◌, ◌<◌, ◌≤◌, Bool, true, false, cond, ◌&&◌, eqb, ltb, leb, Option, Some, None, List, [], ◌∷◌, ◌++◌, length, refl, sym, ap, subst, ◌∙◌, arith, ◌⊎◌, inl, inr}
 use Rattle.std.specs.Prelude.{is_none, zero, slice_index}
 use Rattle.std.specs.Int.{bytes_high_first}
 use Rattle.std.specs.Int.Digits.{number_from_digits}
-use Rattle.std.proofs.lemmas.Bool.{cases_lt, lt-ltb, le-ltb, ltb-true, ltb-false, lt-leb, le-leb, leb-true, eq-eqb, ne_eqb, eqb-true, and_parts, and_from, cases_eq}
+use Rattle.std.proofs.lemmas.Bool.{lt-ltb, le-ltb, ltb-true, ltb-false, le-leb, leb-true, eq-eqb, ne_eqb, eqb-true, and_parts, cases_eq}
 use Rattle.der.specs.Tags as tag
-use Rattle.der.specs.Spelling.{AreBits, spelled}
+use Rattle.der.specs.Spelling.{spelled}
 use Rattle.std.proofs.lemmas.List.{length-append}
 use Rattle.der.specs.Grammar.{AreBytes}
-use Rattle.der_forms.specs.Form.{Whole, Front, IsWhole, IsFront}
-use Rattle.der_forms.specs.Forms.{OnSomeOf, ends, within, sole, both, only, preceded, through, through_front, mapped_front, tested, tested_front, either, EitherOf, possibly, many}
+use Rattle.der_forms.specs.Form.{IsWhole, IsFront}
+use Rattle.der_forms.specs.Forms.{OnSomeOf, ends, within, both, only, preceded, mapped_front, tested, either, EitherOf, possibly, many}
 use Rattle.der_forms.specs.Leaves.{number, bits, bits_content, constant}
-use Rattle.der_forms.specs.FormLaws.{within-law, ends-law, not-nil}
-use Rattle.der_forms.specs.KindLaws.{IsNoFront, possibly-law}
+use Rattle.der_forms.specs.FormLaws.{within-law, ends-law}
+use Rattle.der_forms.specs.KindLaws.{possibly-law}
 use Rattle.der.specs.ElementLaws.{one_element, longer}
 use Rattle.der_forms.specs.FrameLaws.{sole-law, preceded-law}
 use Rattle.der_forms.specs.SequenceLaws.{both-law, only-law}
 use Rattle.der_forms.specs.ValueLaws.{IsInverse, IsBijection, through-law, through_front-law, mapped_front-law, tested-law}
 use Rattle.der_forms.specs.ChoiceLaws.{IsBegun, either-law, within-begun, within-not-begun}
 use Rattle.der_forms.specs.ListLaws.{many-law}
-use Rattle.der_forms.specs.LeafLaws.{number-law, number_content-law, bits-law, bits_content-law, constant-law}
+use Rattle.der_forms.specs.LeafLaws.{number-law, bits-law, constant-law}
 use Rattle.res_sets.specs.declared.numbers.Family.{Family}
 use Rattle.res_sets.specs.declared.numbers.Family.TheVariants.{Asn, V4, V6}
 use Rattle.res_sets.specs.Prefixes.{IsPrefixRange}
 use Rattle.res_sets.specs.Numbers.{family_end}
 use Rattle.res_forms.specs.Prefixes.{IsAddressSize, octets, spare, leading_bytes, kept, span_length}
-use Rattle.res_forms.specs.LeadingLaws.{IsLastOf, first_for_last, IsLeading, leading_found, Says, leading_said, leading_bits, kept-le, kept-first, kept-last, leading_of_last, room_for_host}
+use Rattle.res_forms.specs.LeadingLaws.{first_for_last, leading_found, leading_said, leading_bits, kept-le, kept-first, room_for_host}
 use Rattle.res_forms.specs.ByteLaws.{two_some, length-high_first}
 use Rattle.res_forms.specs.PrefixLaws.{range_of, span_length-some, span_length-found}
-use Rattle.res_forms.specs.Formats.{as_span, as_kind, as_good, as_ends, as_block, leading_in, leading_out, leading_good, leading, last_of, are_shortest, ends_in, ends_out, ends_good, address_ends, address_span, prefix_or, address_kind, address_good, address_block, block, are_canonical, blocks, choice_value, choice_kind, choice_good, choice, as_content, as_identifiers, has_numbers, family_bytes, part, ip_in, joined, listed_spans, ip_out, ip_good, ip_content, ip_blocks}
+use Rattle.res_forms.specs.Formats.{as_span, as_kind, as_good, as_ends, as_block, leading_in, leading_out, leading_good, leading, last_of, are_shortest, ends_in, ends_out, ends_good, address_ends, address_span, address_kind, address_good, address_block, block, are_canonical, blocks, choice_value, choice_kind, choice_good, choice, as_content, as_identifiers, has_numbers, family_bytes, part, ip_in, joined, listed_spans, ip_out, ip_good, ip_content, ip_blocks}
 
 -- ---- AS numbers
 

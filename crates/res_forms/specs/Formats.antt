@@ -5,7 +5,7 @@ use Rattle.std.proofs.Common.{inl, inr}
 use Rattle.std.specs.Int.Digits.{number_from_digits}
 use Rattle.der.specs.Tags as tag
 use Rattle.der_forms.specs.Form.{Whole, Front}
-use Rattle.der_forms.specs.Forms.{ends, within, sole, both, only, preceded, through, through_front, mapped_front, tested, tested_front, either, possibly, many}
+use Rattle.der_forms.specs.Forms.{ends, within, sole, both, only, preceded, through, through_front, mapped_front, tested, either, possibly, many}
 use Rattle.der_forms.specs.Leaves.{number, bits, constant}
 use Rattle.res_sets.specs.declared.numbers.Family.{Family}
 use Rattle.res_sets.specs.declared.numbers.Family.TheVariants.{Asn, V4, V6}

@@ -1,11 +1,11 @@
 -- Leading bits of addresses: read as spelled, and spelled as read.
-use Rattle.std.proofs.Common.{◌≡◌, ℕ, zero, suc, ◌+◌, ◌-◌, ◌*◌, ◌/◌, ◌%◌, ◌^◌, ◌<◌, ◌≤◌, min, Bool, true, false, cond, eqb, List, [], ◌∷◌, length, take, refl, sym, ap, subst, ◌∙◌, arith, inl, inr}
+use Rattle.std.proofs.Common.{◌≡◌, ℕ, zero, suc, ◌+◌, ◌-◌, ◌*◌, ◌/◌, ◌%◌, ◌^◌, ◌<◌, ◌≤◌, min, true, false, cond, eqb, List, [], ◌∷◌, length, take, refl, sym, ap, subst, ◌∙◌, arith, inl, inr}
 use Rattle.std.specs.Int.{bytes_high_first}
 use Rattle.std.proofs.Math.Nat.{mul-div_cancel, pow-suc, mul-mod_left}
 use Rattle.std.proofs.lemmas.Bool.{cases_lt}
 use Rattle.std.proofs.lemmas.Nat.{pow-add, shl_below, shr_below, div-mul-add, div-add-mod'}
 use Rattle.std.proofs.lemmas.Int.Digits.{number_lt}
-use lib.Count.{count_trailing_zeros, under}
+use lib.Count.{count_trailing_zeros}
 use Rattle.der.specs.Spelling.{AreBits, bits_spelling}
 use Rattle.der.specs.Grammar.{AreBytes}
 use Rattle.res_sets.specs.declared.numbers.Range.{Range}

@@ -1,5 +1,5 @@
 -- Leading bits of addresses, and the ranges of addresses that are prefixes (RFC 3779 section 2.1).
-use Rattle.std.specs.Prelude.{◌≡◌, ◌<◌, ◌≤◌, ℕ, zero, suc, ◌+◌, ◌-◌, ◌*◌, ◌/◌, ◌%◌, ◌^◌, Bool, ◌&&◌, ◌==◌, nat_le, if◌then◌else◌, Option, Some, None, List}
+use Rattle.std.specs.Prelude.{◌≡◌, ◌<◌, ◌≤◌, ℕ, zero, suc, ◌+◌, ◌-◌, ◌*◌, ◌/◌, ◌%◌, ◌^◌, Bool, ◌&&◌, ◌==◌, if◌then◌else◌, Option, Some, None, List}
 use Rattle.std.specs.Int.{bytes_high_first}
 use Rattle.der.specs.Spelling.{bits_spelling}
 pub use Rattle.res_sets.specs.Prefixes.{is_prefix, prefix_up_to, prefix_of}

@@ -64,8 +64,7 @@ canonical_without set range canonical =
     let front = RisesFrom-front 0 set.ranges range canonical.rise in
     let ordered : range.first ≤ range.last = range.ordered in
     let at_last = canonical.within range.last in
-    let has_last = any_spans-push set.ranges range range.last in
-    (
+    let has_last = any_spans-push set.ranges range range.last in (
       record {
         rise = front.0;
         within = λ n has.

@@ -26,5 +26,5 @@ returns-in-None c =
     let written = c.in_ok-written.written in
     let none : maximum ≡ None = none_told _ maximum told c.in-None.is in
     let text : IsPrefixText c.args.text.now written.v6 written.address written.length None =
-        rw (← c.as_bytes.ensures.value) (rw none at is) in
+    rw (← c.as_bytes.ensures.value) (rw none at is) in
     reads_made _ _ _ _ c.new.result text c.new.ensures

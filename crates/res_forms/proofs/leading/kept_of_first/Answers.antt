@@ -1,4 +1,4 @@
-use Rattle.std.proofs.Common.{arith, ◌∙◌, ap, ◌-◌, min, ℕ}
+use Rattle.std.proofs.Common.{arith}
 use Rattle.res_forms.specs.LeadingLaws.{zeros_kept}
 use Rattle.res_forms.proofs.leading.kept_of_first.Goals as goal
 

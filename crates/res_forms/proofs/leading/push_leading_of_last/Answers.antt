@@ -1,4 +1,4 @@
-use Rattle.std.proofs.Common.{◌≡◌, ◌∙◌, ◌++◌, ◌+◌, ◌-◌, ◌*◌, ◌/◌, ◌^◌, ◌<◌, List, ℕ, sym, ap}
+use Rattle.std.proofs.Common.{◌++◌, ◌*◌, ◌^◌, ℕ, ap}
 use Rattle.std.specs.Int.{bytes_high_first}
 use Rattle.std.proofs.lemmas.Result.{IfOk-equal}
 use Rattle.der.specs.Spelling.{bits_spelling}

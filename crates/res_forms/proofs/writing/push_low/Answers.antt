@@ -1,4 +1,4 @@
-use Rattle.std.proofs.Common.{◌≡◌, ◌∙◌, ◌++◌, ◌-◌, ◌%◌, ◌^◌, ◌≤◌, ℕ, ap, arith}
+use Rattle.std.proofs.Common.{◌∙◌, ◌++◌, ◌-◌, ◌%◌, ◌^◌, ℕ, ap, arith}
 use Rattle.std.proofs.lemmas.Result.{IfOk-equal}
 use Rattle.der.specs.Spelling.{bits_spelling}
 use Rattle.res_forms.specs.Prefixes.{leading_spelling}

@@ -15,8 +15,7 @@ invariant_of-self-2 c =
     let behind : GoesBehind set c.args.range = record { apart = omega (arith, goes.0, place); within = goes.1 } in
     let is = c.in_ok-push.ensures.items in
     let size = ap (λ (rs : List Range). length rs) is in
-    let more = length-append c.self.inside.ranges.items (c.args.range ∷ []) in
-    (
+    let more = length-append c.self.inside.ranges.items (c.args.range ∷ []) in (
       subst (λ (rs : List Range). AreCanonical c.self.inside.family rs) (sym is) (canonical_with set c.args.range invariant.0 behind),
       omega (arith, size, more, invariant.1, c.len.ensures),
     )
