@@ -1,1 +1,2 @@
 pub mod Vouching
+pub mod Accepting

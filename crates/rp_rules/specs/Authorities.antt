@@ -8,8 +8,8 @@ use Rattle.names.specs.Name.{is_name_byte}
 use Rattle.key_ids.specs.Places.{Bases}
 use Rattle.cert_obj.specs.Values.{Sets, CertValue}
 
--- The URI of its certificate, what that says, and the resources that it has: the certificate's, or the
--- issuer's where it inherits.
+-- The URI of its certificate, what that says, and its resources: the certificate's, or where that
+-- inherits the issuer's.
 pub record Authority : Type 0 where
   pub uri : List ℕ
   pub cert : CertValue
@@ -28,7 +28,8 @@ abbrev pub crl_place : Authority → List ℕ
 crl_place authority = file_place authority (encode_lower (key_id authority.cert) ++ codes ".crl")
 
 abbrev pub certificate_place : Authority → CertValue → List ℕ
-certificate_place authority cert = file_place authority (encode_lower (key_id cert) ++ codes ".cer")
+certificate_place authority cert =
+    file_place authority (encode_lower (key_id cert) ++ codes ".cer")
 
 -- The manifest of a key, in that folder.
 abbrev pub manifest_in_folder : List ℕ → CertValue → List ℕ
@@ -40,10 +41,15 @@ manifest_place authority = authority.cert.uris.manifest
 
 -- The name of an authority: 1 to 64 letters, digits, `-` and `_`.
 abbrev pub is_authority_name : List ℕ → Bool
-is_authority_name text = nat_lt 0 (length text) && nat_le (length text) 64 && list_all is_name_byte text
+is_authority_name text =
+    nat_lt 0 (length text) && nat_le (length text) 64 && list_all is_name_byte text
+
+-- What is left of a text without so many bytes in front and so many at the end.
+abbrev pub between : ℕ → ℕ → List ℕ → List ℕ
+between front back text = take (length text - (front + back)) (drop front text)
 
 -- The folder of an authority: the base, a name, and `/0/`.
 abbrev pub is_folder : Bases → List ℕ → Bool
 is_folder bases uri =
     starts_with nat_eq uri bases.rsync && ends_with nat_eq uri (codes "/0/")
-    && is_authority_name (take (length uri - (length bases.rsync + 3)) (drop (length bases.rsync) uri))
+    && is_authority_name (between (length bases.rsync) 3 uri)

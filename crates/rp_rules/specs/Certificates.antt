@@ -17,7 +17,7 @@ use Rattle.rp_rules.specs.Authorities.{Authority, key_id, crl_place, certificate
 abbrev pub Vouched : Type 0
 Vouched = List ℕ → List ℕ → List ℕ → Bool
 
--- How a set is looked at: which signatures are vouched, the key of the anchor, the bases, and the moment.
+-- How a set is looked at: which signatures are vouched, the anchor's key, the bases, the moment.
 pub record Setting : Type 0 where
   pub vouched : Vouched
   pub anchor : List ℕ
@@ -52,7 +52,8 @@ names_issuer issuer cert = bytes_eq cert.issuer (key_id issuer.cert)
 
 -- The places of the issuer's CRL and certificate (RFC 6487 sections 4.8.6 and 4.8.7).
 abbrev pub places_issuer : Authority → CertValue → Bool
-places_issuer issuer cert = bytes_eq cert.uris.crl (crl_place issuer) && bytes_eq cert.uris.issuer issuer.uri
+places_issuer issuer cert =
+    bytes_eq cert.uris.crl (crl_place issuer) && bytes_eq cert.uris.issuer issuer.uri
 
 abbrev pub is_among : List (List ℕ) → List ℕ → Bool
 is_among uris uri = list_any (λ other. bytes_eq other uri) uris
@@ -94,7 +95,7 @@ accepted_anchor s held =
 abbrev pub File : Type 0
 File = List ℕ × List ℕ
 
--- The bytes of a listed file, which is in the set and has the hash (RFC 9286 sections 6.4 and 6.5).
+-- The bytes of a listed file, which is in the set and has the hash (RFC 9286 sections 6.4, 6.5).
 unfoldable pub listed_bytes : Contents → List ℕ → File → Checked (List ℕ)
 listed_bytes held uri file =
     found uri rule.Missing (held uri) >>= (λ bytes.
@@ -102,11 +103,12 @@ listed_bytes held uri file =
 
 -- ---- an authority's certificate
 
--- Its own place, and those that it names: the folder of some name, the manifest of its key there, and the
--- notification file.
+-- Its own place, and those that it names: the folder of some name, the manifest of its key there,
+-- and the notification file.
 abbrev pub authority_places : Bases → Authority → List ℕ → CertValue → Bool
 authority_places bases issuer uri cert =
-    places_issuer issuer cert && bytes_eq uri (certificate_place issuer cert) && is_folder bases cert.uris.folder
+    places_issuer issuer cert && bytes_eq uri (certificate_place issuer cert)
+    && is_folder bases cert.uris.folder
     && bytes_eq cert.uris.manifest (manifest_in_folder cert.uris.folder cert)
     && bytes_eq cert.uris.notify (notify_uri bases)
 
@@ -114,7 +116,8 @@ authority_places bases issuer uri cert =
 abbrev pub is_held_under : Sets → Option Sets → Bool
 is_held_under issuers held = are_inside (held_under issuers held) issuers
 
-abbrev pub authority_tests : Setting → Authority → List CrlEntry → List (List ℕ) → List ℕ → SignedCert → List Test
+abbrev pub authority_tests : Setting → Authority → List CrlEntry → List (List ℕ) → List ℕ
+    → SignedCert → List Test
 authority_tests s issuer revoked visited uri c =
     (rule.Signature, is_signed_under s issuer c)
     ∷ (rule.Identity, names_issuer issuer c.cert)
@@ -126,10 +129,12 @@ authority_tests s issuer revoked visited uri c =
     ∷ []
 
 abbrev pub authority_of : Authority → List ℕ → SignedCert → Authority
-authority_of issuer uri c = record { uri = uri; cert = c.cert; held = held_under issuer.held c.cert.held }
+authority_of issuer uri c =
+    record { uri = uri; cert = c.cert; held = held_under issuer.held c.cert.held }
 
 -- The certificate that an issuer lists, under its CRL's entries, once these URIs are visited.
-unfoldable pub accepted_authority : Setting → Contents → Authority → List CrlEntry → List (List ℕ) → File → Checked Authority
+unfoldable pub accepted_authority : Setting → Contents → Authority → List CrlEntry
+    → List (List ℕ) → File → Checked Authority
 accepted_authority s held issuer revoked visited file =
     let uri = file_place issuer file.0 in
     listed_bytes held uri file >>= (λ bytes.

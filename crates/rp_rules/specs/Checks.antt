@@ -24,7 +24,7 @@ abbrev pub ◌>>=◌ : {A B : Type 0} → Checked A → (A → Checked B) → Ch
 abbrev pub Test : Type 0
 Test = Rule × Bool
 
--- What is accepted where each rule is kept. The first that is broken refuses the object at the URI.
+-- What is accepted where each rule is kept. The first one broken refuses the object at the URI.
 abbrev pub tested : {A : Type 0} → List ℕ → List Test → A → Checked A
 tested uri [] x = Ok x
 tested uri (test ∷ tests) x = if test.1 then tested uri tests x else refused uri test.0

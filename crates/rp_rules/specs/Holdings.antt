@@ -9,8 +9,8 @@ use Rattle.cert_obj.specs.Values.{Sets}
 abbrev pub Span : Type 0
 Span = ℕ × ℕ
 
--- One range of the set has the whole span. The ranges of a set are neither adjacent nor do they overlap,
--- so that is so exactly where the set has each number of the span.
+-- One range of the set has the whole span. The ranges of a set are neither adjacent nor do they
+-- overlap, so that is so exactly where the set has each number of the span.
 abbrev pub has_span : List Span → Span → Bool
 has_span set span = list_any (λ range. nat_le range.0 span.0 && nat_le span.1 range.1) set
 

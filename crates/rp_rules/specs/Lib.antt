@@ -6,6 +6,7 @@ pub mod Authorities
 pub mod Certificates
 pub mod Points
 pub mod Walk
+pub mod Accepted
 pub mod Yield
 pub mod Views
 pub mod Sound

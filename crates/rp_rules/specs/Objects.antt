@@ -38,6 +38,9 @@ is_authoritys c = is_issued c.cert.kind && is_authority c.cert.kind
 abbrev pub is_entitys : SignedCert → Bool
 is_entitys c = is_entity c.cert.kind
 
+abbrev pub entity_in : List ℕ → Option SignedCert
+entity_in bytes = such is_entitys (certificate_in bytes)
+
 abbrev pub crl_in : List ℕ → Option SignedCrl
 crl_in bytes = value_in (read_object signed_crl bytes)
 
@@ -49,18 +52,20 @@ pub record Signed (Body : Type 0) : Type 0 where
   pub certificate : SignedCert
   pub body : Body
 
-abbrev pub signed_with : {Body : Type 0} → ObjectValue → Option SignedCert → Option Body → Option (Signed Body)
+abbrev pub signed_with : {Body : Type 0} → ObjectValue → Option SignedCert → Option Body
+    → Option (Signed Body)
 signed_with object None body = None
 signed_with object (Some certificate) None = None
 signed_with object (Some certificate) (Some body) =
     Some (record { object = object; certificate = certificate; body = body })
 
 -- The signed object of a kind whose contents are read so.
-abbrev pub signed_of : {Body : Type 0} → (ObjectKind → Bool) → (List ℕ → Option Body) → Option ObjectValue → Option (Signed Body)
+abbrev pub signed_of : {Body : Type 0} → (ObjectKind → Bool) → (List ℕ → Option Body)
+    → Option ObjectValue → Option (Signed Body)
 signed_of is_kind body None = None
 signed_of is_kind body (Some object) =
     if is_kind object.kind
-    then signed_with object (such is_entitys (certificate_in object.certificate)) (body object.content)
+    then signed_with object (entity_in object.certificate) (body object.content)
     else None
 
 abbrev pub object_in : List ℕ → Option ObjectValue
@@ -82,7 +87,8 @@ abbrev pub SignedRoa : Type 0
 SignedRoa = Signed (ℕ × List Entry)
 
 abbrev pub manifest_in : List ℕ → Option SignedManifest
-manifest_in bytes = signed_of is_manifest (λ content. value_in (manifest_read content)) (object_in bytes)
+manifest_in bytes =
+    signed_of is_manifest (λ content. value_in (manifest_read content)) (object_in bytes)
 
 abbrev pub roa_in : List ℕ → Option SignedRoa
 roa_in bytes = signed_of is_roa (λ content. value_in (roa_read content)) (object_in bytes)

@@ -1,5 +1,5 @@
--- Accepted publication points (RFC 9286 section 6): the manifest of an authority, the CRL that it lists, and
--- the ROAs (RFC 6488 section 3, RFC 9582 section 5).
+-- Accepted publication points (RFC 9286 section 6): the manifest of an authority, the CRL that it
+-- lists, and the ROAs (RFC 6488 section 3, RFC 9582 section 5).
 use Rattle.std.specs.Prelude.{ℕ, ◌==◌, Bool, true, not, ◌&&◌, ◌||◌, is_some, is_none, nat_eq, List, [], ◌∷◌, ◌++◌, Option, None, Some, length, map, codes}
 use Rattle.std.specs.List.{list_all, filter, ends_with}
 use Rattle.std.specs.Str.{bytes_eq}
@@ -62,7 +62,8 @@ is_list authority manifest =
 
 -- The update interval (RFC 9286 section 6.3), and the certificate's validity.
 abbrev pub is_current : ℕ → SignedManifest → Bool
-is_current moment m = is_valid_at moment m.certificate.cert && lies_in moment m.body.1.0 m.body.1.1.0
+is_current moment m =
+    is_valid_at moment m.certificate.cert && lies_in moment m.body.1.0 m.body.1.1.0
 
 abbrev pub manifest_tests : Setting → Authority → List (List ℕ) → SignedManifest → List Test
 manifest_tests s authority visited m =
@@ -75,7 +76,8 @@ manifest_tests s authority visited m =
     ∷ (rule.Depth, not (is_among visited (manifest_place authority)))
     ∷ []
 
-unfoldable pub accepted_manifest : Setting → Contents → Authority → List (List ℕ) → Checked SignedManifest
+unfoldable pub accepted_manifest : Setting → Contents → Authority → List (List ℕ)
+    → Checked SignedManifest
 accepted_manifest s held authority visited =
     let uri = manifest_place authority in
     found uri rule.Missing (held uri) >>= (λ bytes.
@@ -93,7 +95,8 @@ crl_tests s authority visited uri c =
     ∷ (rule.Depth, not (is_among visited uri))
     ∷ []
 
-unfoldable pub accepted_crl : Setting → Contents → Authority → List (List ℕ) → File → Checked CrlValue
+unfoldable pub accepted_crl : Setting → Contents → Authority → List (List ℕ) → File
+    → Checked CrlValue
 accepted_crl s held authority visited file =
     let uri = file_place authority file.0 in
     listed_bytes held uri file >>= (λ bytes.
@@ -135,7 +138,7 @@ accepted_point s held authority visited =
 
 -- ---- ROAs
 
--- The certificate has resources of its own, which are inside the issuer's, and the prefixes are inside them.
+-- The certificate has resources of its own, which are inside the issuer's and have the prefixes.
 abbrev pub roa_resources : Authority → SignedRoa → Bool
 roa_resources issuer r =
     is_some r.certificate.cert.held && is_held_under issuer.held r.certificate.cert.held

@@ -21,9 +21,10 @@ IsSound s objects = (visits : List Visit) × IsSoundBy s objects visits
 
 -- The first refusal of the walk.
 abbrev pub IsRefused : Setting → List Object → List ℕ → Rule → Type 0
-IsRefused s objects uri rule = walk s (content_at objects) ≡ Err (record { uri = uri; rule = rule })
+IsRefused s objects uri rule =
+    walk s (content_at objects) ≡ Err (record { uri = uri; rule = rule })
 
--- Nothing is refused, and this is the least URI that isn't visited: a set's objects stand by rising URI.
+-- Nothing is refused, and this is the least URI that isn't visited: objects stand by rising URI.
 pub record IsUnreached (s : Setting) (objects : List Object) (uri : List ℕ) : Type 0 where
   pub visits : List Visit
   pub walk : walk s (content_at objects) ≡ Ok visits

@@ -1,5 +1,5 @@
--- The walk of a relying party: depth first from the anchor's certificate, an authority's manifest, its CRL,
--- and then the other files in the order of the list.
+-- The walk of a relying party: depth first from the anchor's certificate, an authority's manifest,
+-- its CRL, and then the other files in the order of the list.
 use Rattle.std.specs.Prelude.{ℕ, zero, suc, if◌then◌else◌, List, [], ◌∷◌, ◌++◌, Ok}
 use Rattle.std.specs.List.{flat_map}
 use Rattle.pub_set.specs.Changes.{Contents}
@@ -10,7 +10,8 @@ use Rattle.rp_rules.specs.Authorities.{Authority, file_place, crl_place, manifes
 use Rattle.rp_rules.specs.Certificates.{Setting, File, accepted_anchor, accepted_authority}
 use Rattle.rp_rules.specs.Points.{Point, is_certificate_file, other_files, accepted_point, accepted_roa}
 
--- What is accepted: an authority's certificate, its manifest and its CRL, a ROA of an authority at a URI.
+-- What is accepted: an authority's certificate; its manifest and its CRL; a ROA of an authority at
+-- a URI.
 pub data Visit : Type 0 where
   Certificate : Authority → Visit
   Published : Point → Visit
@@ -30,21 +31,23 @@ abbrev pub Below : Type 0
 Below = Authority → List Visit → Checked (List Visit)
 
 -- A listed file of a point: a certificate, below which the walk goes on, or a ROA.
-unfoldable pub visit_file : Setting → Contents → Below → Point → File → List Visit → Checked (List Visit)
+unfoldable pub visit_file : Setting → Contents → Below → Point → File → List Visit
+    → Checked (List Visit)
 visit_file s held below p file visits =
     if is_certificate_file file
-    then accepted_authority s held p.authority p.crl.entries (visited visits) file >>= (λ authority.
-    below authority (visits ++ Certificate authority ∷ []))
+    then accepted_authority s held p.authority p.crl.entries (visited visits) file >>= (λ child.
+    below child (visits ++ Certificate child ∷ []))
     else accepted_roa s held p (visited visits) file >>= (λ roa.
     Ok (visits ++ Route p.authority (file_place p.authority file.0) roa ∷ []))
 
 -- One file after another.
-unfoldable pub visit_files : Setting → Contents → Below → Point → List File → List Visit → Checked (List Visit)
+unfoldable pub visit_files : Setting → Contents → Below → Point → List File → List Visit
+    → Checked (List Visit)
 visit_files s held below p [] visits = Ok visits
 visit_files s held below p (file ∷ files) visits =
     visit_file s held below p file visits >>= visit_files s held below p files
 
--- An authority's point and what it lists, with so many levels left. No authority is below the last one.
+-- An authority's point and what it lists, with so many levels left. The authority's own is one.
 unfoldable pub visit_below : ℕ → Setting → Contents → Authority → List Visit → Checked (List Visit)
 visit_below zero s held authority visits = refused authority.uri rule.Depth
 visit_below (suc levels) s held authority visits =

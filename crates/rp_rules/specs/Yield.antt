@@ -13,15 +13,18 @@ use Rattle.rp_rules.specs.Walk.{Visit, Certificate, Published, Route}
 
 -- ---- origins (RFC 9582 section 4)
 
--- An AS may announce the prefix of an entry, up to its maximum: by a ROA of the authority of that folder.
+-- An AS may announce the prefix of an entry, up to its maximum, by the authority of that folder.
 pub record Yielded : Type 0 where
   pub folder : List ℕ
   pub asn : ℕ
   pub entry : Entry
 
+abbrev pub yielded_of : List ℕ → ℕ → Entry → Yielded
+yielded_of folder asn entry = record { folder = folder; asn = asn; entry = entry }
+
 abbrev pub yield_of : Authority → SignedRoa → List Yielded
 yield_of authority roa =
-    map (λ entry. record { folder = authority.cert.uris.folder; asn = roa.body.0; entry = entry }) roa.body.1
+    map (yielded_of authority.cert.uris.folder roa.body.0) roa.body.1
 
 abbrev pub yielded_by : Visit → List Yielded
 yielded_by (Certificate authority) = []
@@ -46,7 +49,9 @@ roa_serial (Some r) = r.certificate.cert.serial
 abbrev pub serial_in : File → Option (List ℕ) → ℕ
 serial_in file None = 0
 serial_in file (Some bytes) =
-    if is_certificate_file file then serial_of (certificate_in bytes) else roa_serial (roa_in bytes)
+    if is_certificate_file file
+    then serial_of (certificate_in bytes)
+    else roa_serial (roa_in bytes)
 
 -- The serial of the certificate that a listed file is, or that it holds.
 abbrev pub listed_serial : Contents → Point → File → ℕ
@@ -56,15 +61,15 @@ listed_serial held p file = serial_in file (held (file_place p.authority file.0)
 abbrev pub own_serial : CertValue → ℕ
 own_serial cert = if is_issued cert.kind then 0 else cert.serial
 
--- The greatest serial under a key: of what the point lists, of its manifest's certificate, and of the anchor's
--- own.
+-- The greatest serial under a key: of what the point lists, of its manifest's certificate, and of
+-- the anchor's own.
 abbrev pub greatest_serial : Contents → Point → ℕ
 greatest_serial held p =
     fold max (max (own_serial p.authority.cert) p.manifest.certificate.cert.serial)
     (map (listed_serial held p) (other_files p))
 
--- A point: its key, the number of manifest and CRL, when the CRL was made, the greatest serial, the CRL's
--- entries.
+-- A point: its key, the number of manifest and CRL, when the CRL was made, the greatest serial,
+-- the CRL's entries.
 pub record PointValue : Type 0 where
   pub key : List ℕ
   pub number : ℕ

@@ -7,5 +7,5 @@ mod laws;
 mod rules;
 
 pub use audited::{Audited, AuditedPoint, YieldedOrigin};
-pub use laws::more_vouched_stays_sound;
+pub use laws::{more_vouched_stays_sound, visits_are_accepted};
 pub use rules::Rule;
