@@ -1,7 +1,7 @@
 //! Lists of origins and commands from texts and as texts.
 
 use crate::first_field;
-use anyhow::{Context, Result};
+use anyhow::{Context, Result, bail};
 use authority_book::{Command, OriginList};
 use origins::{Origin, read_origin};
 use std::alloc::Global;
@@ -52,5 +52,6 @@ pub fn push_command(alloc: Global, text: &mut String, command: &Command) -> Resu
             push_origins(alloc, text, " +", added.as_slice())?;
             push_origins(alloc, text, " -", removed.as_slice())
         }
+        _ => bail!("a command that changes no origins"),
     }
 }
