@@ -25,6 +25,12 @@ pub trait LineHandler {
             × (out.new.items ≡ out.old.items ++ reply)) }
         ensures err { OnErr result ((self.new ≡ self.old) × (out.new.items ≡ out.old.items)) };
 
+    /// Whether the replies that wait are given before this line is answered, as they are to be where
+    /// the answer takes long. It is asked where replies wait, and of no longer line.
+    fn takes_long(&self, _line: &[u8]) -> bool {
+        false
+    }
+
     /// Answers a longer line, whose bytes were not kept: with one reply, whichever they were. It
     /// changes nothing that a reply acknowledges.
     fn refuse_long(&mut self, alloc: Global, out: &mut Vec<u8>) -> Result<(), AllocError>
@@ -82,6 +88,16 @@ pub(crate) fn answer_next<H: LineHandler>(
     let changes = answer_line(alloc, handler, window, n, out)?;
     window.drop_line(n);
     Ok(Some(changes))
+}
+
+/// Whether the first pending line has ended, and the handler takes long over it.
+pub(crate) fn next_takes_long<H: LineHandler>(handler: &H, window: &mut Window) -> bool
+    ensures same { window.new ≡ window.old }
+{
+    match window.find_line() {
+        Some(n) if n <= LINE_LIMIT && !window.skips() => handler.takes_long(window.front(n)),
+        _ => false,
+    }
 }
 
 /// Answers what is pending as the input's last line.

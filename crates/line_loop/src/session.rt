@@ -8,7 +8,7 @@ ghost use Rattle.line_loop.specs.Pending.{NoFeed, IsTail};
 ghost use Rattle.line_loop.specs.Progress.{Advances, Interrupts, InterruptsLast};
 ghost use Rattle.line_loop.specs.Session.{Serves, end_of};
 
-use crate::answering::{answer_last, answer_next};
+use crate::answering::{answer_last, answer_next, next_takes_long};
 use crate::window::Window;
 use crate::{LineHandler, REPLIES_LIMIT, SESSION_LIMIT, Sink, SinkStop, Source, SourceStop};
 use std::alloc::{AllocError, Global};
@@ -64,7 +64,7 @@ fn give_and_stop<K: Sink>(alloc: Global, sink: &mut K, out: &mut Vec<u8>) -> Sin
 }
 
 // Answers pending lines, and says whether more may have ended: it stops after a line that changed
-// anything, and where the replies are many.
+// anything, where the replies are many, and before a line that takes long.
 fn answer_batch<H: LineHandler>(
     alloc: Global,
     handler: &mut H,
@@ -81,6 +81,9 @@ fn answer_batch<H: LineHandler>(
             None => return Ok(false),
             Some(changes) => {
                 if changes || out.len() >= REPLIES_LIMIT {
+                    return Ok(true);
+                }
+                if next_takes_long(handler, window) {
                     return Ok(true);
                 }
             }

@@ -10,7 +10,7 @@ use line_loop::{
 use std::alloc::{AllocError, Global};
 use std::io::Cursor;
 
-/// A line that begins with an `a` changes something.
+/// A line that begins with an `a` changes something, and one that begins with a `w` takes long.
 #[derive(Drop)]
 struct Echo;
 
@@ -31,6 +31,10 @@ impl LineHandler for Echo {
             return Err(AllocError);
         }
         Ok(line.first() == Some(&b'a'))
+    }
+
+    fn takes_long(&self, line: &[u8]) -> bool {
+        line.first() == Some(&b'w')
     }
 
     fn refuse_long(&mut self, _alloc: Global, out: &mut Vec<u8>) -> Result<(), AllocError> {

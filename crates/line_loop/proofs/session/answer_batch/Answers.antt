@@ -1,5 +1,7 @@
-use Rattle.std.proofs.Common.{Bool, List, ℕ, length, ap, subst, arith}
-use Rattle.line_loop.specs.Progress.{AnswersOne, Advances}
+use Rattle.std.proofs.Common.{Bool, List, ℕ, length, ap, sym, subst, arith}
+use Rattle.line_loop.specs.Pending.{Pending}
+use Rattle.line_loop.specs.Replies.{AnswersAtMostOne}
+use Rattle.line_loop.specs.Progress.{AnswersOne, AnswersQuietly, Advances}
 use Rattle.line_loop.proofs.Steps.{quiet_start, quiet_line, quiet_end, last_line}
 use Rattle.line_loop.proofs.session.answer_batch.Goals as goal
 
@@ -28,14 +30,24 @@ returns-then-changes-clause-batch g c =
     last_line g.H.LineHandler.answers c.in-Some.changes c.args.handler.now c.args.window.now c.lines.out.items c.lines.handler c.lines.window
     a.0 c.answer_next.new.out.items c.answer_next.new.handler c.answer_next.new.window c.lines.invariant.quiet a.1 a.2
 
+pub returns-then-next_takes_long-clause-batch : goal.returns-then-next_takes_long-clause-batch
+returns-then-next_takes_long-clause-batch g c =
+    let a = rw c.in-Some.is at c.in_ok-answer_next.ensures.answered in
+    subst (λ (w : Pending). Advances (AnswersAtMostOne g.H.LineHandler.answers) c.args.handler.now c.args.window.now c.answer_next.new.out.items c.answer_next.new.handler w)
+    (sym c.next_takes_long.ensures.same)
+    (last_line g.H.LineHandler.answers c.in-Some.changes c.args.handler.now c.args.window.now c.lines.out.items c.lines.handler c.lines.window
+    a.0 c.answer_next.new.out.items c.answer_next.new.handler c.answer_next.new.window c.lines.invariant.quiet a.1 a.2)
+
 pub lines-preserved : goal.lines-preserved
 lines-preserved g c =
     let a = rw c.in-Some.is at c.in_ok-answer_next.ensures.answered in
     let fewer = rw c.in-Some.is at c.in_ok-answer_next.ensures.fewer in
     record {
-      quiet = quiet_line g.H.LineHandler.answers c.args.handler.now c.args.window.now c.lines.out.items c.lines.handler c.lines.window
+      quiet = subst (λ (w : Pending). Advances (AnswersQuietly g.H.LineHandler.answers) c.args.handler.now c.args.window.now c.answer_next.new.out.items c.answer_next.new.handler w)
+          (sym c.next_takes_long.ensures.same)
+          (quiet_line g.H.LineHandler.answers c.args.handler.now c.args.window.now c.lines.out.items c.lines.handler c.lines.window
           a.0 c.answer_next.new.out.items c.answer_next.new.handler c.answer_next.new.window c.lines.invariant.quiet a.1
-          (subst (λ (b : Bool). Advances (AnswersOne g.H.LineHandler.answers b) c.lines.handler c.lines.window a.0 c.answer_next.new.handler c.answer_next.new.window) c.if-changes.false a.2);
-      no_longer = omega (arith, fewer, c.lines.invariant.no_longer);
+          (subst (λ (b : Bool). Advances (AnswersOne g.H.LineHandler.answers b) c.lines.handler c.lines.window a.0 c.answer_next.new.handler c.answer_next.new.window) c.if-changes.false a.2));
+      no_longer = omega (arith, fewer, c.lines.invariant.no_longer, ap (λ (w : Pending). length w.bytes) c.next_takes_long.ensures.same);
       few = omega (arith, c.len.ensures, c.if-len-ge-REPLIES_LIMIT.false);
     }
