@@ -1,45 +1,11 @@
 -- AS numbers, with and without the mark.
-use Rattle.std.proofs.Common.{◌≡◌, ℕ, ◌^◌, ◌<◌, ◌≤◌, List, [], ◌∷◌, ◌++◌, take, drop, take-append-drop, refl, sym, subst, ◌∙◌, arith, inl, inr, Result, Ok, Err}
-use Rattle.std.proofs.lemmas.Bool.Decides.{nat_tests}
-use Rattle.std.specs.Char.{to_ascii_lowercase}
+use Rattle.std.proofs.Common.{◌≡◌, ℕ, ◌^◌, ◌<◌, List, take, drop, take-append-drop, sym, subst, arith, inl, inr, Result, Ok, Err}
 use Rattle.std.specs.Prelude.{OkIff}
 use Rattle.std.specs.Result.{result_ok}
 use Rattle.ip_text.specs.Reader.{Reads}
-use Rattle.ip_text.specs.Number.{IsDecimalText, IsSaturatedText, IsAsMark, FollowsMark, IsBareOrMarked, IsAsNumberText}
-use Rattle.ip_text.proofs.Decimals.{front_text, same_decimals}
-
--- no digit is a letter
-digit_is_lower : (d : ℕ) → d ≤ 57 → to_ascii_lowercase d ≡ d
-digit_is_lower d h = grind (arith, nat_tests)
-
--- a decimal number begins with a digit, and not with the mark
-bare_has_none : (text : List ℕ) (n : ℕ) → IsDecimalText text n → IsAsMark (take 2 text) → ⊥
-bare_has_none [] n is mark = cc
-bare_has_none (d ∷ []) n is mark = cc
-bare_has_none (d ∷ e ∷ ds) n is mark =
-    let front = front_text (d ∷ e ∷ ds) n is in
-    let same : to_ascii_lowercase d ≡ 97 = cc in
-    let lower = digit_is_lower d front.high in
-    omega (arith, front.high)
-
--- what stands behind a mark
-marked : (mark digits text : List ℕ) → IsAsMark mark → text ≡ mark ++ digits → (take 2 text ≡ mark) × (drop 2 text ≡ digits)
-marked [] digits text is e = absurd cc
-marked (a ∷ []) digits text is e = absurd cc
-marked (a ∷ s ∷ []) digits text is e = rw e (refl, refl)
-marked (a ∷ s ∷ t ∷ rest) digits text is e = absurd cc
-
-spelled_follows : (text rest : List ℕ) (n : ℕ) → FollowsMark text rest → IsBareOrMarked text n → IsDecimalText rest n
-spelled_follows text rest n (inl (mark, e)) (inl bare) = absurd (bare_has_none text n bare mark)
-spelled_follows text rest n (inr (none, e)) (inl bare) = subst (λ t. IsDecimalText t n) (sym e) bare
-spelled_follows text rest n (inl (mark, e)) (inr (m, ds, is, spelled, number)) =
-    subst (λ t. IsDecimalText t n) (sym (e ∙ (marked m ds text is spelled).1)) number
-spelled_follows text rest n (inr (none, e)) (inr (m, ds, is, spelled, number)) =
-    absurd (none (subst IsAsMark (sym (marked m ds text is spelled).0) is))
-
--- an AS number is what follows the mark
-pub number_follows : (text rest : List ℕ) (n : ℕ) → FollowsMark text rest → IsAsNumberText text n → IsDecimalText rest n
-number_follows text rest n follows is = spelled_follows text rest n follows is.spelled
+use Rattle.ip_text.specs.Number.{IsDecimalText, IsSaturatedText, FollowsMark, IsAsNumberText}
+use Rattle.ip_text.specs.NumberLaws.{one_decimal}
+use Rattle.ip_text.specs.AsNumberLaws.{number_follows}
 
 -- and what follows the mark is one, where it fits
 follows_number : (text rest : List ℕ) (n : ℕ) → FollowsMark text rest → n < 2 ^ 32 → IsDecimalText rest n → IsAsNumberText text n
@@ -56,17 +22,5 @@ reads_as_number text rest told (Ok v) follows is small =
     let same : v ≡ is.number = omega (arith, is.value, small) in
     follows_number text rest v follows (omega (arith, is.value, small)) (subst (IsDecimalText rest) (sym same) is.written)
 reads_as_number text rest told (Err e) follows is large = λ k number.
-    let same = same_decimals rest is.number k is.written (number_follows text rest k follows number) in
+    let same = one_decimal rest is.number k is.written (number_follows text rest k follows number) in
     large (omega (arith, is.value, same, number.fits))
-
--- no text writes two AS numbers
-same_spelled : (text : List ℕ) (m n : ℕ) → IsBareOrMarked text m → IsBareOrMarked text n → m ≡ n
-same_spelled text m n (inl a) (inl b) = same_decimals text m n a b
-same_spelled text m n (inl a) (inr (k, ds, mark, e, b)) = absurd (bare_has_none text m a (subst IsAsMark (sym (marked k ds text mark e).0) mark))
-same_spelled text m n (inr (k, ds, mark, e, a)) (inl b) = absurd (bare_has_none text n b (subst IsAsMark (sym (marked k ds text mark e).0) mark))
-same_spelled text m n (inr (k, ds, mark, e, a)) (inr (k', ds', mark', e', b)) =
-    let same : ds ≡ ds' = sym (marked k ds text mark e).1 ∙ (marked k' ds' text mark' e').1 in
-    same_decimals ds' m n (subst (λ t. IsDecimalText t m) same a) b
-
-pub same_numbers : (text : List ℕ) (m n : ℕ) → IsAsNumberText text m → IsAsNumberText text n → m ≡ n
-same_numbers text m n a b = same_spelled text m n a.spelled b.spelled

@@ -1,17 +1,12 @@
 -- std's dotted addresses, as numbers.
 use Rattle.std.proofs.Common.{◌≡◌, ℕ, zero, suc, lit<, ◌^◌, ◌<◌, List, [], ◌∷◌, length, get_or, refl, sym, ap, ◌∙◌, arith}
-use Rattle.std.proofs.lemmas.Nat.{be_bytes_4, from_be_bytes-to_be_bytes_4}
-use Rattle.std.proofs.NetLemmas.Theorems.{IsIpv4Text_unique}
-use Rattle.std.specs.Int.{w32, to_be_bytes, from_be_bytes}
+use Rattle.std.proofs.lemmas.Nat.{be_bytes_4}
+use Rattle.std.specs.Int.{w32, to_be_bytes}
 use Rattle.std.specs.declared.net.ipv4_addr.Ipv4Addr.{Ipv4Addr}
 use Rattle.std.specs.Net.Addr.{ipv4_octets, ipv4_bits}
 use Rattle.std.specs.Net.Grammar.{IsDotted}
 use Rattle.std.specs.Net.Text.{ipv4_text}
 use Rattle.ip_text.specs.Ipv4.{IsIpv4Text}
-
--- the octets of an address
-abbrev pub addr_of : ℕ → Ipv4Addr
-addr_of n = record { octets = to_be_bytes w32 n }
 
 within_four : (a b c d i : ℕ) → a < 256 → b < 256 → c < 256 → d < 256 → get_or (a ∷ b ∷ c ∷ d ∷ []) i 0 < 256
 within_four a b c d zero p q r s = p
@@ -19,18 +14,6 @@ within_four a b c d (suc zero) p q r s = q
 within_four a b c d (suc (suc zero)) p q r s = r
 within_four a b c d (suc (suc (suc zero))) p q r s = s
 within_four a b c d (suc (suc (suc (suc i)))) p q r s = lit< tt
-
--- an address that std's grammar has, as bytes
-pub to_dotted : (text : List ℕ) (n : ℕ) → IsIpv4Text text n → IsDotted text (to_be_bytes w32 n)
-to_dotted text n h = record {
-  a = get_or (to_be_bytes w32 n) 0 0;
-  b = get_or (to_be_bytes w32 n) 1 0;
-  c = get_or (to_be_bytes w32 n) 2 0;
-  d = get_or (to_be_bytes w32 n) 3 0;
-  fit = (omega arith, omega arith, omega arith, omega arith);
-  value = refl;
-  spelled = h.1;
-}
 
 octets_fit : (o : List ℕ) (text : List ℕ) → IsDotted text o → (length o ≡ 4) × ((i : ℕ) → get_or o i 0 < 256)
 octets_fit o text h =
@@ -53,10 +36,3 @@ bits_fit text a h =
 
 pub bits_of_dotted : (text : List ℕ) (a : Ipv4Addr) → IsDotted text (ipv4_octets a) → IsIpv4Text text (ipv4_bits a)
 bits_of_dotted text a h = (bits_fit text a h, dotted_is text (ipv4_octets a) h ∙ ap ipv4_text (sym (from_dotted text a h)))
-
--- no text is two addresses
-pub same_addresses : (text : List ℕ) (m n : ℕ) → IsIpv4Text text m → IsIpv4Text text n → m ≡ n
-same_addresses text m n a b =
-    let one = IsIpv4Text_unique text (addr_of m) (addr_of n) (to_dotted text m a) (to_dotted text n b) in
-    let bytes : to_be_bytes w32 m ≡ to_be_bytes w32 n = ap ipv4_octets one in
-    sym (from_be_bytes-to_be_bytes_4 m a.0) ∙ (ap (from_be_bytes w32) bytes ∙ from_be_bytes-to_be_bytes_4 n b.0)

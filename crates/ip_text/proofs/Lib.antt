@@ -2,5 +2,4 @@ pub mod Answers
 pub mod Decimals
 pub mod AsNumbers
 pub mod Dotted
-pub mod Bytes
-pub mod HexGroups
+pub mod Dots

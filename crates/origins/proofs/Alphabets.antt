@@ -10,7 +10,7 @@ use Rattle.std.specs.List.{AllByRecursion}
 use Rattle.std.specs.Str.Parse.{AllDigits}
 use Rattle.ip_text.specs.Number.{IsDecimalText, IsAsMark, IsAsNumberText}
 use Rattle.ip_text.specs.Ipv4.{dotted}
-use Rattle.ip_text.proofs.HexGroups.{eight_all}
+use Rattle.ip_text.specs.Ipv6Laws.{each_group_byte}
 use Rattle.origins.specs.Fronts.{is_blank, is_none_of, Passes, Stops}
 use Rattle.origins.specs.Text.{IsAddressText}
 
@@ -61,7 +61,7 @@ pub passes_address : (p : ℕ → Bool) → ((c : ℕ) → IsAddressByte c → p
 passes_address p h text false address is =
     rw is.1 (passes_each p h (dotted address) (recursion_from_All IsDigitOrDot _ (All-ipv4_text (to_be_bytes w32 address) (bytes_fit address))))
 passes_address p h text true address is =
-    eight_all (λ c. p c ≡ true) (λ c hex. h c (hex_is_address c hex)) (h 58 colon_is_address) text is.groups is.spelled
+    each_group_byte (λ c. p c ≡ true) (λ c hex. h c (hex_is_address c hex)) (h 58 colon_is_address) text is.groups is.spelled
 
 -- digits, and bytes of an address, are no hyphen, slash, blank or equals sign
 pub digit_no_hyphen : (c : ℕ) → 48 ≤ c → c ≤ 57 → is_none_of (45 ∷ []) c ≡ true

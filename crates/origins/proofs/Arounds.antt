@@ -4,7 +4,7 @@ use Rattle.std.proofs.lemmas.Bool.Decides.{eqb_tells}
 use Rattle.std.specs.List.{AllByRecursion, prefix_len}
 use Rattle.origins.specs.Fronts.{is_blank, is_none_of, Passes, Stops, IsAround}
 use Rattle.origins.specs.Text.{IsBlank, IsOriginText, Parts}
-use Rattle.ip_text.proofs.AsNumbers.{same_numbers}
+use Rattle.ip_text.specs.AsNumberLaws.{one_as_number}
 use Rattle.origins.proofs.FrontLemmas.{front_is, back_is, front_and_back, front_passes, back_stops}
 use Rattle.origins.proofs.Alphabets.{as_number_stops}
 use Rattle.origins.proofs.Prefixes.{passes_prefix, same_prefixes}
@@ -115,5 +115,5 @@ pub same_origin_texts : (text : List ℕ) (p q : Parts) → IsOriginText text p 
 same_origin_texts text p q a b =
     let around = same_around text _ _ _ _ (to_around text p a) (to_around text q b) in
     let prefix = same_prefixes _ _ _ _ _ _ _ _ _ (rw (← around.0) a.prefix_is) b.prefix_is in
-    let number = same_numbers _ p.asn q.asn (rw (← around.1) a.asn_is) b.asn_is in
+    let number = one_as_number _ p.asn q.asn (rw (← around.1) a.asn_is) b.asn_is in
     λ i. record { v6 = prefix.v6_same i; address = prefix.address_same i; len = prefix.len_same i; maximum = prefix.maximum_same i; asn = number i }

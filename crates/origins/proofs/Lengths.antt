@@ -3,7 +3,7 @@ use Rattle.std.proofs.Common.{◌≡◌, ℕ, Bool, false, List, [], ◌∷◌, 
 use Rattle.std.proofs.lemmas.Bool.Decides.{nat_tests}
 use Rattle.std.specs.List.{prefix_len}
 use Rattle.ip_text.specs.Number.{IsDecimalText}
-use Rattle.ip_text.proofs.Decimals.{same_decimals}
+use Rattle.ip_text.specs.NumberLaws.{one_decimal}
 use Rattle.origins.specs.Fronts.{is_none_of, Stops}
 use Rattle.origins.specs.Text.{IsLengthsText}
 use Rattle.origins.proofs.FrontLemmas.{front_is, back_is, front_and_back, back_stops}
@@ -65,10 +65,10 @@ same_tails text None None a b = refl
 same_tails text None (Some n) a (ds, e, b) = absurd cc
 same_tails text (Some m) None (ds, e, a) b = absurd cc
 same_tails text (Some m) (Some n) (ds, e, a) (es, f, b) =
-    let same : ds ≡ es = cc in ap Some (same_decimals es m n (subst (λ t. IsDecimalText t m) same a) b)
+    let same : ds ≡ es = cc in ap Some (one_decimal es m n (subst (λ t. IsDecimalText t m) same a) b)
 
 pub same_lengths : (text : List ℕ) (l l' : ℕ) (m m' : Option ℕ) → IsLengthsText text l m → IsLengthsText text l' m' → (l ≡ l') × (m ≡ m')
 same_lengths text l l' m m' a b =
     let sa = lengths_split text l m a in
     let sb = lengths_split text l' m' b in
-    (same_decimals _ l l' sa.0 sb.0, same_tails _ m m' sa.1 sb.1)
+    (one_decimal _ l l' sa.0 sb.0, same_tails _ m m' sa.1 sb.1)

@@ -1,8 +1,8 @@
 -- An address, and the lengths after a slash.
 use Rattle.std.proofs.Common.{◌≡◌, ℕ, ◌≤◌, ◌<◌, ◌^◌, Some, None, Bool, true, false, List, [], ◌∷◌, ◌++◌, take, drop, Option, refl, sym, ap, ◌∙◌, append_assoc}
 use Rattle.std.specs.List.{prefix_len}
-use Rattle.ip_text.proofs.Dotted.{same_addresses as same_ipv4}
-use Rattle.ip_text.proofs.HexGroups.{same_ipv6, ipv4_or_ipv6}
+use Rattle.ip_text.specs.Ipv4Laws.{one_ipv4}
+use Rattle.ip_text.specs.Ipv6Laws.{one_ipv6, one_family}
 use Rattle.origins.specs.Prefix.{address_bits}
 use Rattle.origins.specs.Fronts.{is_none_of, Passes}
 use Rattle.origins.specs.Text.{IsAddressText, IsLengthsText, IsPrefixText}
@@ -58,10 +58,10 @@ lengths_after front back lengths v6 address len maximum e is =
     let same : lengths ≡ is.lengths = cc in rw same is.lengths_are
 
 pub same_addresses : (text : List ℕ) (v6 w6 : Bool) (a b : ℕ) → IsAddressText text v6 a → IsAddressText text w6 b → (v6 ≡ w6) × (a ≡ b)
-same_addresses text false false a b p q = (refl, same_ipv4 text a b p q)
-same_addresses text true true a b p q = (refl, same_ipv6 text a b p q)
-same_addresses text false true a b p q = absurd (ipv4_or_ipv6 text a b p q)
-same_addresses text true false a b p q = absurd (ipv4_or_ipv6 text b a q p)
+same_addresses text false false a b p q = (refl, one_ipv4 text a b p q)
+same_addresses text true true a b p q = (refl, one_ipv6 text a b p q)
+same_addresses text false true a b p q = absurd (one_family text a b p q)
+same_addresses text true false a b p q = absurd (one_family text b a q p)
 
 pub address_fits : (text : List ℕ) (v6 : Bool) (address : ℕ) → IsAddressText text v6 address → address < 2 ^ address_bits v6
 address_fits text false address is = is.0

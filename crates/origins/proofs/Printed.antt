@@ -1,8 +1,8 @@
 -- What is printed of an origin is in the grammar.
 use Rattle.std.proofs.Common.{◌≡◌, ℕ, ◌^◌, ◌<◌, ◌≤◌, Bool, true, false, cond, ◌==◌, List, [], ◌∷◌, ◌++◌, Some, None, unwrap_or, decimal, refl, sym, subst, inl, arith, eqb-true, append-nil, append_assoc}
 use Rattle.ip_text.specs.Number.{IsDecimalText}
-use Rattle.ip_text.proofs.Decimals.{decimal_text}
-use Rattle.ip_text.proofs.HexGroups.{printed}
+use Rattle.ip_text.specs.NumberLaws.{decimal_text}
+use Rattle.ip_text.specs.Ipv6Laws.{own_ipv6_text}
 use Rattle.origins.specs.Prefix.{address_bits}
 use Rattle.origins.specs.Text.{Parts, IsAddressText, IsLengthsText, IsOriginText}
 use Rattle.origins.specs.Origin.{SpellsOrigin, address_text, maximum_text, origin_text}
@@ -20,7 +20,7 @@ kept_maximum len max false e = refl
 
 address_fits : (v6 : Bool) (address : ℕ) → address < 2 ^ address_bits v6 → IsAddressText (address_text v6 address) v6 address
 address_fits false address fits = (fits, refl)
-address_fits true address fits = printed address fits
+address_fits true address fits = own_ipv6_text address fits
 
 short_fits : (v6 : Bool) (n : ℕ) → n ≤ address_bits v6 → n < 2 ^ 32
 short_fits false n h = omega arith

@@ -1,5 +1,5 @@
 -- What parts make, they make alone.
-use Rattle.std.proofs.Common.{◌≡◌, ℕ, Bool, List, Result, Ok, Err, sym, ap, ◌∙◌}
+use Rattle.std.proofs.Common.{◌≡◌, ℕ, List, Result, Ok, Err, sym, ap, ◌∙◌}
 use Rattle.origins.specs.Text.{Parts, IsOriginText}
 use Rattle.origins.specs.Same.{same_prefix, same_origin}
 use Rattle.origins.specs.Origin.{HasParts, MakesOrigin, SpellsOrigin}

@@ -6,7 +6,6 @@ use Rattle.std.specs.declared.cmp.Ordering.TheVariants.{Less, Equal, Greater}
 use Rattle.std.specs.Ordering.{nat_cmp, bool_cmp, ordering_then}
 use Rattle.std.proofs.lemmas.Map.Lookups.{CmpEqualImpliesEq, exact_unsigned}
 use Rattle.origins.specs.declared.Prefix.{Prefix}
-use Rattle.origins.specs.declared.Origin.{Origin}
 use Rattle.origins.specs.Order.{prefix_cmp, origin_cmp}
 use Rattle.origins.specs.Same.{same_prefix, same_origin}
 

@@ -1,4 +1,5 @@
-pub mod Prefixes
-pub mod Blocks
-pub mod Spelling
-pub mod Outcome
+pub mod Extensions
+pub mod Answers
+pub mod AnswerLaws
+pub mod FamilyLaws
+pub mod WrittenLaws

@@ -4,7 +4,9 @@ use Rattle.std.proofs.lemmas.Bool.{and_from, and_parts, le-leb, leb-true, lt-ltb
 use Rattle.res_sets.specs.declared.numbers.Family.{Family}
 use Rattle.res_sets.specs.declared.numbers.Range.{Range}
 use Rattle.res_sets.specs.Numbers.{family_end, spans, any_spans, RisesFrom, AreCanonical}
-use Rattle.res_forms.specs.Formats.{span_of, are_canonical, if_canonical, has_numbers}
+use Rattle.der_forms.specs.Forms.{AreAll}
+use Rattle.res_sets.specs.declared.numbers.Family.TheVariants.{Asn, V4, V6}
+use Rattle.res_forms.specs.Formats.{span_of, as_block, address_block, block, blocks, are_canonical, if_canonical, has_numbers}
 use Rattle.std.specs.Prelude.{◌↔◌, IsSome, IfSome}
 use Rattle.std.specs.Option.{option_map}
 use Rattle.res_sets.specs.Sets.{RangeSet}
@@ -81,3 +83,25 @@ some-told (r ∷ rs) false there back = refl
 -- Whether a set that stands there has a number.
 pub numbers_told : (set : RangeSet) (o : Option RangeSet) (b : Bool) → o ≡ Some set → (b ≡ true → set.ranges ≡ []) × (set.ranges ≡ [] → b ≡ true) → not b ≡ has_numbers (option_map (λ s. map span_of s.ranges) o)
 numbers_told set o b is told = some-told set.ranges b told.0 told.1 ∙ ap (λ (x : Option RangeSet). has_numbers (option_map (λ s. map span_of s.ranges) x)) (sym is)
+
+-- ---- a canonical list has a spelling
+
+one-good : (family : Family) (span : ℕ × ℕ) → span.0 ≤ span.1 → span.1 < family_end family → (block family).good span
+unfolding as_block address_block
+one-good Asn span order below = (order, omega (arith, below))
+one-good V4 span order below = (order, below)
+one-good V6 span order below = (order, below)
+
+all-good : (family : Family) (low : ℕ) (spans : List (ℕ × ℕ)) → are_canonical (family_end family) low spans ≡ true
+    → AreAll (block family).good spans
+all-good family low [] e = tt
+all-good family low (span ∷ spans) e =
+    let a = and_parts (leb low span.0 && leb span.0 span.1 && ltb span.1 (family_end family)) (are_canonical (family_end family) (span.1 + 2) spans) e in
+    let b = and_parts (leb low span.0 && leb span.0 span.1) (ltb span.1 (family_end family)) a.0 in
+    let c = and_parts (leb low span.0) (leb span.0 span.1) b.0 in
+    (one-good family span (leb-true _ _ c.1) (ltb-true _ _ b.1), all-good family (span.1 + 2) spans a.1)
+
+pub canonical_good : (family : Family) (spans : List (ℕ × ℕ)) → are_canonical (family_end family) 0 spans ≡ true
+    → (blocks family).good spans
+unfolding blocks
+canonical_good family spans e = (all-good family 0 spans e, e)

@@ -11,6 +11,7 @@ mod values;
 mod writing;
 
 pub use as_reading::{as_content, as_identifiers};
+pub use choices::{family_number, family_part};
 pub use ip_reading::{ip_blocks, ip_content};
 pub use leading::{kept_of_first, kept_of_last, push_leading, push_leading_of_last};
 pub use values::{AsRead, IpRead};

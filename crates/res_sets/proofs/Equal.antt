@@ -1,5 +1,5 @@
 -- Ranges are equal where their ends are.
-use Rattle.std.proofs.Common.{◌≡◌, ◌==◌, ◌&&◌, true, ap}
+use Rattle.std.proofs.Common.{◌≡◌, ◌==◌, ◌&&◌, ap}
 use Rattle.std.specs.Bool.{Decides}
 use Rattle.std.proofs.lemmas.Bool.{and_parts, and_from, eqb-true, eq-eqb}
 use Rattle.res_sets.specs.declared.numbers.Range.{Range}

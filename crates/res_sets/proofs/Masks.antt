@@ -1,8 +1,7 @@
 -- Powers of two, masks and the ranges that are prefixes.
-use Rattle.std.proofs.Common.{◌≡◌, ℕ, ◌+◌, ◌-◌, ◌*◌, ◌/◌, ◌%◌, ◌^◌, ◌<◌, ◌≤◌, inl, inr, bit_and, refl, ap, sym, subst, ◌∙◌, arith}
-use Rattle.std.proofs.Math.Nat.{mul-le-mul_right, div-add-mod}
+use Rattle.std.proofs.Common.{◌≡◌, ℕ, ◌+◌, ◌-◌, ◌*◌, ◌%◌, ◌^◌, ◌<◌, ◌≤◌, inl, inr, bit_and, refl, ap, sym, subst, ◌∙◌, arith}
 use Rattle.std.proofs.lemmas.Bool.{cases_lt}
-use Rattle.std.proofs.lemmas.Nat.{and_mask, pow-add, pow_below, shr_below, leading_length}
+use Rattle.std.proofs.lemmas.Nat.{and_mask, pow-add, pow_below, leading_length}
 use lib.Count.{count_leading_zeros}
 pub use Rattle.res_sets.specs.Laws.{room_above}
 use Rattle.res_sets.specs.declared.numbers.Range.{Range}

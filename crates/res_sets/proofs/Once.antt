@@ -4,7 +4,7 @@ use Rattle.std.specs.Bool.{MatchBool}
 use Rattle.std.specs.List.{list_any, before_first, after_first}
 use Rattle.ip_text.specs.Number.{IsDecimalText, IsAsNumberText}
 use Rattle.ip_text.specs.Ipv4.{IsIpv4Text}
-use Rattle.ip_text.proofs.Decimals.{same_decimals}
+use Rattle.ip_text.specs.NumberLaws.{one_decimal}
 use Rattle.ip_text.specs.Ipv6.{IsIpv6Text}
 use Rattle.res_sets.specs.declared.numbers.Family.{Family}
 use Rattle.res_sets.specs.declared.numbers.Family.TheVariants.{Asn, V4, V6}
@@ -87,7 +87,7 @@ address_once once bits family block r s =
     let After : ℕ → Type 0 = IsDecimalText (after_first is_slash block) in
     let Whole : ℕ → Type 0 = Writes family block in
     either_once (λ x. ReadsPrefix bits Before After (Ok x)) (λ x. ReadsNumber Whole (Ok x)) (list_any is_slash block) r s
-    (prefix_once bits Before After r s (writes_once once family (before_first is_slash block)) (same_decimals (after_first is_slash block)))
+    (prefix_once bits Before After r s (writes_once once family (before_first is_slash block)) (one_decimal (after_first is_slash block)))
     (number_once Whole r s (writes_once once family block))
 
 one_once : NumbersOnce → (family : Family) (block : List ℕ) (r s : Range) → ReadsOne family block (Ok r) → ReadsOne family block (Ok s) → r ≡ s
@@ -109,7 +109,7 @@ address_no_fault once bits family block r fault =
     let After : ℕ → Type 0 = IsDecimalText (after_first is_slash block) in
     let Whole : ℕ → Type 0 = Writes family block in
     from_either (ReadsPrefix bits Before After (Ok r)) (ReadsNumber Whole (Ok r)) (ReadsPrefix bits Before After (Err fault)) (ReadsNumber Whole (Err fault)) ⊥ (list_any is_slash block)
-    (prefix_no_fault bits Before After r fault (writes_once once family (before_first is_slash block)) (same_decimals (after_first is_slash block)))
+    (prefix_no_fault bits Before After r fault (writes_once once family (before_first is_slash block)) (one_decimal (after_first is_slash block)))
     (number_no_fault Whole r fault)
 
 one_no_fault : NumbersOnce → (family : Family) (block : List ℕ) (r : Range) (fault : BlockFault) → ReadsOne family block (Ok r) → ReadsOne family block (Err fault) → ⊥
@@ -190,7 +190,7 @@ address_one_fault bits family block f g =
     let After : ℕ → Type 0 = IsDecimalText (after_first is_slash block) in
     let Whole : ℕ → Type 0 = Writes family block in
     from_either (ReadsPrefix bits Before After (Err f)) (ReadsNumber Whole (Err f)) (ReadsPrefix bits Before After (Err g)) (ReadsNumber Whole (Err g)) (f ≡ g) (list_any is_slash block)
-    (prefix_one_fault bits Before After f g (same_decimals (after_first is_slash block)))
+    (prefix_one_fault bits Before After f g (one_decimal (after_first is_slash block)))
     (number_one_fault Whole f g)
 
 one_one_fault : (family : Family) (block : List ℕ) (f g : BlockFault) → ReadsOne family block (Err f) → ReadsOne family block (Err g) → f ≡ g

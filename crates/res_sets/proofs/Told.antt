@@ -2,7 +2,7 @@
 use Rattle.std.proofs.Common.{◌≡◌, ℕ, ◌-◌, ◌%◌, ◌^◌, ◌≤◌, List, Option, Some, None, MatchOption, Result, Ok, Err, refl, sym, ap, subst, ◌∙◌, arith}
 use Rattle.std.specs.Option.{IsSomeAnd, ok_or}
 use Rattle.ip_text.specs.Reader.{Reads}
-use Rattle.ip_text.proofs.Decimals.{told as told_text}
+use Rattle.ip_text.specs.NumberLaws.{saturated_text}
 use Rattle.ip_text.specs.Number.{IsDecimalText, IsSaturatedText}
 use Rattle.res_sets.specs.declared.numbers.Range.{Range}
 use Rattle.res_sets.specs.declared.prefixes.BlockFault.{BlockFault}
@@ -37,7 +37,7 @@ pub untold : (Address : ℕ → Type 0) (bits : ℕ) (text : List ℕ) (told : O
     → ReadsPrefix bits Address (IsDecimalText text) (Err fault)
 untold Address bits text None fault reads is =
     let same : fault ≡ BadNumber = cc in
-    subst (λ f. ReadsPrefix bits Address (IsDecimalText text) (Err f)) (sym same) (λ m len _ written. reads _ (told_text text len written))
+    subst (λ f. ReadsPrefix bits Address (IsDecimalText text) (Err f)) (sym same) (λ m len _ written. reads _ (saturated_text text len written))
 untold Address bits text (Some told) fault reads is = absurd cc
 
 -- what a reader answered

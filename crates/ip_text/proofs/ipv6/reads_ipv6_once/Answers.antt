@@ -1,5 +1,5 @@
-use Rattle.ip_text.proofs.HexGroups.{same_ipv6}
+use Rattle.ip_text.specs.Ipv6Laws.{one_ipv6}
 use Rattle.ip_text.proofs.ipv6.reads_ipv6_once.Goals as goal
 
 pub returns : goal.returns
-returns c = same_ipv6
+returns c = one_ipv6

@@ -1,5 +1,5 @@
-use Rattle.ip_text.proofs.HexGroups.{printed}
+use Rattle.ip_text.specs.Ipv6Laws.{own_ipv6_text}
 use Rattle.ip_text.proofs.ipv6.reads_own_ipv6_text.Goals as goal
 
 pub returns : goal.returns
-returns c = printed
+returns c = own_ipv6_text

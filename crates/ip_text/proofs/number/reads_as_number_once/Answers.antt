@@ -1,5 +1,5 @@
-use Rattle.ip_text.proofs.AsNumbers.{same_numbers}
+use Rattle.ip_text.specs.AsNumberLaws.{one_as_number}
 use Rattle.ip_text.proofs.number.reads_as_number_once.Goals as goal
 
 pub returns : goal.returns
-returns c = same_numbers
+returns c = one_as_number

@@ -1,5 +1,5 @@
 use Rattle.std.proofs.Common.{ℕ, Option, Some, None, refl, sym, ◌∙◌, ap}
-use Rattle.ip_text.proofs.Decimals.{told}
+use Rattle.ip_text.specs.NumberLaws.{saturated_text}
 use Rattle.origins.specs.Told.{IsTold}
 use Rattle.origins.proofs.Lengths.{IsTail, from_hyphen, lengths_split, lengths_join, tail_is, tail_ends}
 use Rattle.origins.proofs.grammar.read_lengths.Goals as goal
@@ -9,11 +9,11 @@ pub returns-in_err-read_saturating-in-Some : goal.returns-in_err-read_saturating
 returns-in_err-read_saturating-in-Some c = rw c.from_residual.ensures (λ len maximum is.
     let tail = (lengths_split c.args.text.now len maximum is).1 in
     let found = tail_is _ c.in-Some.digits.now maximum (sym c.split_before.ensures.back ∙ c.in-Some.ensures) tail in
-    c.in_err-read_saturating-in-Some.ensures _ (told _ found.0 found.2))
+    c.in_err-read_saturating-in-Some.ensures _ (saturated_text _ found.0 found.2))
 
 pub returns-in_err-read_saturating : goal.returns-in_err-read_saturating
 returns-in_err-read_saturating c = rw c.from_residual-in_err-read_saturating.ensures (λ len maximum is.
-    c.in_err-read_saturating.ensures _ (told _ len (rw c.split_before.ensures.front (lengths_split c.args.text.now len maximum is).0)))
+    c.in_err-read_saturating.ensures _ (saturated_text _ len (rw c.split_before.ensures.front (lengths_split c.args.text.now len maximum is).0)))
 
 pub returns : goal.returns
 returns c =

@@ -1,5 +1,7 @@
-use Rattle.res_ext.proofs.Apart.{one_as}
+use Rattle.res_forms.specs.Formats.{as_content}
+use Rattle.res_forms.specs.FormatLaws.{as_content-law}
+use Rattle.res_ext.specs.AnswerLaws.{one-value}
 use Rattle.res_ext.proofs.laws.one_as.Goals as goal
 
 pub returns : goal.returns
-returns c = one_as
+returns c a b bytes fits = one-value as_content as_content-law a b bytes fits

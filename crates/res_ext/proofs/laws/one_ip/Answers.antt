@@ -1,8 +1,11 @@
-use Rattle.res_ext.proofs.Apart.{one_ip, no_fault}
+use Rattle.res_forms.specs.Formats.{ip_content}
+use Rattle.res_forms.specs.FormatLaws.{ip_content-law}
+use Rattle.res_ext.specs.AnswerLaws.{one-value}
+use Rattle.res_ext.specs.FamilyLaws.{no-fault}
 use Rattle.res_ext.proofs.laws.one_ip.Goals as goal
 
 pub returns-clause-value : goal.returns-clause-value
-returns-clause-value c = one_ip
+returns-clause-value c a b bytes fits = one-value ip_content ip_content-law a b bytes fits
 
 pub returns-clause-no_fault : goal.returns-clause-no_fault
-returns-clause-no_fault c = no_fault
+returns-clause-no_fault c value bytes fits = no-fault value bytes fits

@@ -1,4 +1,4 @@
-use Rattle.std.proofs.Common.{◌≡◌, ◌<◌, ◌^◌, subst, sym, ap, List, ◌∷◌, [], ◌++◌, length, refl, arith, length-append}
+use Rattle.std.proofs.Common.{subst, sym, ap, List, ◌∷◌, [], length, refl, arith, length-append}
 use Rattle.res_sets.specs.declared.numbers.Range.{Range}
 use Rattle.res_sets.specs.Numbers.{AreCanonical}
 use Rattle.res_sets.specs.Merging.{room_from}
