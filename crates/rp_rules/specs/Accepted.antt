@@ -1,42 +1,69 @@
--- What is visited is accepted: of which issuer or authority, once which URIs were visited.
-use Rattle.std.specs.Prelude.{◌≡◌, ℕ, List, Ok, ◌⊎◌}
-use Rattle.std.specs.List.{AllByRecursion}
+-- What is visited is accepted: an authority's certificate and a ROA are files of a point that is
+-- visited before, a point is that of an authority whose certificate is visited before.
+use Rattle.std.specs.Prelude.{◌≡◌, ℕ, true, false, List, [], ◌∷◌, ◌++◌, Some, Ok, ◌⊎◌}
+use Rattle.std.specs.List.{Contains}
+use Rattle.sha2.specs.Sha256.{sha256}
 use Rattle.pub_set.specs.Changes.{Contents}
 use Rattle.rp_rules.specs.Objects.{SignedRoa}
 use Rattle.rp_rules.specs.Authorities.{Authority, file_place}
-use Rattle.rp_rules.specs.Certificates.{Setting, File, accepted_anchor, accepted_authority}
-use Rattle.rp_rules.specs.Points.{Point, accepted_point, accepted_roa}
-use Rattle.rp_rules.specs.Walk.{Visit, Certificate, Published, Route}
+use Rattle.rp_rules.specs.Certificates.{Setting, File, is_among, accepted_anchor, accepted_authority}
+use Rattle.rp_rules.specs.Points.{Point, is_certificate_file, other_files, accepted_point, accepted_roa}
+use Rattle.rp_rules.specs.Walk.{Visit, Certificate, Published, Route, visited}
 
--- The certificate is one that an authority lists.
-pub record IsListed (s : Setting) (held : Contents) (child : Authority) : Type 0 where
+-- The certificate is the anchor's, and nothing is visited before.
+abbrev pub IsFirst : Setting → Contents → List Visit → Authority → Type 0
+IsFirst s held before authority = (before ≡ []) × (accepted_anchor s held ≡ Ok authority)
+
+-- The certificate is a file of a point visited before: accepted under that point's authority and
+-- the entries of its CRL, once these were visited.
+pub record IsListed (s : Setting) (held : Contents) (before : List Visit) (child : Authority)
+    : Type 0 where
   pub issuer : Point
-  pub before : List (List ℕ)
+  pub known : Contains before (Published issuer)
   pub file : File
+  pub listed : Contains (other_files issuer) file
+  pub kind : is_certificate_file file ≡ true
   pub accepted :
-      accepted_authority s held issuer.authority issuer.crl.entries before file ≡ Ok child
+      accepted_authority s held issuer.authority issuer.crl.entries (visited before) file
+      ≡ Ok child
 
--- The point is an authority's.
-pub record IsPublished (s : Setting) (held : Contents) (p : Point) : Type 0 where
-  pub authority : Authority
-  pub before : List (List ℕ)
-  pub accepted : accepted_point s held authority before ≡ Ok p
+-- The point is that of an authority whose certificate is visited before.
+pub record IsPublished (s : Setting) (held : Contents) (before : List Visit) (p : Point)
+    : Type 0 where
+  pub known : Contains before (Certificate p.authority)
+  pub accepted : accepted_point s held p.authority (visited before) ≡ Ok p
 
--- The ROA is one that the authority lists, at that URI.
-pub record IsRoute (s : Setting) (held : Contents) (authority : Authority) (place : List ℕ)
-    (roa : SignedRoa) : Type 0 where
+-- The ROA is a file, at that URI, of a point of the authority that is visited before: accepted
+-- under it and the entries of its CRL, once these were visited.
+pub record IsRoute (s : Setting) (held : Contents) (before : List Visit) (authority : Authority)
+    (place : List ℕ) (roa : SignedRoa) : Type 0 where
   pub issuer : Point
-  pub before : List (List ℕ)
-  pub file : File
+  pub known : Contains before (Published issuer)
   pub above : issuer.authority ≡ authority
+  pub file : File
+  pub listed : Contains (other_files issuer) file
+  pub kind : is_certificate_file file ≡ false
   pub there : file_place authority file.0 ≡ place
-  pub accepted : accepted_roa s held issuer before file ≡ Ok roa
+  pub accepted : accepted_roa s held issuer (visited before) file ≡ Ok roa
 
-abbrev pub IsAccepted : Setting → Contents → Visit → Type 0
-IsAccepted s held (Certificate authority) =
-    (accepted_anchor s held ≡ Ok authority) ⊎ IsListed s held authority
-IsAccepted s held (Published p) = IsPublished s held p
-IsAccepted s held (Route authority uri roa) = IsRoute s held authority uri roa
+abbrev pub IsAccepted : Setting → Contents → List Visit → Visit → Type 0
+IsAccepted s held before (Certificate authority) =
+    IsFirst s held before authority ⊎ IsListed s held before authority
+IsAccepted s held before (Published p) = IsPublished s held before p
+IsAccepted s held before (Route authority uri roa) = IsRoute s held before authority uri roa
 
+-- Each visit is accepted, after those before it.
 abbrev pub AreAccepted : Setting → Contents → List Visit → Type 0
-AreAccepted s held visits = AllByRecursion (IsAccepted s held) visits
+AreAccepted s held visits = (before : List Visit) (visit : Visit) (after : List Visit)
+    → visits ≡ before ++ visit ∷ after → IsAccepted s held before visit
+
+-- ---- files of a point
+
+-- A listed file is there in the authority's folder, has the listed hash, and is visited (RFC 9286
+-- sections 6.4 and 6.5).
+pub record IsReached (held : Contents) (visits : List Visit) (p : Point) (file : File)
+    : Type 0 where
+  pub bytes : List ℕ
+  pub there : held (file_place p.authority file.0) ≡ Some bytes
+  pub hash : sha256 bytes ≡ file.1
+  pub reached : is_among (visited visits) (file_place p.authority file.0) ≡ true

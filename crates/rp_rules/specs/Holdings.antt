@@ -1,4 +1,4 @@
--- Number resources inside others (RFC 3779 sections 2.3 and 3.3, RFC 6487 section 7.2).
+-- Number resources inside others (RFC 3779 sections 2.3 and 3.3, RFC 6487 section 7.1).
 use Rattle.std.specs.Prelude.{ℕ, ◌+◌, ◌-◌, ◌^◌, Bool, ◌&&◌, nat_le, if◌then◌else◌, List, [], Option, None, Some}
 use Rattle.std.specs.List.{list_all, list_any}
 use Rattle.origins.specs.Prefix.{address_bits}
@@ -13,6 +13,10 @@ Span = ℕ × ℕ
 -- overlap, so that is so exactly where the set has each number of the span.
 abbrev pub has_span : List Span → Span → Bool
 has_span set span = list_any (λ range. nat_le range.0 span.0 && nat_le span.1 range.1) set
+
+-- A number lies in a range of the set.
+abbrev pub has_number : List Span → ℕ → Bool
+has_number set n = list_any (λ range. nat_le range.0 n && nat_le n range.1) set
 
 abbrev pub is_inside : List Span → List Span → Bool
 is_inside set other = list_all (λ span. has_span other span) set

@@ -2,7 +2,7 @@
 use Rattle.std.specs.Prelude.{◌≡◌, ℕ, Bool, true, not, List, length, Some, Ok, Err}
 use Rattle.std.specs.List.{list_all, find}
 use Rattle.pub_set.specs.declared.objects.Object.{Object}
-use Rattle.pub_set.specs.Objects.{content_at}
+use Rattle.pub_set.specs.Objects.{content_at, IsAscending}
 use Rattle.rp_rules.specs.declared.rules.Rule.{Rule}
 use Rattle.rp_rules.specs.Certificates.{Setting, is_among}
 use Rattle.rp_rules.specs.Walk.{Visit, visited, walk}
@@ -24,7 +24,8 @@ abbrev pub IsRefused : Setting → List Object → List ℕ → Rule → Type 0
 IsRefused s objects uri rule =
     walk s (content_at objects) ≡ Err (record { uri = uri; rule = rule })
 
--- Nothing is refused, and this is the least URI that isn't visited: objects stand by rising URI.
+-- Nothing is refused, and this is the first URI that isn't visited. It is the least, since the
+-- objects of a set stand by rising URI.
 pub record IsUnreached (s : Setting) (objects : List Object) (uri : List ℕ) : Type 0 where
   pub visits : List Visit
   pub walk : walk s (content_at objects) ≡ Ok visits
@@ -36,12 +37,13 @@ pub record IsUnreached (s : Setting) (objects : List Object) (uri : List ℕ) : 
 
 -- This is the yield, these are the points, and so many objects has the set, which is sound.
 pub record IsAuditOf (s : Setting) (objects : List Object) (audited : AuditedValue) : Type 0 where
+  pub set : IsAscending objects
   pub visits : List Visit
   pub sound : IsSoundBy s objects visits
   pub origins : audited.origins ≡ yield visits
   pub points : audited.points ≡ points (content_at objects) visits
   pub count : audited.objects ≡ length objects
 
--- They are told of some sound set.
+-- They are told of some set that is sound in some setting. Which these are, `IsAuditOf` says.
 abbrev pub IsAudit : AuditedValue → Type 0
 IsAudit audited = ∥ ((s : Setting) × (objects : List Object) × IsAuditOf s objects audited) ∥₁

@@ -1,11 +1,17 @@
 //! Laws of the walk.
 
-ghost use Rattle.std.specs.Prelude.{◌≡◌, List};
+ghost use Rattle.std.specs.Prelude.{◌≡◌, ◌≤◌, ◌↔◌, ℕ, true, List};
+ghost use Rattle.std.specs.List.{Contains};
+ghost use Rattle.res_sets.specs.declared.numbers.Family.{Family};
+ghost use Rattle.cert_obj.specs.Values.{IsListOf};
 ghost use Rattle.pub_set.specs.declared.objects.Object.{Object};
 ghost use Rattle.pub_set.specs.Objects.{content_at};
-ghost use Rattle.rp_rules.specs.Certificates.{Setting, Vouched, VouchesMore, vouching};
-ghost use Rattle.rp_rules.specs.Walk.{Visit};
-ghost use Rattle.rp_rules.specs.Accepted.{AreAccepted};
+ghost use Rattle.rp_rules.specs.Holdings.{Span, has_span, has_number, is_inside};
+ghost use Rattle.rp_rules.specs.Certificates.{Setting, Vouched, VouchesMore, vouching, File};
+ghost use Rattle.rp_rules.specs.Points.{Point, are_distinct, files_of};
+ghost use Rattle.rp_rules.specs.Walk.{Visit, Published, visited, walk};
+ghost use Rattle.rp_rules.specs.Accepted.{AreAccepted, IsReached};
+ghost use Rattle.rp_rules.specs.Asked.{SaysSame};
 ghost use Rattle.rp_rules.specs.Sound.{IsSoundBy};
 
 /// A sound set stays sound where more is vouched, and the walk is the same.
@@ -15,9 +21,47 @@ pub fn more_vouched_stays_sound()
         → IsSoundBy (vouching s more) objects visits }
 {}
 
-/// What is visited in a sound set is accepted, each certificate, point and ROA of it. So its yield, which comes
-/// from the ROAs that are visited, comes from accepted ROAs alone.
+/// The walk depends on what is vouched only through the signatures of the set's objects, each under the key by which
+/// it is asked: where another function says the same of these, the walk is the same, refusals too.
+pub fn asked_signatures_decide()
+    ensures { (s : Setting) (other : Vouched) (objects : List Object)
+        → SaysSame s other (content_at objects)
+        → walk (vouching s other) (content_at objects) ≡ walk s (content_at objects) }
+{}
+
+/// What is visited in a sound set is accepted after what is visited before it: a certificate is the anchor's or
+/// a file of a point visited before, a point is of an authority visited before, a ROA is a file of the point of
+/// the authority above it. So the yield, which comes from the ROAs that are visited, comes from accepted ROAs
+/// alone.
 pub fn visits_are_accepted()
     ensures { (s : Setting) (objects : List Object) (visits : List Visit)
         → IsSoundBy s objects visits → AreAccepted s (content_at objects) visits }
+{}
+
+/// In a sound set no URI is visited twice.
+pub fn each_uri_is_visited_once()
+    ensures { (s : Setting) (objects : List Object) (visits : List Visit)
+        → IsSoundBy s objects visits → are_distinct (visited visits) ≡ true }
+{}
+
+/// Each file that a visited point's manifest lists, its CRL too, is in the sound set, has the listed hash, and is
+/// visited.
+pub fn listed_files_are_visited()
+    ensures { (s : Setting) (objects : List Object) (visits : List Visit) (p : Point) (file : File)
+        → IsSoundBy s objects visits → Contains visits (Published p)
+        → Contains (files_of p.manifest.body) file → IsReached (content_at objects) visits p file }
+{}
+
+/// Of the list of a set one range has a whole span exactly where the set has each number of the span.
+pub fn spans_are_had_by_numbers()
+    ensures { (family : Family) (set : List Span) (span : Span) → IsListOf family set → span.0 ≤ span.1
+        → (has_span set span ≡ true)
+        ↔ ((n : ℕ) → span.0 ≤ n → n ≤ span.1 → has_number set n ≡ true) }
+{}
+
+/// The list of a set is inside that of another exactly where the other has each number of the set.
+pub fn sets_are_inside_by_numbers()
+    ensures { (family : Family) (set other : List Span) → IsListOf family set → IsListOf family other
+        → (is_inside set other ≡ true)
+        ↔ ((n : ℕ) → has_number set n ≡ true → has_number other n ≡ true) }
 {}

@@ -7,5 +7,9 @@ mod laws;
 mod rules;
 
 pub use audited::{Audited, AuditedPoint, YieldedOrigin};
-pub use laws::{more_vouched_stays_sound, visits_are_accepted};
+pub use laws::{
+    asked_signatures_decide, each_uri_is_visited_once, listed_files_are_visited,
+    more_vouched_stays_sound, sets_are_inside_by_numbers, spans_are_had_by_numbers,
+    visits_are_accepted,
+};
 pub use rules::Rule;
