@@ -3,53 +3,77 @@
 use crate::disks::tell_bytes;
 use crate::setup::{Setup, parts};
 use anyhow::{Context, Result, bail};
-use authority_book::Command;
 use desk_core::{Desk, DeskFault, DeskOpenFault, DeskRefused};
 use disk_api::MemoryDisk;
 use std::alloc::Global;
 
-/// The number of the desk.
+/// The number of a desk that isn't said.
 const NUMBER: u32 = 7;
 
-/// Takes the steps over one disk in memory, and tells their answers. Behind the desk's the images of
-/// the disk are opened.
+/// Where a case has come to: a disk, the desk that was opened over it, or a disk that was refused.
+#[derive(Drop)]
+enum Place {
+    Closed { disk: MemoryDisk },
+    Open { desk: Desk<MemoryDisk> },
+    Refused,
+}
+
+/// Takes the steps over one disk in memory, and tells their answers. Behind the desk's it may be opened
+/// again, and the images of the disk are opened.
 pub fn run(alloc: Global, steps: &str) -> Result<String> {
     let mut setup = Setup::new(alloc);
+    let mut number = NUMBER;
     let mut told = String::new(alloc);
     let mut steps = steps.split('\t');
     for step in steps.by_ref() {
-        let (word, text) = parts(step);
-        if word == "open" {
-            break;
-        }
-        if !setup.take(alloc, word, text)? {
-            bail!("an unknown step");
+        match parts(step) {
+            ("open", _) => break,
+            ("number", text) => number = text.parse::<u32>()?,
+            (word, text) if setup.take(alloc, word, text)? => {}
+            _ => bail!("an unknown step"),
         }
     }
-    let Some(mut desk) = open(alloc, &mut told, setup.disk(alloc))? else {
-        return Ok(told);
-    };
-    for step in steps.by_ref() {
-        if step == "close" {
-            break;
-        }
-        take(alloc, &mut desk, &mut told, step).context(format_args!("{step}"))?;
-    }
-    let disk = desk.close();
+    let mut place = open(alloc, number, &mut told, setup.disk(alloc))?;
     for step in steps {
-        take_closed(alloc, &disk, &mut told, step)?;
+        place = step_on(alloc, number, place, &mut told, step).context(format_args!("{step}"))?;
     }
     Ok(told)
 }
 
+fn step_on(
+    alloc: Global,
+    number: u32,
+    place: Place,
+    told: &mut String,
+    step: &str,
+) -> Result<Place> {
+    match place {
+        Place::Closed { disk } => {
+            if step == "open" {
+                return open(alloc, number, told, disk);
+            }
+            take_closed(alloc, number, &disk, told, step)?;
+            Ok(Place::Closed { disk })
+        }
+        Place::Open { mut desk } => {
+            if step == "close" {
+                return Ok(Place::Closed { disk: desk.close() });
+            }
+            take(alloc, &mut desk, told, step)?;
+            Ok(Place::Open { desk })
+        }
+        Place::Refused => bail!("a step over a refused disk"),
+    }
+}
+
 // The desk, or why it isn't one, and whether the disk then is as it was.
-fn open(alloc: Global, told: &mut String, disk: MemoryDisk) -> Result<Option<Desk<MemoryDisk>>> {
+fn open(alloc: Global, number: u32, told: &mut String, disk: MemoryDisk) -> Result<Place> {
     let before = disk.bytes().to_vec(alloc)?;
-    match Desk::open(alloc, NUMBER, disk) {
+    match Desk::open(alloc, number, disk) {
         Ok(desk) => {
             let count = desk.len();
             write!(told, "\t{count}")?;
-            Ok(Some(desk))
+            Ok(Place::Open { desk })
         }
         Err(DeskRefused { disk, fault }) => {
             match fault {
@@ -61,7 +85,7 @@ fn open(alloc: Global, told: &mut String, disk: MemoryDisk) -> Result<Option<Des
             if disk.bytes() != before.as_slice() {
                 told.push_str(" and changed")?;
             }
-            Ok(None)
+            Ok(Place::Refused)
         }
     }
 }
@@ -114,30 +138,33 @@ fn commit(
     Ok(())
 }
 
-// The maximum lengths that the commands after the first so many add.
+// The records of the commands after the first so many.
 fn since(alloc: Global, desk: &Desk<MemoryDisk>, told: &mut String, from: u64) -> Result<()> {
     if from > desk.len() {
         bail!("too few commands");
     }
     told.push('\t')?;
     for command in desk.since(alloc, from)? {
-        let Command::UpdateRoas { added, .. } = command else {
-            bail!("a command of another kind");
-        };
-        for origin in added.as_slice() {
-            write!(told, "/{}", origin.max)?;
-        }
+        let record = hex::encode(alloc, cmd_codec::write(alloc, &command)?.as_slice())?;
+        write!(told, "/{record}")?;
     }
     Ok(())
 }
 
-fn take_closed(alloc: Global, disk: &MemoryDisk, told: &mut String, step: &str) -> Result<()> {
+fn take_closed(
+    alloc: Global,
+    number: u32,
+    disk: &MemoryDisk,
+    told: &mut String,
+    step: &str,
+) -> Result<()> {
     match step {
         "bytes" => tell_bytes(alloc, told, disk.bytes()),
         "images" => {
             for pick in 0..8 {
                 let image = disk.image(alloc, pick)?;
-                open(alloc, told, MemoryDisk::new(alloc, image, Vec::new(alloc)))?;
+                let image = MemoryDisk::new(alloc, image, Vec::new(alloc));
+                let _opened = open(alloc, number, told, image)?;
             }
             Ok(())
         }

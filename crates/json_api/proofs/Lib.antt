@@ -8,3 +8,4 @@ pub mod Passes
 pub mod Others
 pub mod Answered
 pub mod Commas
+pub mod Once

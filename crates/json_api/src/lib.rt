@@ -3,6 +3,7 @@
 
 mod fields;
 mod history;
+mod laws;
 mod line;
 mod refusals;
 mod reply;
@@ -13,6 +14,7 @@ mod tokens;
 mod values;
 
 pub use history::history_text;
+pub use laws::reads_lines_once;
 pub use line::{Line, LineFault, LineReader, MAX_LINE_LEN, MemberName, read_line};
 pub use refusals::{MEMORY_REPLY, Refused, fault_into, memory_reply, refused_into, verdict_into};
 pub use reply::accepted_into;
