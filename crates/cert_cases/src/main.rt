@@ -40,6 +40,7 @@ fn answer(alloc: Global, call: &str, arguments: &str) -> Result<String> {
         "write" => write(alloc, arguments),
         "read" => read(alloc, arguments),
         "changed" => changed(alloc, arguments),
+        "cuts" => cuts(alloc, arguments),
         _ => bail!("an unknown call: {call}"),
     }
 }
@@ -130,6 +131,20 @@ fn changed(alloc: Global, digits: &str) -> Result<String> {
             Err(ShapeFault::Memory) => bail!("out of memory"),
         }
         bytes[i] ^= 1;
+    }
+    Ok(text)
+}
+
+/// For each beginning of a certificate, the shortest first: where reading stops, or that it doesn't.
+fn cuts(alloc: Global, digits: &str) -> Result<String> {
+    let bytes = bytes_of(alloc, digits)?;
+    let mut text = String::new(alloc);
+    for length in 0..bytes.len() {
+        match cert_obj::read(alloc, &bytes[..length]) {
+            Ok(_) => text.push('.')?,
+            Err(ShapeFault::Shape { at }) => write!(text, " {at}")?,
+            Err(ShapeFault::Memory) => bail!("out of memory"),
+        }
     }
     Ok(text)
 }

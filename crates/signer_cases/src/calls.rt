@@ -6,7 +6,7 @@ use signer_ring::{Ring, RingFault};
 use std::alloc::{AllocError, Global};
 
 #[derive(Clone, Copy)]
-enum Answer {
+pub(crate) enum Answer {
     Key(PublicKey),
     Signed(Signature),
     Once(OneUse),
@@ -16,7 +16,7 @@ enum Answer {
 }
 
 impl Answer {
-    fn text(&self, alloc: Global) -> Result<String, AllocError> {
+    pub(crate) fn text(&self, alloc: Global) -> Result<String, AllocError> {
         match self {
             Answer::Key(key) => hex::encode(alloc, key.bytes),
             Answer::Signed(signature) => hex::encode(alloc, signature.bytes),
@@ -68,7 +68,7 @@ fn read_digest(word: &str) -> Result<Digest> {
 }
 
 // One call: its words, separated by blanks.
-fn call<S: Signer>(
+pub(crate) fn call<S: Signer>(
     alloc: Global,
     ring: &mut Ring<S>,
     answers: &[Answer],

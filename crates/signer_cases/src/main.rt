@@ -7,17 +7,23 @@
 //!
 //! A call has the signer's number where one is called. `@` and a number stand for the key or the
 //! signature that this call answered, counted from 0.
+//!
+//! With the names of two files, that of a signer's answers and that of its requests, each line of
+//! standard input is a call on this signer.
 #![tactic(auto)]
 
+mod beside;
 mod calls;
 mod fields;
 
 use anyhow::{Result, bail};
+use beside::run_beside;
 use calls::run;
 use fields::{read_bytes, read_fails};
 use signer_api::{MemorySigner, PublicKey, Rehearsal, Signer};
 use signer_line::LineSigner;
 use std::alloc::Global;
+use std::env;
 
 // Signers written as `KIND:START` or `memory:START:FAILS`, separated by commas, each boxed.
 fn run_ring(alloc: Global, written: &str, script: &str) -> Result<String> {
@@ -62,7 +68,7 @@ fn answer(alloc: Global, fields: &[&str]) -> Result<String> {
     }
 }
 
-fn main(rt: HostRuntime) -> Result<()> {
+fn run_cases(rt: &HostRuntime) -> Result<()> {
     let alloc = rt.alloc();
     for line in rt.lines(alloc) {
         let line = line?;
@@ -72,4 +78,14 @@ fn main(rt: HostRuntime) -> Result<()> {
         println!(rt; "{name}\t{answers}")?;
     }
     Ok(())
+}
+
+fn main(rt: HostRuntime) -> Result<()> {
+    let mut words = env::args(&rt)?;
+    let _program = words.next();
+    match (words.next(), words.next(), words.next()) {
+        (None, _, _) => run_cases(&rt),
+        (Some(answers), Some(requests), None) => run_beside(&rt, &answers, &requests),
+        _ => bail!("usage: signer_cases [ANSWERS REQUESTS]"),
+    }
 }

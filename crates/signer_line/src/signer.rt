@@ -15,8 +15,8 @@ use std::io::{self, Read, Write};
 ///
 /// Any other line than the call's answer is a fault, and so are the end of the stream and an error.
 /// It tells nothing of vouching or keys. No call takes memory: a line that is longer than any
-/// answer is passed over. It reads byte by byte and writes piece by piece, so a file or a pipe is
-/// best handed in behind a buffer.
+/// answer is passed over. It reads byte by byte, so a pipe is best read behind a buffer. A writer's
+/// buffer that keeps what could not be written would send it in front of the next request.
 #[derive(Drop)]
 pub struct LineSigner<R, W> {
     from: R,
