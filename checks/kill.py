@@ -1,75 +1,156 @@
 """Kills the built program between and within commands, and starts it again over the same files.
 
-Each turn adds different origins, reads the replies, and kills the program after a random number of them. The
-next start is asked by an update that changes nothing: its reply counts the commands that were found, which have
-to be the acknowledged ones, and at most one more. Then the files of two runs over the same lines are compared.
+Each turn sends lines without waiting and kills the program, after a random number of replies or after a random
+time. The next start is asked for its names and for the history of each: every authority has to have its
+acknowledged commands, in their order, and behind them at most one command in the whole tree whose reply nobody
+heard. The first turns have one authority, then there are more and more of them, up to 64. Then the files of two
+runs over the same lines are compared.
 Usage: kill.py PROGRAM"""
-import json, os, random, subprocess, sys, tempfile
+import json, os, random, subprocess, sys, tempfile, time
 
 KRILLC = os.path.abspath(sys.argv[1])
-TURNS = 25
+TURNS, ALONE = 40, 10
+MOST_NAMES = 64
 random.seed(7)
 
 
-def line(**fields):
-    return json.dumps({"command": "roas update", "ca": "ta", **fields}, separators=(",", ":")) + "\n"
+def text(line):
+    return json.dumps(line, separators=(",", ":")) + "\n"
+
+
+def update(name, number):
+    """Each number adds another origin."""
+    origin = f"10.{number // 256}.{number % 256}.0/24 => 1"
+    return {"command": "roas update", "ca": name, "add": [origin], "remove": []}
+
+
+def grant(name, child, number):
+    resources = {"asn": f"AS{number}", "ipv4": f"10.{number // 256}.{number % 256}.0/24", "ipv6": ""}
+    return {"command": "children add", "ca": name, "child": child, "resources": resources}
+
+
+def desk_of(line):
+    return "ta" if line["command"] == "add" else line["ca"]
+
+
+class Lines:
+    """New lines that are accepted after those that the histories have, whatever was lost in between."""
+
+    def __init__(self):
+        self.number = 0
+
+    def take(self, histories, turn):
+        lines, room = [], MOST_NAMES - len(histories) if turn >= ALONE else 0
+        for _ in range(30):
+            self.number += 1
+            lines.append(self.next(list(histories), room > 0))
+            room -= lines[-1]["command"] == "add"
+        return lines
+
+    def next(self, names, has_room):
+        if has_room and self.number % 3 == 0:
+            return {"command": "add", "ca": f"a{self.number}", "signer": 0}
+        name = random.choice(names)
+        if self.number % 20 == 7:
+            return grant(name, f"c{self.number}", self.number)
+        return update(name, self.number)
 
 
 def start(folder):
     return subprocess.Popen([KRILLC, "run"], cwd=folder, stdin=subprocess.PIPE, stdout=subprocess.PIPE)
 
 
-def count_found(folder):
-    """How many commands a new start finds. Asking is itself a command."""
-    run = subprocess.run([KRILLC, "run"], cwd=folder, input=line().encode(), capture_output=True)
+def ask(folder, lines):
+    """The replies of a new start."""
+    run = subprocess.run([KRILLC, "run"], cwd=folder, input="".join(map(text, lines)).encode(), capture_output=True)
     if run.returncode != 0:
         sys.exit(f"checks/kill: a start after a kill ended with status {run.returncode}: {run.stderr.decode()}")
-    return json.loads(run.stdout)["count"] - 1
+    return [json.loads(reply) for reply in run.stdout.decode().splitlines()]
 
 
-def killed_turn(folder, known, next_origin):
-    """Sends lines without waiting, and kills after some replies. Gives the acknowledged count."""
-    lines = [line(add=[f"10.{n // 256}.{n % 256}.0/24 => 1"]) for n in range(next_origin, next_origin + 30)]
+def histories_found(folder):
+    """For each name, in the order of the names, the lines of its accepted commands."""
+    names = [row["name"] for row in ask(folder, [{"command": "list"}])[0]["authorities"]]
+    found = {}
+    for name, reply in zip(names, ask(folder, [{"command": "history commands", "ca": name} for name in names])):
+        if [row["count"] for row in reply["commands"]] != list(range(1, len(reply["commands"]) + 1)):
+            sys.exit(f"checks/kill: the history of {name} isn't counted from 1")
+        found[name] = [row["line"] for row in reply["commands"]]
+    return found
+
+
+def killed_turn(folder, lines):
+    """Sends the lines without waiting, and kills. Gives the replies that were heard whole."""
     program = start(folder)
-    program.stdin.write("".join(lines).encode())
+    program.stdin.write("".join(map(text, lines)).encode())
     program.stdin.flush()
-    for _ in range(random.randrange(0, 12)):
-        reply = json.loads(program.stdout.readline())
-        if reply["reply"] != "accepted" or reply["count"] != known + 1:
-            sys.exit(f"checks/kill: {reply} after {known} commands")
-        known += 1
+    heard = []
+    if random.randrange(2):
+        heard += [program.stdout.readline() for _ in range(random.randrange(12))]
+    else:
+        time.sleep(random.random() * 0.1)
     program.kill()
-    rest = program.stdout.read().decode()
+    heard += program.stdout.read().splitlines(keepends=True)
     program.wait()
-    # Replies that had come before the kill count as acknowledged too.
-    known += sum(1 for reply in rest.splitlines(keepends=True) if reply.endswith("\n"))
-    return known
+    return [json.loads(reply) for reply in heard if reply.endswith(b"\n")]
+
+
+def with_line(histories, line):
+    """The histories with one accepted line more."""
+    more = {**histories, desk_of(line): histories[desk_of(line)] + [line]}
+    return {**more, line["ca"]: []} if line["command"] == "add" else more
+
+
+def acknowledged(histories, lines, replies):
+    """The histories with the lines whose replies were heard, each of which has to accept its line."""
+    for line, reply in zip(lines, replies):
+        histories, desk = with_line(histories, line), desk_of(line)
+        if reply != {"authority": desk, "count": len(histories[desk]), "reply": "accepted"}:
+            sys.exit(f"checks/kill: {reply} to {line}")
+    return histories
+
+
+def is_same_or_one_more(known, found, unheard):
+    """Whether the histories are the same, or those with the first line that nobody heard a reply to."""
+    return found == known or bool(unheard) and found == with_line(known, unheard[0])
 
 
 def kills(folder):
-    known, next_origin = 0, 0
-    for _ in range(TURNS):
-        acknowledged = killed_turn(folder, known, next_origin)
-        found = count_found(folder)
-        if not acknowledged <= found <= acknowledged + 1:
-            sys.exit(f"checks/kill: {acknowledged} commands were acknowledged, {found} were found")
-        known, next_origin = found + 1, next_origin + 31
+    histories, lines, cut = {"ta": []}, Lines(), 0
+    for turn in range(TURNS):
+        sent = lines.take(histories, turn)
+        replies = killed_turn(folder, sent)
+        known = acknowledged(histories, sent, replies)
+        found = histories_found(folder)
+        if list(found)[:len(known)] != list(known) or not is_same_or_one_more(known, found, sent[len(replies):]):
+            sys.exit(f"checks/kill: turn {turn}: other histories than those of {len(replies)} replies")
+        cut += len(replies) < len(sent)
+        histories = found
+    if len(histories) != MOST_NAMES or cut < TURNS / 4:
+        sys.exit(f"checks/kill: {len(histories)} authorities, and {cut} turns cut short")
 
 
-def history_of(lines):
+def files_of(lines):
+    """What the store's files have after the lines, given in two runs."""
     with tempfile.TemporaryDirectory(dir=".") as folder:
         half = len(lines) // 2
         for part in (lines[:half], lines[half:]):
-            subprocess.run([KRILLC, "run"], cwd=folder, input="".join(part).encode(), check=True, capture_output=True)
-        with open(os.path.join(folder, "krill-data", "desk-00"), "rb") as desk:
-            return desk.read()
+            ask(folder, part)
+        store = os.path.join(folder, "krill-data")
+        files = {}
+        for name in sorted(os.listdir(store)):
+            with open(os.path.join(store, name), "rb") as file:
+                files[name] = file.read()
+        return files
 
 
 def main():
     with tempfile.TemporaryDirectory(dir=".") as folder:
         kills(folder)
-    lines = [line(add=[f"10.1.{n}.0/24 => 2"], remove=[f"10.1.{n - 1}.0/24 => 2"] if n else []) for n in range(20)]
-    if history_of(lines) != history_of(lines):
+    lines = [{"command": "add", "ca": "a1", "signer": 0}]
+    lines += [update(("ta", "a1")[number % 2], number) for number in range(20)]
+    lines += [dict(line, add=[], remove=line["add"]) for line in lines[1:7]]
+    if files_of(lines) != files_of(lines):
         sys.exit("checks/kill: two runs over the same lines left different files")
     print("checks/kill: ok")
 

@@ -1,9 +1,9 @@
 #!/bin/sh
-# The built program's statuses and messages. Skipped where the program isn't built (make run builds it).
+# The built program's statuses and messages. It is built where it is missing; skipped where there is no rt for that.
 set -eu
 top=$(cd "$(dirname "$0")/.." && pwd)
-krillc=$top/crates/krillc/out/krillc
-[ -x "$krillc" ] || { echo "checks/program: krillc isn't built, skipped"; exit 0; }
+krillc=$(sh "$top/checks/built" krillc --version)
+[ -n "$krillc" ] || { echo "checks/program: krillc isn't built, skipped"; exit 0; }
 scratch=$(mktemp -d)
 trap 'rm -rf "$scratch"' EXIT
 cd "$scratch"
@@ -97,6 +97,14 @@ if [ -w /dev/full ]; then
         fails "a full device and $word" "$got"
     done
 fi
+
+# The sessions that the documents show, each from an empty store.
+for session in first tree; do
+    rm -rf krill-data
+    cp "$top/examples/$session-session.jsonl" input
+    expect 0 "$(cat "$top/examples/$session-session.replies")
+" '' run
+done
 
 # One origin more than a configuration may have.
 rm -r krill-data

@@ -1,9 +1,11 @@
-"""Tries signer/krill-signer: what it answers, what openssl says of it, what outlives a kill, and what it refuses.
+"""Tries signer/krill-signer: what it answers, what openssl says of it, what outlives a kill, and what it refuses. And
+Krill's own side of the lines with it, where a second program is named: crates/signer_cases over the signer's FIFOs.
 
-Usage: signer.py PROGRAM, in a scratch folder."""
+Usage: signer.py PROGRAM [SIGNER_CASES], in a scratch folder."""
 import hashlib, os, random, re, signal, subprocess, sys, threading, time
 
 SIGNER = os.path.abspath(sys.argv[1])
+CALLER = os.path.abspath(sys.argv[2]) if len(sys.argv) > 2 else None
 DIGEST = hashlib.sha256(b"what is signed").hexdigest()
 OTHER = hashlib.sha256(b"something else").hexdigest()
 # SEQUENCE { rsaEncryption with NULL, BIT STRING }: what stands before the 270 bytes of a key in a public key file.
@@ -173,13 +175,67 @@ def fifos():
     program.wait()
 
 
+def serve_fifos(folder, path, caller=None):
+    """Starts a signer over FIFOs. Where a program has both ends open, waits until the signer has them too."""
+    program = start(folder, "--fifos", path)
+    ends = {os.path.abspath(path + end) for end in (".in", ".out")}
+    while not all(os.path.exists(end) for end in ends):
+        time.sleep(0.02)
+    opened = f"/proc/{program.pid}/fd"
+    while caller and not ends <= {os.path.realpath(os.path.join(opened, it)) for it in os.listdir(opened)}:
+        time.sleep(0.02)
+    return program
+
+
+def beside():
+    """Krill's side: every call, then a signer that is killed between two calls and started again."""
+    os.mkdir("beside")
+    signer = serve_fifos("beside-keys", "beside/signer-0")
+    caller = subprocess.Popen(
+        [CALLER, "beside/signer-0.in", "beside/signer-0.out"],
+        stdin=subprocess.PIPE, stdout=subprocess.PIPE, stderr=subprocess.PIPE, text=True,
+    )
+    (key,) = want(KEY, ask(caller, "make 0"))
+    (signature,) = want("([0-9a-f]{512})", ask(caller, f"sign 0 @0 {DIGEST}"))
+    verify(key, DIGEST, signature)
+    verify(key, OTHER, signature, 1)
+    once_key, once = want(f"{KEY} ([0-9a-f]{{512}})", ask(caller, f"once 0 {OTHER}"))
+    verify(once_key, OTHER, once)
+    for call, expected in (
+        (f"check {key} {DIGEST} {signature}", "yes"),
+        (f"check {key} {OTHER} {signature}", "no"),
+        (f"check {once_key} {OTHER} {once}", "yes"),
+        (f"check {once_key} {DIGEST} {signature}", "no"),
+    ):
+        want(expected, ask(caller, call))
+    signer.kill()
+    signer.wait()
+    want("signer 0 failed", ask(caller, f"sign 0 {key} {OTHER}"))
+    signer = serve_fifos("beside-keys", "beside/signer-0", caller)
+    (signature,) = want("([0-9a-f]{512})", ask(caller, f"sign 0 {key} {OTHER}"))
+    verify(key, OTHER, signature)
+    want("signer 0 failed", ask(caller, f"sign 0 {once_key} {OTHER}"))
+    want("dropped", ask(caller, f"drop 0 {key}"))
+    want("signer 0 failed", ask(caller, f"sign 0 {key} {OTHER}"))
+    want("yes", ask(caller, f"check {key} {OTHER} {signature}"))
+    caller.stdin.close()
+    want("faults 3", caller.stdout.readline().rstrip("\n"))
+    if caller.wait() or os.listdir("beside-keys"):
+        fail(f"status {caller.returncode} and {os.listdir('beside-keys')} at the end of the calls")
+    signer.terminate()
+    signer.wait()
+
+
 def main():
     answers()
     modes()
     faulty_lines()
     made = kills()
     fifos()
-    print(f"checks/signer: ok ({made} keys outlived kills)")
+    if CALLER:
+        beside()
+    said = "and Krill's side met it" if CALLER else "Krill's side isn't built, skipped"
+    print(f"checks/signer: ok ({made} keys outlived kills; {said})")
 
 
 main()

@@ -1,12 +1,12 @@
 #!/bin/sh
 # Looks at the calls that the built program makes on the anchor's file: each write of a commit is synced before the
 # next call and before the reply, also where a signal interrupts the syncs, and no command is accepted whose sync
-# fails. Skipped where the program isn't built, or where there is no strace that may trace.
+# fails. The program is built where it is missing; skipped where there is no rt for that, or no strace that may trace.
 set -eu
 top=$(cd "$(dirname "$0")/.." && pwd)
-krillc=$top/crates/krillc/out/krillc
-[ -x "$krillc" ] || { echo "checks/syncs: krillc isn't built, skipped"; exit 0; }
 strace -o /dev/null true 2>/dev/null || { echo "checks/syncs: no strace, skipped"; exit 0; }
+krillc=$(sh "$top/checks/built" krillc --version)
+[ -n "$krillc" ] || { echo "checks/syncs: krillc isn't built, skipped"; exit 0; }
 scratch=$(mktemp -d)
 trap 'rm -rf "$scratch"' EXIT
 cd "$scratch"
