@@ -18,12 +18,6 @@ use sha2::{Digest as Hasher, Sha256};
 use signer_api::Signature;
 use std::alloc::{AllocError, Global};
 
-/// 2000-01-01T00:00:00Z.
-const FIRST_MOMENT: u64 = 946_684_800;
-
-/// 9999-12-31T23:59:59Z.
-const LAST_MOMENT: u64 = 253_402_300_799;
-
 /// Appends the kind of the content as an attribute.
 #[tactic(auto, using(std::proofs::Common::append_assoc))]
 fn push_content_type(alloc: Global, out: &mut Vec<u8>, kind: ObjectKind) -> Result<(), AllocError>
@@ -235,7 +229,7 @@ pub fn write(
     moment: u64,
     signature: &Signature,
 ) -> Result<Vec<u8>, AllocError>
-    // See `is_certificate` and `is_moment`.
+    // See `is_certificate` and `moments::is_moment`.
     requires certificate { IsElement tag.sequence certificate.now }
     requires moment { IsMoment moment }
 
@@ -267,13 +261,6 @@ pub fn write(
     der::enclose(alloc, &mut out, from, CONTEXT_0)?;
     der::enclose(alloc, &mut out, 0, SEQUENCE)?;
     Ok(out)
-}
-
-/// Whether a time, in seconds since 1970, has a spelling: it lies in the years 2000 to 9999.
-pub fn is_moment(seconds: u64) -> bool
-    ensures { IsTrue result ↔ IsMoment seconds }
-{
-    seconds >= FIRST_MOMENT && seconds <= LAST_MOMENT
 }
 
 /// Whether a part is one whole element.

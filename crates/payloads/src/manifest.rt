@@ -16,6 +16,7 @@ use crate::order::{are_rising, first_unordered, without_places};
 use crate::values::ListedFile;
 use der_forms::tags::{GENERALIZED_TIME, SEQUENCE};
 use der_forms::{Part, ShapeFault, number};
+use moments::is_moment;
 use object_parts::general_time;
 use std::alloc::{AllocError, Global};
 
@@ -93,13 +94,6 @@ fn read_body(alloc: Global, bytes: &[u8]) -> Result<ManifestBody, BodyFault>
 {
     let placed = placed(alloc, bytes)?;
     body_of(alloc, placed)
-}
-
-/// Whether the moment has a text: it lies from 2000 to 9999.
-fn is_moment(seconds: u64) -> bool
-    ensures { IsTrue result ↔ IsMoment seconds }
-{
-    (946_684_800..=253_402_300_799).contains(&seconds)
 }
 
 /// Appends a GeneralizedTime.
