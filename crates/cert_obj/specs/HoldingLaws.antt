@@ -14,34 +14,15 @@ use Rattle.res_sets.specs.declared.numbers.Family.TheVariants.{Asn, V4, V6}
 use Rattle.res_sets.specs.Numbers.{family_end}
 use Rattle.res_forms.specs.Formats.{as_good, address_good, as_block, address_block, block, are_canonical, blocks, choice, as_content, as_identifiers, ip_content, ip_blocks, has_numbers}
 use Rattle.res_forms.specs.FormatLaws.{as_identifiers-law, ip_blocks-law}
+use Rattle.res_forms.specs.SetLaws.{canonical_good}
 use Rattle.cert_obj.specs.declared.values.CertKind.TheVariants.{EndEntity}
 use Rattle.cert_obj.specs.Values.{Sets, is_empty_list, IsListOf, AreSets, IsHeld, may_hold}
 use Rattle.cert_obj.specs.Holdings.{Addresses, Numbers, has_addresses, addresses, numbers, some_sets, joined, held_in, listed_addresses, listed_numbers, held_out, held, entity_held}
 
 -- ---- a list that is canonical has a spelling
 
-abbrev span_good : Family → ℕ × ℕ → Type 0
-span_good Asn span = as_good span
-span_good V4 span = address_good 32 span
-span_good V6 span = address_good 128 span
-
-one-good : (family : Family) (span : ℕ × ℕ) → span.0 ≤ span.1 → span.1 < family_end family → (block family).good span
-unfolding as_block address_block
-one-good Asn span order below = (order, omega (arith, below))
-one-good V4 span order below = (order, below)
-one-good V6 span order below = (order, below)
-
-all-good : (family : Family) (low : ℕ) (spans : List (ℕ × ℕ)) → are_canonical (family_end family) low spans ≡ true → AreAll (block family).good spans
-all-good family low [] e = tt
-all-good family low (span ∷ spans) e =
-    let a = and_parts (leb low span.0 && leb span.0 span.1 && ltb span.1 (family_end family)) (are_canonical (family_end family) (span.1 + 2) spans) e in
-    let b = and_parts (leb low span.0 && leb span.0 span.1) (ltb span.1 (family_end family)) a.0 in
-    let c = and_parts (leb low span.0) (leb span.0 span.1) b.0 in
-    (one-good family span (leb-true _ _ c.1) (ltb-true _ _ b.1), all-good family (span.1 + 2) spans a.1)
-
 pub list-good : (family : Family) (spans : List (ℕ × ℕ)) → IsListOf family spans → (blocks family).good spans
-unfolding blocks
-list-good family spans e = (all-good family 0 spans e, e)
+list-good family spans e = canonical_good family spans e
 
 pub good-list : (family : Family) (spans : List (ℕ × ℕ)) → (blocks family).good spans → IsListOf family spans
 unfolding blocks
