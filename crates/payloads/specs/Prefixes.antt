@@ -22,7 +22,8 @@ abbrev pub IsPrefixOf : Bool → Bool × ℕ × ℕ → Type 0
 IsPrefixOf v6 x = (x.0 ≡ v6) × IsPrefix x.0 x.1 x.2
 
 abbrev pub leading_prefix : Bool → Front (Bool × ℕ × ℕ)
-leading_prefix v6 = mapped_front (leading (address_bits v6)) (prefix_from v6) leading_of (IsPrefixOf v6)
+leading_prefix v6 = mapped_front (leading (address_bits v6)) (prefix_from v6) leading_of
+    (IsPrefixOf v6)
 
 -- The same format. Which bits spell a prefix its own family says.
 abbrev pub prefix : Bool → Front (Bool × ℕ × ℕ)

@@ -21,7 +21,8 @@ pub fn address_bits(v6: bool) -> u32
 /// A prefix of the family.
 #[tactic(auto, using(crate::specs::PrefixLaws::address_size))]
 pub fn prefix(v6: bool, part: Part<'_>) -> Result<(Prefix, Part<'_>), ShapeFault>
-    ensures { Gives (λ x. (prefix_parts x.0, place x.1)) result ((prefix_form v6).read (place part.entry)) }
+    ensures { Gives (λ x. (prefix_parts x.0, place x.1))
+        result ((prefix_form v6).read (place part.entry)) }
 {
     let ((length, address), rest) = leading_bits(address_bits(v6), part)?;
     let prefix = Prefix {
@@ -35,7 +36,8 @@ pub fn prefix(v6: bool, part: Part<'_>) -> Result<(Prefix, Part<'_>), ShapeFault
 /// Appends a prefix.
 #[tactic(auto, using(crate::specs::PrefixLaws::address_size), unfolding(res_forms::specs::Prefixes::leading_spelling, der::specs::Spelling::bits_spelling))]
 pub fn push_prefix(alloc: Global, out: &mut Vec<u8>, prefix: Prefix) -> Result<(), AllocError>
-    ensures { OnOk result (out.new.items ≡ out.old.items ++ (prefix_form prefix.v6).spelling (prefix_parts prefix)) }
+    ensures { OnOk result (out.new.items ≡ out.old.items
+        ++ (prefix_form prefix.v6).spelling (prefix_parts prefix)) }
 {
     let length = u32::from(prefix.length);
     push_leading(alloc, out, address_bits(prefix.v6), length, prefix.address)
