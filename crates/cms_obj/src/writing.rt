@@ -68,7 +68,8 @@ fn push_attributes(
     moment: u64,
 ) -> Result<(), AllocError>
     requires { IsMoment moment }
-    ensures { OnOk result (out.new.items ≡ out.old.items ++ (attributes kind hash.now).spelling moment) }
+    ensures { OnOk result (out.new.items ≡ out.old.items
+        ++ (attributes kind hash.now).spelling moment) }
 {
     push_content_type(alloc, out, kind)?;
     push_signing_time(alloc, out, moment)?;
@@ -151,7 +152,8 @@ fn push_encapsulated(
     kind: ObjectKind,
     content: &[u8],
 ) -> Result<(), AllocError>
-    ensures { OnOk result (out.new.items ≡ out.old.items ++ encapsulated.spelling (kind, content.now)) }
+    ensures { OnOk result (out.new.items ≡ out.old.items
+        ++ encapsulated.spelling (kind, content.now)) }
 {
     let from = out.len();
     push_identifier(alloc, out, &kind.identifier())?;
@@ -193,7 +195,8 @@ fn push_signed_data(
     requires moment { IsMoment said.now.moment }
     requires hash { said.now.hash ≡ sha256 content.now }
     ensures { OnOk result (out.new.items ≡ out.old.items ++ signed_data.spelling (parts_of
-        (object_of said.now.kind content.now certificate.now said.now.signer said.now.moment said.now.signature))) }
+        (object_of said.now.kind content.now certificate.now said.now.signer said.now.moment
+        said.now.signature))) }
 {
     let from = out.len();
     push_head(alloc, out)?;
@@ -214,7 +217,8 @@ fn is_object(
 )
     requires certificate { IsElement tag.sequence certificate.now }
     requires moment { IsMoment moment }
-    ensures { IsSignedObject (object_of kind content.now certificate.now signer.now moment signature.now) }
+    ensures { IsSignedObject
+        (object_of kind content.now certificate.now signer.now moment signature.now) }
 {}
 
 /// The signed object of a content, the certificate of the key that signs, the key's identifier, the time
@@ -237,7 +241,8 @@ pub fn write(
     ensures bytes { IfOk result (λ out. out.items ≡ signed_object.spelling
         (object_of kind content.now certificate.now signer.now.bytes moment signature.now.bytes)) }
     ensures spelled { IfOk result (λ out. length out.items < 2 ^ 32 → Spells signed_object
-        (object_of kind content.now certificate.now signer.now.bytes moment signature.now.bytes) out.items) }
+        (object_of kind content.now certificate.now signer.now.bytes moment signature.now.bytes)
+        out.items) }
 {
     is_object(
         kind,
