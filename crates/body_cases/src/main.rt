@@ -8,8 +8,9 @@ mod manifests;
 mod places;
 mod roas;
 
-use crate::places::{BodyKind, changes, cuts};
+use crate::places::BodyProbe;
 use anyhow::{Result, bail};
+use case_parts::{bytes_of, changes, cuts};
 use std::alloc::Global;
 
 fn main(rt: HostRuntime) -> Result<()> {
@@ -39,10 +40,10 @@ fn answer(alloc: Global, call: &str, first: &str, second: &str) -> Result<String
         "read roa" => roas::read(alloc, first),
         "write manifest" => manifests::write(alloc, first, second),
         "read manifest" => manifests::read(alloc, first),
-        "cuts roa" => cuts(alloc, BodyKind::Roa, first),
-        "cuts manifest" => cuts(alloc, BodyKind::Manifest, first),
-        "changes roa" => changes(alloc, BodyKind::Roa, first),
-        "changes manifest" => changes(alloc, BodyKind::Manifest, first),
+        "cuts roa" => cuts(alloc, &BodyProbe::Roa, &bytes_of(alloc, first)?),
+        "cuts manifest" => cuts(alloc, &BodyProbe::Manifest, &bytes_of(alloc, first)?),
+        "changes roa" => changes(alloc, &BodyProbe::Roa, bytes_of(alloc, first)?),
+        "changes manifest" => changes(alloc, &BodyProbe::Manifest, bytes_of(alloc, first)?),
         _ => bail!("an unknown call: {call}"),
     }
 }

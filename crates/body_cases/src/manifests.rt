@@ -1,17 +1,9 @@
 //! Bodies of manifests, read and written.
 
 use anyhow::{Result, bail};
-use hex::FromHex;
+use case_parts::{bytes_of, digits_of, fixed_of, number_of};
 use payloads::{ListedFile, ManifestBody};
 use std::alloc::Global;
-
-/// A number in decimal digits.
-fn number_of(digits: &str) -> Result<u64> {
-    match digits.parse() {
-        Ok(n) => Ok(n),
-        Err(_) => bail!("no number: {digits}"),
-    }
-}
 
 /// The file of a name and a hash in hex, with a space between them.
 fn file_of(alloc: Global, text: &str) -> Result<ListedFile> {
@@ -19,7 +11,7 @@ fn file_of(alloc: Global, text: &str) -> Result<ListedFile> {
         bail!("no file: {text}");
     };
     let name = String::from_str(alloc, name)?;
-    let hash = <[u8; 32] as FromHex>::from_hex(digits)?;
+    let hash = fixed_of(alloc, digits)?;
     Ok(ListedFile { name, hash })
 }
 
@@ -48,13 +40,12 @@ pub fn write(alloc: Global, numbers: &str, list: &str) -> Result<String> {
         bail!("no body: {list}");
     }
     let bytes = body.write(alloc)?;
-    Ok(hex::encode(alloc, bytes.as_slice())?)
+    Ok(digits_of(alloc, &bytes)?)
 }
 
 /// The body that the bytes spell, or why they spell none.
 pub fn read(alloc: Global, digits: &str) -> Result<String> {
-    let bytes = hex::decode(alloc, digits.as_bytes())?;
-    match ManifestBody::read(alloc, &bytes) {
+    match ManifestBody::read(alloc, &bytes_of(alloc, digits)?) {
         Ok(body) => printed(alloc, &body),
         Err(fault) => Ok(format!(in alloc; "{fault:?}")?),
     }
@@ -66,7 +57,7 @@ fn printed(alloc: Global, body: &ManifestBody) -> Result<String> {
     let mut out = format!(in alloc; "{number} {from} {to}:")?;
     let mut between = " ";
     for file in &body.files {
-        let hash = hex::encode(alloc, file.hash.as_slice())?;
+        let hash = digits_of(alloc, &file.hash)?;
         let file = format!(in alloc; "{between}{} {hash}", file.name)?;
         out.push_str(file.as_str())?;
         between = ",";

@@ -1,6 +1,7 @@
 //! Bodies of ROAs, read and written.
 
 use anyhow::{Result, bail};
+use case_parts::{bytes_of, digits_of};
 use origins::read_origin;
 use payloads::{RoaBody, RoaEntry};
 use std::alloc::Global;
@@ -36,13 +37,12 @@ pub fn write(alloc: Global, asn: &str, list: &str) -> Result<String> {
         bail!("no body: {list}");
     }
     let bytes = body.write(alloc)?;
-    Ok(hex::encode(alloc, bytes.as_slice())?)
+    Ok(digits_of(alloc, &bytes)?)
 }
 
 /// The body that the bytes spell, or why they spell none.
 pub fn read(alloc: Global, digits: &str) -> Result<String> {
-    let bytes = hex::decode(alloc, digits.as_bytes())?;
-    match RoaBody::read(alloc, &bytes) {
+    match RoaBody::read(alloc, &bytes_of(alloc, digits)?) {
         Ok(body) => printed(alloc, &body),
         Err(fault) => Ok(format!(in alloc; "{fault:?}")?),
     }

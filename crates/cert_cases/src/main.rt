@@ -6,13 +6,15 @@
 #![tactic(auto)]
 
 mod parts;
+mod places;
 mod shown;
 
-use crate::parts::{bytes_of, digits_of, fixed_of, held_of, kind_of, number_of, owned};
+use crate::parts::{held_of, kind_of, owned};
+use crate::places::CertProbe;
 use crate::shown::shown;
 use anyhow::{Context, Result, bail};
+use case_parts::{bytes_of, changes, cuts, digits_of, fixed_of, number_of};
 use cert_obj::{Cert, CertUris};
-use der_forms::ShapeFault;
 use key_ids::KeyId;
 use signer_api::{PublicKey, Signature};
 use std::alloc::Global;
@@ -39,8 +41,8 @@ fn answer(alloc: Global, call: &str, arguments: &str) -> Result<String> {
         "tbs" => tbs(alloc, arguments),
         "write" => write(alloc, arguments),
         "read" => read(alloc, arguments),
-        "changed" => changed(alloc, arguments),
-        "cuts" => cuts(alloc, arguments),
+        "cuts" => cuts(alloc, &CertProbe, &bytes_of(alloc, arguments)?),
+        "changes" => changes(alloc, &CertProbe, bytes_of(alloc, arguments)?),
         _ => bail!("an unknown call: {call}"),
     }
 }
@@ -117,34 +119,4 @@ fn read(alloc: Global, digits: &str) -> Result<String> {
         Ok(read) => shown(alloc, &read),
         Err(fault) => Ok(format!(in alloc; "{fault:?}")?),
     }
-}
-
-/// For each byte of a certificate: where reading stops once its lowest bit is changed, or that it doesn't.
-fn changed(alloc: Global, digits: &str) -> Result<String> {
-    let mut bytes = bytes_of(alloc, digits)?;
-    let mut text = String::new(alloc);
-    for i in 0..bytes.len() {
-        bytes[i] ^= 1;
-        match cert_obj::read(alloc, &bytes) {
-            Ok(_) => text.push('.')?,
-            Err(ShapeFault::Shape { at }) => write!(text, " {at}")?,
-            Err(ShapeFault::Memory) => bail!("out of memory"),
-        }
-        bytes[i] ^= 1;
-    }
-    Ok(text)
-}
-
-/// For each beginning of a certificate, the shortest first: where reading stops, or that it doesn't.
-fn cuts(alloc: Global, digits: &str) -> Result<String> {
-    let bytes = bytes_of(alloc, digits)?;
-    let mut text = String::new(alloc);
-    for length in 0..bytes.len() {
-        match cert_obj::read(alloc, &bytes[..length]) {
-            Ok(_) => text.push('.')?,
-            Err(ShapeFault::Shape { at }) => write!(text, " {at}")?,
-            Err(ShapeFault::Memory) => bail!("out of memory"),
-        }
-    }
-    Ok(text)
 }

@@ -5,40 +5,11 @@ use cert_obj::{CertKind, Held};
 use res_sets::{Family, Ranges, Resources};
 use std::alloc::{AllocError, Global};
 
-/// The bytes of hex digits.
-pub fn bytes_of(alloc: Global, digits: &str) -> Result<Vec<u8>> {
-    match hex::decode(alloc, digits.as_bytes()) {
-        Ok(bytes) => Ok(bytes),
-        Err(_) => bail!("no hex digits: {digits}"),
-    }
-}
-
-/// The hex digits of bytes.
-pub fn digits_of(alloc: Global, bytes: &[u8]) -> Result<String, AllocError> {
-    hex::encode(alloc, bytes)
-}
-
 /// The same text in memory of its own.
 pub fn owned(alloc: Global, text: &str) -> Result<String, AllocError> {
     let mut owned = String::new(alloc);
     owned.push_str(text)?;
     Ok(owned)
-}
-
-/// Just so many bytes.
-pub fn fixed_of<const N: usize>(alloc: Global, digits: &str) -> Result<[u8; N]> {
-    match <[u8; N]>::try_from(bytes_of(alloc, digits)?.as_slice()) {
-        Ok(bytes) => Ok(bytes),
-        Err(_) => bail!("another number of bytes: {digits}"),
-    }
-}
-
-/// A number in decimal digits.
-pub fn number_of(digits: &str) -> Result<u64> {
-    match digits.parse() {
-        Ok(n) => Ok(n),
-        Err(_) => bail!("no number: {digits}"),
-    }
 }
 
 /// A kind by its name.

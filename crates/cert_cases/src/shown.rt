@@ -1,7 +1,7 @@
 //! What a certificate says, as a text.
 
-use crate::parts::digits_of;
 use anyhow::Result;
+use case_parts::digits_of;
 use cert_obj::{CertUris, Held, ReadCert};
 use std::alloc::Global;
 

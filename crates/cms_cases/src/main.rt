@@ -8,9 +8,10 @@
 mod parts;
 mod places;
 
-use crate::parts::{bytes_of, digits_of, fixed_of, kind_of, number_of};
-use crate::places::{changes, cuts};
+use crate::parts::kind_of;
+use crate::places::ObjectProbe;
 use anyhow::{Context, Result, bail};
+use case_parts::{bytes_of, changes, cuts, digits_of, fixed_of, number_of};
 use cms_obj::{ObjectKind, SignedObject};
 use key_ids::KeyId;
 use signer_api::Signature;
@@ -38,8 +39,8 @@ fn answer(alloc: Global, call: &str, arguments: &str) -> Result<String> {
         "attributes" => attributes(alloc, arguments),
         "write" => write(alloc, arguments),
         "read" => read(alloc, arguments),
-        "cuts" => cuts(alloc, &bytes_of(alloc, arguments)?),
-        "changes" => changes(alloc, bytes_of(alloc, arguments)?),
+        "cuts" => cuts(alloc, &ObjectProbe, &bytes_of(alloc, arguments)?),
+        "changes" => changes(alloc, &ObjectProbe, bytes_of(alloc, arguments)?),
         _ => bail!("an unknown call: {call}"),
     }
 }

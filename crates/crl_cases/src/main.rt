@@ -8,9 +8,10 @@
 mod parts;
 mod places;
 
-use crate::parts::{bytes_of, digits_of, entries_of, fixed_of, number_of};
-use crate::places::{changes, cuts};
+use crate::parts::entries_of;
+use crate::places::CrlProbe;
 use anyhow::{Context, Result, bail};
+use case_parts::{bytes_of, changes, cuts, digits_of, fixed_of, number_of};
 use crl_obj::{Crl, ReadCrl};
 use key_ids::KeyId;
 use signer_api::Signature;
@@ -38,8 +39,8 @@ fn answer(alloc: Global, call: &str, arguments: &str) -> Result<String> {
         "tbs" => tbs(alloc, arguments),
         "write" => write(alloc, arguments),
         "read" => read(alloc, arguments),
-        "cuts" => cuts(alloc, &bytes_of(alloc, arguments)?),
-        "changes" => changes(alloc, bytes_of(alloc, arguments)?),
+        "cuts" => cuts(alloc, &CrlProbe, &bytes_of(alloc, arguments)?),
+        "changes" => changes(alloc, &CrlProbe, bytes_of(alloc, arguments)?),
         _ => bail!("an unknown call: {call}"),
     }
 }

@@ -50,11 +50,13 @@ content-taken bytes p fits e =
     let t = element-taken 0 48 bytes (a.0, []) fits a.1 in
     let whole : bytes ≡ spelled 48 a.0 = t.0 ∙ append-nil (spelled 48 a.0) in
     let input : IsInput a.0 = content-input bytes a.0 fits whole t.1 in
-    subst (IsContent bytes) a.2 (record { whole = whole; input = input; place = start-place a.0 input })
+    subst (IsContent bytes) a.2
+    (record { whole = whole; input = input; place = start-place a.0 input })
 
 pub content-again : (bytes content : List ℕ) → bytes ≡ spelled 48 content → length content < 2 ^ 32
     → content_in bytes ≡ Some (start content)
-content-again bytes content e short = rw (behind-nothing bytes content e, element-again 0 48 content [] short) refl
+content-again bytes content e short =
+    rw (behind-nothing bytes content e, element-again 0 48 content [] short) refl
 
 empty-told : (rest : List ℕ) → eqb (length rest) 0 ≡ true → is_empty rest ≡ true
 empty-told [] e = refl
@@ -115,12 +117,15 @@ answer-bad f wrong bytes fits e =
 pub read-again : {A : Type 0} (f : Whole A) → IsWhole f → (bytes : List ℕ) (v : A) → AreBytes bytes
     → SpellsIn f v bytes → f.read (start (f.spelling v)) ≡ Ok v
 read-again f law bytes v fits s =
-    let input : IsInput (f.spelling v) = content-input bytes (f.spelling v) fits s.spelled s.short in
+    let input : IsInput (f.spelling v) = content-input bytes (f.spelling v) fits s.spelled s.short
+    in
     law.again v (start (f.spelling v)) s.good (start-place (f.spelling v) input) refl
 
 pub answer-again : {A : Type 0} (f : Whole A) (wrong : Place → Bool) → IsWhole f
     → (bytes : List ℕ) (v : A) → AreBytes bytes → SpellsIn f v bytes → answer f wrong bytes ≡ Ok v
-answer-again f wrong law bytes v fits s = rw (content-again bytes (f.spelling v) s.spelled s.short, read-again f law bytes v fits s) refl
+answer-again f wrong law bytes v fits s =
+    rw (content-again bytes (f.spelling v) s.spelled s.short, read-again f law bytes v fits s)
+    refl
 
 abbrev answered : {A : Type 0} → A → Result A ExtFault
 answered x = Ok x
@@ -128,7 +133,9 @@ answered x = Ok x
 -- Bytes have one value.
 pub one-value : {A : Type 0} (f : Whole A) → IsWhole f → (a b : A) (bytes : List ℕ) → AreBytes bytes
     → SpellsIn f a bytes → SpellsIn f b bytes → a ≡ b
-one-value f law a b bytes fits one other = same a b (sym (answer-again f (λ p. false) law bytes a fits one) ∙ answer-again f (λ p. false) law bytes b fits other)
+one-value f law a b bytes fits one other =
+    same a b (sym (answer-again f (λ p. false) law bytes a fits one)
+    ∙ answer-again f (λ p. false) law bytes b fits other)
   where
     same : {A : Type 0} (x y : A) → answered x ≡ answered y → x ≡ y
     same x y e = cc
@@ -170,23 +177,27 @@ answer-else {A = A} f wrong bytes read bad = in-cases (content_in bytes) read ba
 pub met-found : {X A : Type 0} (f : Whole A) (wrong : Place → Bool) (view : X → A) → IsWhole f
     → (bytes : List ℕ) (r : Result X ExtFault) → AreBytes bytes
     → IsUnlessMemory view r (answer f wrong bytes) → IfOk r (λ x. SpellsIn f (view x) bytes)
-met-found f wrong view law bytes (Ok x) fits met = answer-taken f wrong law bytes (view x) fits (sym met)
+met-found f wrong view law bytes (Ok x) fits met = answer-taken f wrong law bytes (view x) fits
+    (sym met)
 met-found f wrong view law bytes (Err e) fits met = tt
 
 pub met-only : {X A : Type 0} (f : Whole A) (wrong : Place → Bool) (view : X → A) → IsWhole f
     → (bytes : List ℕ) (r : Result X ExtFault) → AreBytes bytes
     → IsUnlessMemory view r (answer f wrong bytes) → (v : A) → SpellsIn f v bytes
     → IsUnlessMemory view r (Ok v)
-met-only f wrong view law bytes r fits met v s = subst (IsUnlessMemory view r) (answer-again f wrong law bytes v fits s) met
+met-only f wrong view law bytes r fits met v s =
+    subst (IsUnlessMemory view r) (answer-again f wrong law bytes v fits s) met
 
 -- What a call answers that ran out of no memory.
 pub met-refused : {X Y : Type 0} (view : X → Y) (r : Result X ExtFault) (a : Result Y ExtFault)
     → IsUnlessMemory view r a → r ≡ Err NotCanonical → a ≡ Err NotCanonical
-met-refused {X = X} view r a met e = sym (subst (λ (s : Result X ExtFault). IsUnlessMemory view s a) e met)
+met-refused {X = X} view r a met e =
+    sym (subst (λ (s : Result X ExtFault). IsUnlessMemory view s a) e met)
 
 pub met-bad : {X Y : Type 0} (view : X → Y) (r : Result X ExtFault) (a : Result Y ExtFault)
     → IsUnlessMemory view r a → r ≡ Err BadFamily → a ≡ Err BadFamily
-met-bad {X = X} view r a met e = sym (subst (λ (s : Result X ExtFault). IsUnlessMemory view s a) e met)
+met-bad {X = X} view r a met e =
+    sym (subst (λ (s : Result X ExtFault). IsUnlessMemory view s a) e met)
 
 apart-ok : {A : Type 0} (v : A) (e : ExtFault) → answered v ≡ Err e → ⊥
 apart-ok v e h = absurd cc
@@ -194,7 +205,8 @@ apart-ok v e h = absurd cc
 pub refused-spells : {A : Type 0} (f : Whole A) (wrong : Place → Bool) → IsWhole f
     → (bytes : List ℕ) (e : ExtFault) → AreBytes bytes → answer f wrong bytes ≡ Err e → (v : A)
     → SpellsIn f v bytes → ⊥
-refused-spells f wrong law bytes e fits h v s = apart-ok v e (sym (answer-again f wrong law bytes v fits s) ∙ h)
+refused-spells f wrong law bytes e fits h v s =
+    apart-ok v e (sym (answer-again f wrong law bytes v fits s) ∙ h)
 
 -- Where nothing goes wrong, no family does.
 pub never-bad : {A : Type 0} (f : Whole A) (bytes : List ℕ) → answer f never bytes ≡ Err BadFamily
@@ -211,4 +223,6 @@ pub else-refused : {X A : Type 0} (f : Whole A) (wrong : Place → Bool) (view :
     → IsUnlessMemory view r (answer f wrong bytes) → ((v : A) → SpellsIn f v bytes → ⊥)
     → (answer f wrong bytes ≡ Err BadFamily → ⊥) → IsUnlessMemory view r (Err NotCanonical)
 else-refused f wrong view law bytes r fits met none right =
-    subst (IsUnlessMemory view r) (answer-else f wrong bytes (λ v e. none v (answer-taken f wrong law bytes v fits e)) right) met
+    subst (IsUnlessMemory view r)
+    (answer-else f wrong bytes (λ v e. none v (answer-taken f wrong law bytes v fits e))
+    right) met

@@ -1,5 +1,5 @@
--- What the bytes of an extension say (RFC 3779 sections 2.2 and 3.2), and which of them have a family of
--- addresses that may not come next.
+-- What the bytes of an extension say (RFC 3779 sections 2.2 and 3.2), and which of them have a
+-- family of addresses that may not come next.
 use Rattle.std.specs.Prelude.{◌≡◌, ℕ, ◌<◌, ◌^◌, Bool, true, false, ◌&&◌, ◌||◌, Option, Some, None, is_none, List, ◌++◌, length}
 use Rattle.der.specs.Tags as tag
 use Rattle.der.specs.Spelling.{spelled}
@@ -40,7 +40,8 @@ are_alike v4 v6 = true
 -- A family with this number may come next, behind those.
 abbrev pub may_follow : List ℕ → Option (Option Spans) → Option (Option Spans) → Bool
 may_follow number v4 v6 =
-    (are_same number (family_bytes V4) && is_none v4 && is_none v6) || (are_same number (family_bytes V6) && is_none v6)
+    (are_same number (family_bytes V4) && is_none v4 && is_none v6) ||
+    (are_same number (family_bytes V6) && is_none v6)
 
 -- Families as they may be stand in front, and then a whole element that begins with a whole OCTET
 -- STRING, which is the number of no family that may come next.

@@ -46,7 +46,8 @@ tried-again : {A : Type 0} (f : Front A) → IsFront f → (v : Option A) (p : P
     → OnSomeOf f.good v → IsPlace p → p.left ≡ spelled_some f.spelling v ++ rest
     → (v ≡ None → Begins f rest → ⊥) → ((tried f p).0 ≡ v) × ((tried f p).1.left ≡ rest)
 tried-again f law (Some x) p rest good is e none =
-    let read : f.read p ≡ Ok (x, next p (f.spelling x) rest) = law.again x p (next p (f.spelling x) rest) good is (is-next p (f.spelling x) rest e) in
+    let read : f.read p ≡ Ok (x, next p (f.spelling x) rest) =
+    law.again x p (next p (f.spelling x) rest) good is (is-next p (f.spelling x) rest e) in
     rw read (refl, refl)
 tried-again {A = A} f law None p rest good is e none = cases (f.read p) refl
   where
@@ -54,7 +55,8 @@ tried-again {A = A} f law None p rest good is e none = cases (f.read p) refl
         → ((found_or p r).0 ≡ None) × ((found_or p r).1.left ≡ rest)
     cases (Ok x) h =
         let t = law.taken x.0 p x.1 is h in
-        absurd (none refl (record { value = x.0; rest = x.1.left; good = t.0; spelled = sym e ∙ t.1.left }))
+        absurd (none refl
+        (record { value = x.0; rest = x.1.left; good = t.0; spelled = sym e ∙ t.1.left }))
     cases (Err d) h = (refl, e)
 
 -- ---- the number of the next family
@@ -62,12 +64,14 @@ tried-again {A = A} f law None p rest good is e none = cases (f.read p) refl
 pub named-law : IsFront named
 named-law =
     within-law tag.sequence (both (within tag.octet_string content) content)
-    (both-law (within tag.octet_string content) content (within-law tag.octet_string content content-law) content-law)
+    (both-law (within tag.octet_string content) content
+    (within-law tag.octet_string content content-law) content-law)
 
 one-named : (x y : List ℕ × List ℕ) (r s : List ℕ) → named.spelling x ++ r ≡ named.spelling y ++ s
     → x.0 ≡ y.0
 one-named x y r s e =
-    let outer = one_element tag.sequence tag.sequence (spelled tag.octet_string x.0 ++ x.1) (spelled tag.octet_string y.0 ++ y.1) r s e in
+    let outer = one_element tag.sequence tag.sequence (spelled tag.octet_string x.0 ++ x.1)
+    (spelled tag.octet_string y.0 ++ y.1) r s e in
     let inner = one_element tag.octet_string tag.octet_string x.0 y.0 x.1 y.1 outer.1 in
     inner.1
 
@@ -80,7 +84,8 @@ family-named family x = refl
 begins-numbered : (family : Family) (x : List ℕ × List ℕ) (rest : List ℕ)
     → Begins (part family) (named.spelling x ++ rest) → x.0 ≡ family_bytes family
 begins-numbered family x rest b =
-    let there : named.spelling x ++ rest ≡ named.spelling (family_bytes family, (choice family).spelling b.value) ++ b.rest =
+    let there : named.spelling x ++ rest
+    ≡ named.spelling (family_bytes family, (choice family).spelling b.value) ++ b.rest =
     b.spelled ∙ ap (λ (l : List ℕ). l ++ b.rest) (family-named family b.value) in
     one-named x (family_bytes family, (choice family).spelling b.value) rest b.rest there
 
@@ -89,14 +94,20 @@ v6-v4 e = cc
 
 v6-begins : (y : Option Spans) (rest : List ℕ) → Begins (part V4) ((part V6).spelling y ++ rest) → ⊥
 v6-begins y rest b =
-    let there : Begins (part V4) (named.spelling (family_bytes V6, (choice V6).spelling y) ++ rest) =
+    let there : Begins (part V4)
+    (named.spelling (family_bytes V6, (choice V6).spelling y) ++ rest) =
     subst (λ (l : List ℕ). Begins (part V4) (l ++ rest)) (family-named V6 y) b in
     v6-v4 (begins-numbered V4 (family_bytes V6, (choice V6).spelling y) rest there)
 
 nothing-named : (x : List ℕ × List ℕ) (rest : List ℕ) → [] ≡ named.spelling x ++ rest → ⊥
 nothing-named x rest e =
     let inner : List ℕ = spelled tag.octet_string x.0 ++ x.1 in
-    omega (arith, longer tag.sequence inner, ap length e, length-append (spelled tag.sequence inner) rest)
+    omega (
+      arith,
+      longer tag.sequence inner,
+      ap length e,
+      length-append (spelled tag.sequence inner) rest,
+    )
 
 nothing-begins : (family : Family) → Begins (part family) [] → ⊥
 nothing-begins family b =
@@ -112,23 +123,28 @@ v4-follows number e = rw (e, same-self (family_bytes V4)) refl
 v6-follows : (number : List ℕ) (v4 : Option (Option Spans)) → number ≡ family_bytes V6
     → may_follow number v4 None ≡ true
 v6-follows number v4 e =
-    or_right (are_same number (family_bytes V4) && is_none v4 && true) (are_same number (family_bytes V6) && true)
-    (and_from _ _ (ap (λ (n : List ℕ). are_same n (family_bytes V6)) e ∙ same-self (family_bytes V6)) refl)
+    or_right (are_same number (family_bytes V4) && is_none v4 && true)
+    (are_same number (family_bytes V6) && true)
+    (and_from _ _
+    (ap (λ (n : List ℕ). are_same n (family_bytes V6)) e ∙ same-self (family_bytes V6)) refl)
 
 -- Families that aren't there don't stand before a number that may not come next.
 no-v4 : (v6 : Option (Option Spans)) (x : List ℕ × List ℕ) (rest : List ℕ)
     → may_follow x.0 None v6 ≡ false
     → Begins (part V4) (spelled_some (part V6).spelling v6 ++ (named.spelling x ++ rest)) → ⊥
 no-v4 (Some y) x rest bad b = v6-begins y (named.spelling x ++ rest) b
-no-v4 None x rest bad b = not-both (may_follow x.0 None None) (v4-follows x.0 (begins-numbered V4 x rest b)) bad
+no-v4 None x rest bad b =
+    not-both (may_follow x.0 None None) (v4-follows x.0 (begins-numbered V4 x rest b)) bad
 
 no-v6 : (v4 : Option (Option Spans)) (x : List ℕ × List ℕ) (rest : List ℕ)
     → may_follow x.0 v4 None ≡ false → Begins (part V6) (named.spelling x ++ rest) → ⊥
-no-v6 v4 x rest bad b = not-both (may_follow x.0 v4 None) (v6-follows x.0 v4 (begins-numbered V6 x rest b)) bad
+no-v6 v4 x rest bad b =
+    not-both (may_follow x.0 v4 None) (v6-follows x.0 v4 (begins-numbered V6 x rest b)) bad
 
 -- ---- what goes wrong
 
-wrong-is : (a v4 b v6 : Option (Option Spans)) (r : Result ((List ℕ × List ℕ) × Place) ShapeFault) (x : (List ℕ × List ℕ) × Place)
+wrong-is : (a v4 b v6 : Option (Option Spans)) (r : Result ((List ℕ × List ℕ) × Place) ShapeFault)
+    (x : (List ℕ × List ℕ) × Place)
     → a ≡ v4 → b ≡ v6 → r ≡ Ok x → are_alike v4 v6 ≡ true → may_follow x.0.0 v4 v6 ≡ false
     → wrong_behind a b r ≡ true
 wrong-is a v4 b v6 r x one other read alike bad = rw (one, other, read, alike, bad) refl
@@ -137,17 +153,24 @@ pub wrong-again : (p : Place) → IsPlace p → GoesWrong p.left → goes_wrong 
 wrong-again p is w =
     let x : List ℕ × List ℕ = (w.number, w.more) in
     let behind : List ℕ = named.spelling x ++ w.rest in
-    let a = tried-again (part V4) (part-law V4) w.v4 p (spelled_some (part V6).spelling w.v6 ++ behind) w.v4_part is w.parts
-    (λ none b. no-v4 w.v6 x w.rest (subst (λ (v : Option (Option Spans)). may_follow w.number v w.v6 ≡ false) none w.bad) b) in
+    let a = tried-again (part V4) (part-law V4) w.v4 p
+    (spelled_some (part V6).spelling w.v6 ++ behind) w.v4_part is w.parts
+    (λ none b. no-v4 w.v6 x w.rest
+    (subst (λ (v : Option (Option Spans)). may_follow w.number v w.v6 ≡ false) none w.bad) b)
+    in
     let q : Place = (tried (part V4) p).1 in
     let place : IsPlace q = (tried-taken (part V4) (part-law V4) p is).place in
     let b = tried-again (part V6) (part-law V6) w.v6 q behind w.v6_part place a.1
-    (λ none b. no-v6 w.v4 x w.rest (subst (λ (v : Option (Option Spans)). may_follow w.number w.v4 v ≡ false) none w.bad) b) in
+    (λ none b. no-v6 w.v4 x w.rest
+    (subst (λ (v : Option (Option Spans)). may_follow w.number w.v4 v ≡ false) none w.bad) b)
+    in
     let s : Place = (tried (part V6) q).1 in
     let last : IsPlace s = (tried-taken (part V6) (part-law V6) q place).place in
     let read : named.read s ≡ Ok (x, next s (named.spelling x) w.rest) =
-    named-law.again x s (next s (named.spelling x) w.rest) (tt, tt) last (is-next s (named.spelling x) w.rest b.1) in
-    wrong-is (tried (part V4) p).0 w.v4 (tried (part V6) q).0 w.v6 (named.read s) (x, next s (named.spelling x) w.rest) a.0 b.0 read w.alike w.bad
+    named-law.again x s (next s (named.spelling x) w.rest) (tt, tt) last
+    (is-next s (named.spelling x) w.rest b.1) in
+    wrong-is (tried (part V4) p).0 w.v4 (tried (part V6) q).0 w.v6 (named.read s)
+    (x, next s (named.spelling x) w.rest) a.0 b.0 read w.alike w.bad
 
 pub wrong-taken : (p : Place) → IsPlace p → goes_wrong p ≡ true → GoesWrong p.left
 wrong-taken p is e = cases (named.read s) refl e
@@ -168,7 +191,8 @@ wrong-taken p is e = cases (named.read s) refl e
         → wrong_behind (tried (part V4) p).0 (tried (part V6) q).0 r ≡ true → GoesWrong p.left
     cases (Ok x) read told =
         let t = named-law.taken x.0 s x.1 b.place read in
-        let both = and_parts (are_alike (tried (part V4) p).0 (tried (part V6) q).0) (not (may_follow x.0.0 (tried (part V4) p).0 (tried (part V6) q).0)) told in
+        let both = and_parts (are_alike (tried (part V4) p).0 (tried (part V6) q).0)
+        (not (may_follow x.0.0 (tried (part V4) p).0 (tried (part V6) q).0)) told in
         record {
           v4 = (tried (part V4) p).0;
           v6 = (tried (part V6) q).0;
@@ -178,8 +202,11 @@ wrong-taken p is e = cases (named.read s) refl e
           v4_part = a.good;
           v6_part = b.good;
           alike = both.0;
-          parts = a.parts ∙ ap (λ (l : List ℕ). spelled_some (part V4).spelling (tried (part V4) p).0 ++ l)
-              (b.parts ∙ ap (λ (l : List ℕ). spelled_some (part V6).spelling (tried (part V6) q).0 ++ l) t.1.left);
+          parts = a.parts
+              ∙ ap (λ (l : List ℕ). spelled_some (part V4).spelling (tried (part V4) p).0 ++ l)
+              (b.parts ∙ ap
+              (λ (l : List ℕ). spelled_some (part V6).spelling (tried (part V6) q).0 ++ l)
+              t.1.left);
           bad = not-true _ both.1;
         }
     cases (Err d) read told = absurd cc
@@ -196,18 +223,22 @@ right-families : (x : Option (Option Spans) × (Option (Option Spans) × Unit {0
     → p.left ≡ spelled_some (part V4).spelling x.0 ++ (spelled_some (part V6).spelling x.1.0 ++ [])
     → GoesWrong p.left → ⊥
 right-families x p is v4 v6 e w =
-    let a = tried-again (part V4) (part-law V4) x.0 p (spelled_some (part V6).spelling x.1.0 ++ []) v4 is e (λ none b. none-behind x.1.0 b) in
+    let a = tried-again (part V4) (part-law V4) x.0 p
+    (spelled_some (part V6).spelling x.1.0 ++ []) v4 is e (λ none b. none-behind x.1.0 b) in
     let q : Place = (tried (part V4) p).1 in
     let place : IsPlace q = (tried-taken (part V4) (part-law V4) p is).place in
-    let b = tried-again (part V6) (part-law V6) x.1.0 q [] v6 place a.1 (λ none b. nothing-begins V6 b) in
+    let b = tried-again (part V6) (part-law V6) x.1.0 q [] v6 place a.1
+    (λ none b. nothing-begins V6 b) in
     let s : Place = (tried (part V6) q).1 in
     let last : IsPlace s = (tried-taken (part V6) (part-law V6) q place).place in
-    ended s last b.1 (tried (part V4) p).0 (tried (part V6) q).0 (named.read s) refl (wrong-again p is w)
+    ended s last b.1 (tried (part V4) p).0 (tried (part V6) q).0 (named.read s) refl
+    (wrong-again p is w)
   where
     ended : (s : Place) → IsPlace s → s.left ≡ []
         → (v4 v6 : Option (Option Spans)) (r : Result ((List ℕ × List ℕ) × Place) ShapeFault)
         → named.read s ≡ r → wrong_behind v4 v6 r ≡ true → ⊥
-    ended s last none v4 v6 (Ok x) read told = nothing-named x.0 x.1.left (sym none ∙ (named-law.taken x.0 s x.1 last read).1.left)
+    ended s last none v4 v6 (Ok x) read told =
+        nothing-named x.0 x.1.left (sym none ∙ (named-law.taken x.0 s x.1 last read).1.left)
     ended s last none v4 v6 (Err d) read told = absurd cc
 
 pub right-sets : (value : Option (Spans × Spans)) (p : Place) → IsPlace p → ip_content.good value
@@ -222,9 +253,11 @@ pub no-fault : (value : Option (Spans × Spans)) (bytes : List ℕ) → AreBytes
 no-fault value bytes fits s bad =
     let content : List ℕ = bad.content in
     let input : IsInput content = content-input bytes content fits bad.whole bad.short in
-    let around : spelled tag.sequence content ++ [] ≡ spelled tag.sequence (ip_content.spelling value) ++ [] =
+    let around : spelled tag.sequence content ++ [] ≡ spelled tag.sequence
+    (ip_content.spelling value) ++ [] =
     ap (λ (l : List ℕ). l ++ []) (sym bad.whole ∙ s.spelled) in
-    let same = one_element tag.sequence tag.sequence content (ip_content.spelling value) [] [] around in
+    let same = one_element tag.sequence tag.sequence content (ip_content.spelling value) [] []
+    around in
     right-sets value (start content) (start-place content input) s.good same.1 bad.wrong
 
 -- ---- the answer on addresses
@@ -233,16 +266,23 @@ pub bad-taken : (bytes : List ℕ) → AreBytes bytes
     → answer ip_content goes_wrong bytes ≡ Err BadFamily → HasBadFamily bytes
 bad-taken bytes fits e =
     let a = answer-bad ip_content goes_wrong bytes fits e in
-    record { content = a.0.left; whole = a.1.whole; short = a.1.input.short; wrong = wrong-taken a.0 a.1.place a.2 }
+    record {
+      content = a.0.left;
+      whole = a.1.whole;
+      short = a.1.input.short;
+      wrong = wrong-taken a.0 a.1.place a.2;
+    }
 
 pub bad-again : (bytes : List ℕ) → AreBytes bytes → HasBadFamily bytes
     → answer ip_content goes_wrong bytes ≡ Err BadFamily
 bad-again bytes fits bad =
-    let place : IsPlace (start bad.content) = start-place bad.content (content-input bytes bad.content fits bad.whole bad.short) in
+    let place : IsPlace (start bad.content) =
+    start-place bad.content (content-input bytes bad.content fits bad.whole bad.short) in
     answer-wrong ip_content goes_wrong ip_content-law bytes bad.content fits bad.whole bad.short
     (wrong-again (start bad.content) place bad.wrong) (λ v s. no-fault v bytes fits s bad)
 
-pub bad-met : {X : Type 0} (view : X → Option (Spans × Spans)) (bytes : List ℕ) (r : Result X ExtFault)
+pub bad-met : {X : Type 0} (view : X → Option (Spans × Spans)) (bytes : List ℕ)
+    (r : Result X ExtFault)
     → AreBytes bytes → IsUnlessMemory view r (answer ip_content goes_wrong bytes)
     → HasBadFamily bytes → IsUnlessMemory view r (Err BadFamily)
 bad-met view bytes r fits met bad = subst (IsUnlessMemory view r) (bad-again bytes fits bad) met
@@ -255,4 +295,5 @@ faults-apart e = absurd cc
 
 pub bad-refused : (bytes : List ℕ) → AreBytes bytes
     → answer ip_content goes_wrong bytes ≡ Err NotCanonical → HasBadFamily bytes → ⊥
-bad-refused bytes fits e bad = faults-apart {A = Option (Spans × Spans)} (sym e ∙ bad-again bytes fits bad)
+bad-refused bytes fits e bad = faults-apart {A = Option (Spans × Spans)}
+    (sym e ∙ bad-again bytes fits bad)

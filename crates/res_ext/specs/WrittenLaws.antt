@@ -11,7 +11,10 @@ use Rattle.res_ext.specs.Extensions.{SpellsIp, SpellsAs}
 ip-good : (v4 v6 : List Range) → AreCanonical V4 v4 → AreCanonical V6 v6
     → ip_content.good (Some (map span_of v4, map span_of v6))
 unfolding ip_content
-ip-good v4 v6 a b = (canonical_good V4 (map span_of v4) (canonical_tested V4 v4 a), canonical_good V6 (map span_of v6) (canonical_tested V6 v6 b))
+ip-good v4 v6 a b = (
+  canonical_good V4 (map span_of v4) (canonical_tested V4 v4 a),
+  canonical_good V6 (map span_of v6) (canonical_tested V6 v6 b),
+)
 
 ip-inherited : ip_content.good None
 unfolding ip_content
@@ -35,7 +38,8 @@ as-short = lit< tt
 
 pub written-ip : (v4 v6 : List Range) → AreCanonical V4 v4 → AreCanonical V6 v6
     → length (ip_content.spelling (Some (map span_of v4, map span_of v6))) < 2 ^ 32
-    → SpellsIp (Some (map span_of v4, map span_of v6)) (ip_blocks.spelling (Some (map span_of v4, map span_of v6)))
+    → SpellsIp (Some (map span_of v4, map span_of v6))
+    (ip_blocks.spelling (Some (map span_of v4, map span_of v6)))
 written-ip v4 v6 a b short = record { good = ip-good v4 v6 a b; short = short; spelled = refl }
 
 pub inherited-ip : SpellsIp None (ip_blocks.spelling None)
