@@ -1,0 +1,14 @@
+pub mod Checking
+pub mod Answering
+pub mod Vouched
+pub mod Spans
+pub mod Lists
+pub mod ByKind
+pub mod Steps
+pub mod Serials
+pub mod FileSteps
+pub mod Ending
+pub mod Visits
+pub mod PointSteps
+pub mod Revoked
+pub mod Prefixes
