@@ -12,3 +12,4 @@ mod Removed
 mod ChildPlaces
 mod Limits
 mod Same
+mod Gap

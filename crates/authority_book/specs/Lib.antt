@@ -6,3 +6,4 @@ pub mod Refusals
 pub mod Verdict
 pub mod Fold
 pub mod Limits
+pub mod Kept

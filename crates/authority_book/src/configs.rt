@@ -10,7 +10,7 @@ ghost use Rattle.authority_book.specs.Settings.{ConfigValue, Covers, plus};
 use crate::children::{copy_children, push_child, remove_child, set_grant, set_suspended};
 use crate::commands::Command;
 use crate::rows::{Child, NameRow};
-use crate::sorted_origins::update_origins;
+use crate::sorted_origins::SortedOrigins;
 use names::Name;
 use origins::Origin;
 use std::alloc::{AllocError, Global};
@@ -24,7 +24,7 @@ pub struct Config {
     deleted: bool,
     parent: Option<Name>,
     children: Vec<Child>,
-    origins: Vec<Origin>,
+    origins: SortedOrigins,
     inits: u32,
     activates: u32,
     count: u64,
@@ -48,7 +48,7 @@ impl Model for Config {
       room = record {
         names = vec_capacity config.names - vec_len config.names;
         children = vec_capacity config.children - vec_len config.children;
-        origins = vec_capacity config.origins - vec_len config.origins;
+        origins = config.origins.room;
       };
     } };
 
@@ -77,7 +77,7 @@ impl Config {
             deleted: false,
             parent: None,
             children: Vec::new(alloc),
-            origins: Vec::new(alloc),
+            origins: SortedOrigins::new(alloc),
             inits: 0,
             activates: 0,
             count: 0,
@@ -152,7 +152,7 @@ impl Config {
     pub fn contains(&self, origin: &Origin) -> bool
         ensures { result ≡ is_there self.now.settings.origins origin.now }
     {
-        self.origins.binary_search(origin).is_ok()
+        self.origins().binary_search(origin).is_ok()
     }
 
     /// How often a key roll was begun.
@@ -186,7 +186,7 @@ impl Config {
             deleted: self.deleted,
             parent: self.parent,
             children: copy_children(alloc, self.children.as_slice())?,
-            origins: self.origins.as_slice().to_vec(alloc)?,
+            origins: self.origins.copy(alloc)?,
             inits: self.inits,
             activates: self.activates,
             count: self.count,
@@ -234,7 +234,7 @@ impl Config {
             Command::SuspendChild { child } => set_suspended(&mut self.children, &child, true),
             Command::UnsuspendChild { child } => set_suspended(&mut self.children, &child, false),
             Command::UpdateRoas { added, removed } => {
-                update_origins(&mut self.origins, &added, &removed);
+                self.origins.update(&added, &removed);
             }
         }
         self.count = self.count.saturating_add(1);

@@ -1,5 +1,5 @@
 -- What a line comes to, by its slots.
-use Rattle.std.proofs.Common.{◌≡◌, ℕ, List, Option, Some, None, Err, true, refl, sym, ap, subst, ◌∙◌}
+use Rattle.std.proofs.Common.{◌≡◌, ℕ, List, Option, Some, None, Ok, Err, true, refl, sym, ap, subst, ◌∙◌}
 use Rattle.std.specs.Prelude.{Result}
 use Rattle.serde_json.specs.Data.{Data, null, boolean, number, string, array, object, Members}
 use Rattle.serde_json.specs.Find.{get, get_member, as_object}
@@ -12,7 +12,7 @@ use Rattle.json_api.specs.declared.line.LineFault.TheVariants.{BadLine, UnknownC
 use Rattle.json_api.specs.declared.slots.Slot.{Slot}
 use Rattle.json_api.specs.declared.slots.Slot.TheVariants.{Absent}
 use Rattle.json_api.specs.Names.{name_of, kind_of, first_other}
-use Rattle.json_api.specs.Table.{as_row, line_at, of_row, of_members}
+use Rattle.json_api.specs.Table.{as_row, line_at, only, of_row, of_members}
 use Rattle.json_api.specs.Slots.{slot_at, are_taken}
 use Rattle.json_api.specs.Line.{Tells, AreSlots, ReadsValue}
 use Rattle.json_api.specs.Passes.{IsMember, AreMembers}
@@ -22,20 +22,25 @@ use Rattle.json_api.proofs.Others.{none_other}
 pub AreSlots-members : (ms : Members) (slots : List Slot) → AreMembers ms slots → AreSlots (object ms) (slot_at slots)
 AreSlots-members ms slots are f = subst (λ (o : Option Field). IsMember o (get_member (name_of f) ms) slots) (field_named-name_of f) (are (name_of f))
 
+only-none : (found : Result Line LineFault) → only found None ≡ found
+only-none (Ok meant) = refl
+only-none (Err fault) = refl
+
 -- the row of a line whose tokens told it
 pub row_answers : (ms : Members) (slots : List Slot) (of : Row) (result : Result Line LineFault) → AreMembers ms slots → as_row (slot_at slots Command) ≡ Some of
-    → are_taken of slots ≡ true → result ≡ line_at of (slot_at slots) None → ReadsValue (object ms) result
+    → are_taken of slots ≡ true → result ≡ line_at of (slot_at slots) → ReadsValue (object ms) result
 row_answers ms slots of result are row taken says = record {
   slots = slot_at slots;
   are = AreSlots-members ms slots are;
   says = says
-      ∙ ap (λ (other : Option (List ℕ)). line_at of (slot_at slots) other) (sym (none_other of ms slots are taken))
+      ∙ sym (only-none (line_at of (slot_at slots)))
+      ∙ ap (λ (other : Option (List ℕ)). only (line_at of (slot_at slots)) other) (sym (none_other of ms slots are taken))
       ∙ ap (λ (r : Option Row). of_row r (slot_at slots) ms) (sym row);
 }
 
 -- the row of a line whose value told it
 pub value_answers : (value : Data) (ms : Members) (slots : List Slot) (of : Row) (result : Result Line LineFault) → as_object value ≡ Some ms → AreSlots value (slot_at slots)
-    → as_row (slot_at slots Command) ≡ Some of → result ≡ line_at of (slot_at slots) (first_other of ms) → ReadsValue value result
+    → as_row (slot_at slots Command) ≡ Some of → result ≡ only (line_at of (slot_at slots)) (first_other of ms) → ReadsValue value result
 value_answers value ms slots of result is are row says = record {
   slots = slot_at slots;
   are = are;

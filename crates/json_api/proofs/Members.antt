@@ -1,5 +1,6 @@
 -- The slots that are filled from a line's members, one member more at a time.
-use Rattle.std.proofs.Common.{◌≡◌, ℕ, List, Bool, true, false, true≢false, Option, Some, None, bytes_eq, set, refl, sym, subst, ◌∙◌, inl}
+use Rattle.std.proofs.Common.{◌≡◌, ◌⊎◌, ℕ, ◌+◌, ◌<◌, List, Bool, true, false, true≢false, Option, Some, None, bytes_eq, get_or, set, refl, sym, ap, subst, ◌∙◌, inl, inr, arith}
+use Rattle.std.proofs.lemmas.Bool.{cases_order}
 use Rattle.std.proofs.lemmas.Slice.Eq.{bytes_eq-Decides}
 use Rattle.std.proofs.lemmas.List.{get_or-set_other}
 use Rattle.serde_json.specs.Data.{Data, Members, no_members, put}
@@ -51,3 +52,14 @@ module _ (ms : Members) (slots : List Slot) (f : Field) (d : Data) (s : Slot) wh
     -- a field's member goes in, and its slot with it
     pub AreMembers-put : AreMembers (put (name_of f) d ms) (set slots (place_of f) s)
     AreMembers-put name = at name (bytes_eq name (name_of f)) refl
+
+-- ---- slots that are left
+
+-- one slot more is left, that at the place
+pub vacated : (old new : List Slot) (i : ℕ) → ((p : ℕ) → p < i → get_or old p Absent ≡ Absent) → get_or new i Absent ≡ Absent
+    → ((p : ℕ) → get_or old p Absent ≡ Absent → get_or new p Absent ≡ Absent) → (p : ℕ) → p < i + 1 → get_or new p Absent ≡ Absent
+vacated old new i before here others p within = each (cases_order p i) where
+  each : (p ≡ i) ⊎ ((p < i) ⊎ (i < p)) → get_or new p Absent ≡ Absent
+  each (inl same) = ap (λ k. get_or new k Absent) same ∙ here
+  each (inr (inl less)) = others p (before p less)
+  each (inr (inr more)) = absurd (omega (arith, within, more))

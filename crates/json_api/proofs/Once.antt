@@ -1,6 +1,6 @@
 -- No line is read in two ways.
 use mathlib.Core.HLevel.{is_prop→PathP}
-use Rattle.std.proofs.Common.{◌≡◌, ◌⊎◌, ℕ, ◌<◌, ◌^◌, List, [], ◌∷◌, Option, Some, None, IsSomeAnd, inl, inr, refl, sym, ap, subst, ◌∙◌}
+use Rattle.std.proofs.Common.{◌≡◌, ℕ, ◌<◌, ◌^◌, List, [], ◌∷◌, Option, Some, None, IsSomeAnd, inl, inr, refl, sym, ap, subst, ◌∙◌}
 use Rattle.std.specs.Prelude.{Result, codes, option_and_then}
 use Rattle.std.proofs.Props.{props}
 use Rattle.serde_json.specs.Data.{Data, Items, no_items, item}
@@ -25,7 +25,7 @@ use Rattle.json_api.specs.declared.slots.Slot.{Slot}
 use Rattle.json_api.specs.declared.slots.Slot.TheVariants as slot
 use Rattle.json_api.specs.Names.{name_of, kind_of, row_named}
 use Rattle.json_api.specs.Table.{Slots, as_row, as_name, as_number as number_in, as_resources, as_origins, line_of}
-use Rattle.json_api.specs.Line.{AreOriginTexts, IsSetText, AreResources, Says, Tells, AreSlots, IsDocument, ReadsValue, ReadsLine}
+use Rattle.json_api.specs.Line.{AreOriginTexts, IsSetText, AreResources, Says, Tells, AreSlots, ReadsValue, ReadsLine}
 
 -- what is known of the texts of sets and of origins
 pub record TextsOnce : Type 0 where

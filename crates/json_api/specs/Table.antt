@@ -53,11 +53,6 @@ abbrev pub with_field : {A : Type 0} → Field → Option A → (A → Result Li
 with_field f None rest = Err (BadField (name_of f))
 with_field f (Some value) rest = rest value
 
--- the line, where there is no other member
-abbrev pub only : Option (List ℕ) → Line → Result Line LineFault
-only None meant = Ok meant
-only (Some name) meant = Err (BadField name)
-
 -- the trust anchor's name
 abbrev pub anchor : List ℕ
 anchor = codes "ta"
@@ -78,31 +73,37 @@ resources f s rest = with_field f (as_resources (s f)) rest
 abbrev pub origins : Field → Slots → (List Origin → Result Line LineFault) → Result Line LineFault
 origins f s rest = with_field f (as_origins (or_default (slot.Origins []) (s f))) rest
 
-abbrev pub command : List ℕ → Option (List ℕ) → Command → Result Line LineFault
-command ca other meant = only other (line.Command ca meant)
+abbrev pub command : List ℕ → Command → Result Line LineFault
+command ca meant = Ok (line.Command ca meant)
 
 -- A row's fields are read in their order: the first that is missing, of another type or outside its
--- grammar is the fault. Then the first other member is. A new authority is added by the anchor.
-abbrev pub line_at : Row → Slots → Option (List ℕ) → Result Line LineFault
-line_at row.Add s other = name Ca s (λ new. number Signer 0 s (λ signer. command anchor other (commands.Add new signer)))
-line_at row.Delete s other = name Ca s (λ ca. command ca other commands.Delete)
-line_at row.ParentsAdd s other = name Ca s (λ ca. name Parent s (λ parent. command ca other (commands.AddParent parent)))
-line_at row.ChildrenAdd s other = name Ca s (λ ca. name Child s (λ child. resources field.Resources s (λ grant. command ca other (commands.AddChild child grant))))
-line_at row.ChildrenUpdate s other = name Ca s (λ ca. name Child s (λ child. resources field.Resources s (λ grant. command ca other (commands.UpdateChild child grant))))
-line_at row.ChildrenRemove s other = name Ca s (λ ca. name Child s (λ child. command ca other (commands.RemoveChild child)))
-line_at row.ChildrenSuspend s other = name Ca s (λ ca. name Child s (λ child. command ca other (commands.SuspendChild child)))
-line_at row.ChildrenUnsuspend s other = name Ca s (λ ca. name Child s (λ child. command ca other (commands.UnsuspendChild child)))
-line_at row.RoasUpdate s other = name Ca s (λ ca. origins field.Add s (λ added. origins Remove s (λ removed. command ca other (commands.UpdateRoas added removed))))
-line_at row.List s other = only other line.List
-line_at row.Show s other = name Ca s (λ ca. only other (line.Show ca))
-line_at row.RoasList s other = name Ca s (λ ca. only other (line.Roas ca))
-line_at row.HistoryCommands s other = name Ca s (λ ca. only other (line.History ca))
+-- grammar is the fault. A new authority is added by the anchor.
+abbrev pub line_at : Row → Slots → Result Line LineFault
+line_at row.Add s = name Ca s (λ new. number Signer 0 s (λ signer. command anchor (commands.Add new signer)))
+line_at row.Delete s = name Ca s (λ ca. command ca commands.Delete)
+line_at row.ParentsAdd s = name Ca s (λ ca. name Parent s (λ parent. command ca (commands.AddParent parent)))
+line_at row.ChildrenAdd s = name Ca s (λ ca. name Child s (λ child. resources field.Resources s (λ grant. command ca (commands.AddChild child grant))))
+line_at row.ChildrenUpdate s = name Ca s (λ ca. name Child s (λ child. resources field.Resources s (λ grant. command ca (commands.UpdateChild child grant))))
+line_at row.ChildrenRemove s = name Ca s (λ ca. name Child s (λ child. command ca (commands.RemoveChild child)))
+line_at row.ChildrenSuspend s = name Ca s (λ ca. name Child s (λ child. command ca (commands.SuspendChild child)))
+line_at row.ChildrenUnsuspend s = name Ca s (λ ca. name Child s (λ child. command ca (commands.UnsuspendChild child)))
+line_at row.RoasUpdate s = name Ca s (λ ca. origins field.Add s (λ added. origins Remove s (λ removed. command ca (commands.UpdateRoas added removed))))
+line_at row.List s = Ok line.List
+line_at row.Show s = name Ca s (λ ca. Ok (line.Show ca))
+line_at row.RoasList s = name Ca s (λ ca. Ok (line.Roas ca))
+line_at row.HistoryCommands s = name Ca s (λ ca. Ok (line.History ca))
+
+-- the line that the fields come to, where there is no other member
+abbrev pub only : Result Line LineFault → Option (List ℕ) → Result Line LineFault
+only (Err fault) other = Err fault
+only (Ok meant) None = Ok meant
+only (Ok meant) (Some name) = Err (BadField name)
 
 -- ---- what an object comes to
 
 abbrev pub of_row : Option Row → Slots → Members → Result Line LineFault
 of_row None s ms = Err UnknownCommand
-of_row (Some of) s ms = line_at of s (first_other of ms)
+of_row (Some of) s ms = only (line_at of s) (first_other of ms)
 
 abbrev pub of_members : Option Members → Slots → Result Line LineFault
 of_members None s = Err BadLine

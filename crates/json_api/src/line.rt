@@ -1,15 +1,17 @@
 //! Lines: one JSON object each, which gives a command to an authority or asks for something.
 
-ghost use Rattle.std.specs.Prelude.{◌≡◌, ◌≢◌, ◌⊎◌, ℕ, List, IfOk, IfSome, MatchResult, Some, None, Ok, Err, IsUtf8, string_bytes};
+ghost use Rattle.std.specs.Prelude.{◌≡◌, ◌≢◌, ◌⊎◌, ℕ, List, Result, IfOk, IfSome, MatchResult, Some, None, Ok, Err, IsUtf8, string_bytes};
 ghost use Rattle.serde_json.specs.Data.{Data, object, Members};
 ghost use Rattle.serde_json.specs.Read.{read};
 ghost use Rattle.serde_json.specs.View.{view};
 ghost use Rattle.json_api.specs.Names.{name_of};
-ghost use Rattle.json_api.specs.Table.{line_of};
+ghost use Rattle.json_api.specs.Slots.{slot_at};
+ghost use Rattle.json_api.specs.Table.{line_at, line_of, only};
 ghost use Rattle.json_api.specs.Line.{ReadsLine, ReadsValue};
 ghost use Rattle.json_api.specs.declared.line.LineFault.TheVariants.{Memory};
 
-use crate::fields::Field;
+use crate::fields::{Field, Row};
+use crate::slots::{Slot, Slots};
 use crate::tokens::read_slots;
 use crate::values::{first_other, slots_of};
 use authority_book::Command;
@@ -129,6 +131,8 @@ impl<T: Drop> From<AllocFailed<T>> for LineFault {
 #[derive(Drop)]
 pub struct LineReader {
     scratch: Scratch,
+    // What the members of a line hold.
+    slots: Slots,
 }
 
 // A clause sees nothing of it: what a line means doesn't depend on the lines before.
@@ -143,6 +147,7 @@ impl LineReader {
     pub fn new(alloc: Global) -> LineReader {
         LineReader {
             scratch: Scratch::new(alloc),
+            slots: Slots::absent(),
         }
     }
 
@@ -151,7 +156,18 @@ impl LineReader {
     pub fn read(&mut self, alloc: Global, line: &[u8]) -> Result<Line, LineFault>
         ensures { result ≢ Err Memory → ReadsLine line.now result }
     {
-        read_with(alloc, line, &mut self.scratch)
+        if line.len() > MAX_LINE_LEN {
+            return Err(LineFault::BadLine);
+        }
+        let Ok(text) = simdutf8::compat::from_utf8(line) else {
+            return Err(LineFault::BadLine);
+        };
+        self.slots.clear();
+        if let Some(row) = read_plain(alloc, text, &mut self.scratch, &mut self.slots)? {
+            return row.line(alloc, &mut self.slots);
+        }
+        let value = read_value(alloc, text)?;
+        line_in(alloc, &value)
     }
 }
 
@@ -159,44 +175,29 @@ impl LineReader {
 pub fn read_line(alloc: Global, line: &[u8]) -> Result<Line, LineFault>
     ensures { result ≢ Err Memory → ReadsLine line.now result }
 {
-    read_with(alloc, line, &mut Scratch::new(alloc))
+    LineReader::new(alloc).read(alloc, line)
 }
 
-fn read_with(alloc: Global, line: &[u8], scratch: &mut Scratch) -> Result<Line, LineFault>
-    ensures { result ≢ Err Memory → ReadsLine line.now result }
+// The row of the line that the text is, where its tokens tell it and fill the slots. It is `None` for
+// any other text, and for some that are lines.
+fn read_plain(
+    alloc: Global,
+    text: &str,
+    scratch: &mut Scratch,
+    slots: &mut Slots,
+) -> Result<Option<Row>, AllocError>
+    requires absent { (f : Field) → slot_at slots.old f ≡ Slot.Absent }
+    ensures { IfOk result (λ found. IfSome found (λ row. (value : Data)
+        × (read text.now ≡ Some value)
+        × ((line : Result Line LineFault) → line ≡ line_at row (slot_at slots.new)
+        → ReadsValue value line))) }
 {
-    if line.len() > MAX_LINE_LEN {
-        return Err(LineFault::BadLine);
-    }
-    let Ok(text) = simdutf8::compat::from_utf8(line) else {
-        return Err(LineFault::BadLine);
-    };
-    if let Some(line) = read_plain(alloc, text, scratch)? {
-        return Ok(line);
-    }
-    let value = read_value(alloc, text)?;
-    line_in(alloc, &value)
-}
-
-// The line that the text is, where its tokens tell it. It is `None` for any other text, and for some
-// that are lines.
-fn read_plain(alloc: Global, text: &str, scratch: &mut Scratch) -> Result<Option<Line>, AllocError>
-    ensures { IfOk result (λ found. IfSome found (λ line. (value : Data)
-        × (read text.now ≡ Some value) × ReadsValue value (Ok line))) }
-{
-    let Some(mut slots) = read_slots(alloc, text, scratch)? else {
-        return Ok(None);
-    };
-    let Some(row) = slots.row() else {
-        return Ok(None);
-    };
-    if !slots.are_taken(row) {
+    if !read_slots(alloc, text, scratch, slots)? {
         return Ok(None);
     }
-    match row.line(alloc, &mut slots, None) {
-        Ok(line) => Ok(Some(line)),
-        Err(LineFault::Memory) => Err(AllocError),
-        Err(_) => Ok(None),
+    match slots.row() {
+        Some(row) if slots.are_taken(row) => Ok(Some(row)),
+        _ => Ok(None),
     }
 }
 
@@ -223,6 +224,17 @@ fn line_in(alloc: Global, value: &Value) -> Result<Line, LineFault>
     let Some(row) = slots.row() else {
         return Err(LineFault::UnknownCommand);
     };
+    let found = row.line(alloc, &mut slots);
     let other = first_other(alloc, members, row)?;
-    row.line(alloc, &mut slots, other)
+    only(found, other)
+}
+
+// The line that the fields come to, where there is no other member.
+fn only(found: Result<Line, LineFault>, other: Option<MemberName>) -> Result<Line, LineFault>
+    ensures { result ≡ only found other }
+{
+    match (found, other) {
+        (Ok(_), Some(name)) => Err(LineFault::BadField { name }),
+        (found, _) => found,
+    }
 }

@@ -144,24 +144,19 @@ pub fn verdict_into(alloc: Global, out: &mut Vec<u8>, refusal: &Refusal) -> Resu
     ensures err { OnErr result (out.new.items ≡ out.old.items) }
     ensures capacity { vec_capacity out.old ≤ vec_capacity out.new }
 {
-    let detail = detail_of(alloc, refusal)?;
-    append_refusal(alloc, out, refusal.code(), &detail, refusal.name())
-}
-
-// What the refusal is about: an origin, or how many origins there would be.
-fn detail_of(alloc: Global, refusal: &Refusal) -> Result<String, AllocError>
-    ensures { IfOk result (λ detail. string_bytes detail ≡ verdict_detail refusal.now) }
-{
-    match refusal {
+    let detail = match refusal {
         Refusal::OriginThere { origin }
         | Refusal::OriginTwice { origin }
-        | Refusal::NoSuchOrigin { origin } => origin.text(alloc),
-        Refusal::TooManyOrigins { after } => {
-            let mut digits = itoa::Buffer::new();
-            String::from_str(alloc, digits.format(*after))
+        | Refusal::NoSuchOrigin { origin } => {
+            let text = origin.text(alloc)?;
+            return append_refusal(alloc, out, refusal.code(), &text, refusal.name());
         }
-        _ => Ok(String::new(alloc)),
-    }
+        Refusal::TooManyOrigins { after } => Detail::Number(*after),
+        _ => Detail::Nothing,
+    };
+    out.reserve(REFUSAL_ROOM)?;
+    refusal_into(out, refusal.code(), detail, refusal.name());
+    Ok(())
 }
 
 /// Appends the reply to what is no line of the table, whole or not at all.

@@ -1,12 +1,12 @@
 //! The rows of the table: what the fields of a line come to.
 
 ghost use Rattle.std.specs.Prelude.{◌≡◌, ◌≢◌, Err, IsTrue, length};
-ghost use Rattle.json_api.specs.Table.{anchor, only, line_at};
+ghost use Rattle.json_api.specs.Table.{anchor, line_at};
 ghost use Rattle.json_api.specs.Slots.{slot_at};
 ghost use Rattle.json_api.specs.declared.line.LineFault.TheVariants.{Memory};
 
 use crate::fields::{Field, Row};
-use crate::line::{Line, LineFault, MemberName};
+use crate::line::{Line, LineFault};
 use crate::slots::Slots;
 use authority_book::Command;
 use names::Name;
@@ -14,47 +14,25 @@ use std::alloc::Global;
 
 impl Row {
     /// The line of that row, where no other member stands in it.
-    pub(crate) fn line(
-        self,
-        alloc: Global,
-        slots: &mut Slots,
-        other: Option<MemberName>,
-    ) -> Result<Line, LineFault>
-        ensures { result ≢ Err Memory → result ≡ line_at self (slot_at slots.old) other }
+    pub(crate) fn line(self, alloc: Global, slots: &mut Slots) -> Result<Line, LineFault>
+        ensures { result ≢ Err Memory → result ≡ line_at self (slot_at slots.old) }
     {
         match self {
-            Row::Add => add(slots, other),
-            Row::Delete => delete(slots, other),
-            Row::ParentsAdd => add_parent(slots, other),
-            Row::ChildrenAdd => add_child(slots, other),
-            Row::ChildrenUpdate => update_child(slots, other),
-            Row::ChildrenRemove => remove_child(slots, other),
-            Row::ChildrenSuspend => suspend_child(slots, other),
-            Row::ChildrenUnsuspend => unsuspend_child(slots, other),
-            Row::RoasUpdate => update_roas(alloc, slots, other),
-            Row::List => only(other, Line::List),
-            Row::Show => show(slots, other),
-            Row::RoasList => roas_list(slots, other),
-            Row::HistoryCommands => history_commands(slots, other),
+            Row::Add => add(slots),
+            Row::Delete => delete(slots),
+            Row::ParentsAdd => add_parent(slots),
+            Row::ChildrenAdd => add_child(slots),
+            Row::ChildrenUpdate => update_child(slots),
+            Row::ChildrenRemove => remove_child(slots),
+            Row::ChildrenSuspend => suspend_child(slots),
+            Row::ChildrenUnsuspend => unsuspend_child(slots),
+            Row::RoasUpdate => update_roas(alloc, slots),
+            Row::List => Ok(Line::List),
+            Row::Show => show(slots),
+            Row::RoasList => roas_list(slots),
+            Row::HistoryCommands => history_commands(slots),
         }
     }
-}
-
-// The line, where there is no other member.
-fn only(other: Option<MemberName>, line: Line) -> Result<Line, LineFault>
-    ensures { result ≡ only other line }
-{
-    match other {
-        None => Ok(line),
-        Some(name) => Err(LineFault::BadField { name }),
-    }
-}
-
-// The line of a command, where there is no other member.
-fn command(other: Option<MemberName>, name: Name, command: Command) -> Result<Line, LineFault>
-    ensures { result ≡ only other (Line.Command name command) }
-{
-    only(other, Line::Command { name, command })
 }
 
 fn anchor() -> Name
@@ -66,101 +44,109 @@ fn anchor() -> Name
     }
 }
 
-fn add(slots: &Slots, other: Option<MemberName>) -> Result<Line, LineFault>
-    ensures { result ≡ line_at Row.Add (slot_at slots.now) other }
+fn add(slots: &Slots) -> Result<Line, LineFault>
+    ensures { result ≡ line_at Row.Add (slot_at slots.now) }
 {
     let name = slots.name(Field::Ca)?;
     let signer = slots.number_or(Field::Signer, 0)?;
-    command(other, anchor(), Command::Add { name, signer })
+    let command = Command::Add { name, signer };
+    Ok(Line::Command {
+        name: anchor(),
+        command,
+    })
 }
 
-fn delete(slots: &Slots, other: Option<MemberName>) -> Result<Line, LineFault>
-    ensures { result ≡ line_at Row.Delete (slot_at slots.now) other }
+fn delete(slots: &Slots) -> Result<Line, LineFault>
+    ensures { result ≡ line_at Row.Delete (slot_at slots.now) }
 {
     let name = slots.name(Field::Ca)?;
-    command(other, name, Command::Delete)
+    let command = Command::Delete;
+    Ok(Line::Command { name, command })
 }
 
-fn add_parent(slots: &Slots, other: Option<MemberName>) -> Result<Line, LineFault>
-    ensures { result ≡ line_at Row.ParentsAdd (slot_at slots.now) other }
+fn add_parent(slots: &Slots) -> Result<Line, LineFault>
+    ensures { result ≡ line_at Row.ParentsAdd (slot_at slots.now) }
 {
     let name = slots.name(Field::Ca)?;
     let parent = slots.name(Field::Parent)?;
-    command(other, name, Command::AddParent { parent })
+    let command = Command::AddParent { parent };
+    Ok(Line::Command { name, command })
 }
 
-fn add_child(slots: &mut Slots, other: Option<MemberName>) -> Result<Line, LineFault>
-    ensures { result ≡ line_at Row.ChildrenAdd (slot_at slots.old) other }
+fn add_child(slots: &mut Slots) -> Result<Line, LineFault>
+    ensures { result ≡ line_at Row.ChildrenAdd (slot_at slots.old) }
 {
     let name = slots.name(Field::Ca)?;
     let child = slots.name(Field::Child)?;
     let grant = slots.resources(Field::Resources)?;
-    command(other, name, Command::AddChild { child, grant })
+    let command = Command::AddChild { child, grant };
+    Ok(Line::Command { name, command })
 }
 
-fn update_child(slots: &mut Slots, other: Option<MemberName>) -> Result<Line, LineFault>
-    ensures { result ≡ line_at Row.ChildrenUpdate (slot_at slots.old) other }
+fn update_child(slots: &mut Slots) -> Result<Line, LineFault>
+    ensures { result ≡ line_at Row.ChildrenUpdate (slot_at slots.old) }
 {
     let name = slots.name(Field::Ca)?;
     let child = slots.name(Field::Child)?;
     let grant = slots.resources(Field::Resources)?;
-    command(other, name, Command::UpdateChild { child, grant })
+    let command = Command::UpdateChild { child, grant };
+    Ok(Line::Command { name, command })
 }
 
-fn remove_child(slots: &Slots, other: Option<MemberName>) -> Result<Line, LineFault>
-    ensures { result ≡ line_at Row.ChildrenRemove (slot_at slots.now) other }
+fn remove_child(slots: &Slots) -> Result<Line, LineFault>
+    ensures { result ≡ line_at Row.ChildrenRemove (slot_at slots.now) }
 {
     let name = slots.name(Field::Ca)?;
     let child = slots.name(Field::Child)?;
-    command(other, name, Command::RemoveChild { child })
+    let command = Command::RemoveChild { child };
+    Ok(Line::Command { name, command })
 }
 
-fn suspend_child(slots: &Slots, other: Option<MemberName>) -> Result<Line, LineFault>
-    ensures { result ≡ line_at Row.ChildrenSuspend (slot_at slots.now) other }
+fn suspend_child(slots: &Slots) -> Result<Line, LineFault>
+    ensures { result ≡ line_at Row.ChildrenSuspend (slot_at slots.now) }
 {
     let name = slots.name(Field::Ca)?;
     let child = slots.name(Field::Child)?;
-    command(other, name, Command::SuspendChild { child })
+    let command = Command::SuspendChild { child };
+    Ok(Line::Command { name, command })
 }
 
-fn unsuspend_child(slots: &Slots, other: Option<MemberName>) -> Result<Line, LineFault>
-    ensures { result ≡ line_at Row.ChildrenUnsuspend (slot_at slots.now) other }
+fn unsuspend_child(slots: &Slots) -> Result<Line, LineFault>
+    ensures { result ≡ line_at Row.ChildrenUnsuspend (slot_at slots.now) }
 {
     let name = slots.name(Field::Ca)?;
     let child = slots.name(Field::Child)?;
-    command(other, name, Command::UnsuspendChild { child })
+    let command = Command::UnsuspendChild { child };
+    Ok(Line::Command { name, command })
 }
 
-fn update_roas(
-    alloc: Global,
-    slots: &mut Slots,
-    other: Option<MemberName>,
-) -> Result<Line, LineFault>
-    ensures { result ≢ Err Memory → result ≡ line_at Row.RoasUpdate (slot_at slots.old) other }
+fn update_roas(alloc: Global, slots: &mut Slots) -> Result<Line, LineFault>
+    ensures { result ≢ Err Memory → result ≡ line_at Row.RoasUpdate (slot_at slots.old) }
 {
     let name = slots.name(Field::Ca)?;
     let added = slots.origins(alloc, Field::Add)?;
     let removed = slots.origins(alloc, Field::Remove)?;
-    command(other, name, Command::UpdateRoas { added, removed })
+    let command = Command::UpdateRoas { added, removed };
+    Ok(Line::Command { name, command })
 }
 
-fn show(slots: &Slots, other: Option<MemberName>) -> Result<Line, LineFault>
-    ensures { result ≡ line_at Row.Show (slot_at slots.now) other }
+fn show(slots: &Slots) -> Result<Line, LineFault>
+    ensures { result ≡ line_at Row.Show (slot_at slots.now) }
 {
     let name = slots.name(Field::Ca)?;
-    only(other, Line::Show { name })
+    Ok(Line::Show { name })
 }
 
-fn roas_list(slots: &Slots, other: Option<MemberName>) -> Result<Line, LineFault>
-    ensures { result ≡ line_at Row.RoasList (slot_at slots.now) other }
+fn roas_list(slots: &Slots) -> Result<Line, LineFault>
+    ensures { result ≡ line_at Row.RoasList (slot_at slots.now) }
 {
     let name = slots.name(Field::Ca)?;
-    only(other, Line::Roas { name })
+    Ok(Line::Roas { name })
 }
 
-fn history_commands(slots: &Slots, other: Option<MemberName>) -> Result<Line, LineFault>
-    ensures { result ≡ line_at Row.HistoryCommands (slot_at slots.now) other }
+fn history_commands(slots: &Slots) -> Result<Line, LineFault>
+    ensures { result ≡ line_at Row.HistoryCommands (slot_at slots.now) }
 {
     let name = slots.name(Field::Ca)?;
-    only(other, Line::History { name })
+    Ok(Line::History { name })
 }

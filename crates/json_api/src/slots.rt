@@ -1,6 +1,6 @@
 //! What a line's members hold, field by field.
 
-ghost use Rattle.std.specs.Prelude.{◌≡◌, ◌≢◌, [], ℕ, ◌<◌, MatchResult, Ok, Some, None, OnOk, slice_set, length, true, IsTrue};
+ghost use Rattle.std.specs.Prelude.{◌≡◌, ◌≢◌, [], ℕ, ◌<◌, MatchResult, Ok, Some, None, OnOk, slice_set, get_or, length, true, IsTrue};
 ghost use Rattle.json_api.specs.Names.{name_of, place_of};
 ghost use Rattle.json_api.specs.Table.{as_row, as_name, as_number, as_resources, as_origins, or_default};
 ghost use Rattle.json_api.specs.Slots.{slot_at, are_taken};
@@ -69,6 +69,27 @@ impl Slots {
                 Slot::Absent,
                 Slot::Absent,
             ],
+        }
+    }
+
+    /// Leaves the slots of no member.
+    pub(crate) fn clear(&mut self)
+        ensures { (f : Field) → slot_at self.new f ≡ Slot.Absent }
+    {
+        for place in 0..FIELDS.len() {
+            self.vacate(place);
+        }
+    }
+
+    // Leaves the slot of no member at that place.
+    fn vacate(&mut self, place: usize)
+        requires { place < 8 }
+        ensures here { get_or self.new place Slot.Absent ≡ Slot.Absent }
+        ensures others { (p : ℕ) → get_or self.old p Slot.Absent ≡ Slot.Absent
+            → get_or self.new p Slot.Absent ≡ Slot.Absent }
+    {
+        if !matches!(self.items[place], Slot::Absent) {
+            self.items[place] = Slot::Absent;
         }
     }
 

@@ -19,43 +19,46 @@ use names::Name;
 use origins::Origin;
 use std::alloc::{AllocError, Global};
 
-/// The slots of a line whose members are all fields, each a text or a list of origins in good form.
-/// It is `None` for any other text.
+/// Whether the text is a line whose members are all fields, each a text or a list of origins in good
+/// form. Their slots are filled then.
 pub(crate) fn read_slots(
     alloc: Global,
     text: &str,
     scratch: &mut Scratch,
-) -> Result<Option<Slots>, AllocError>
-    ensures { IfOk result (λ found. IfSome found
-        (λ slots. (ms : Members) × (read text.now ≡ Some (object ms)) × AreMembers ms slots)) }
+    slots: &mut Slots,
+) -> Result<bool, AllocError>
+    requires absent { (f : Field) → slot_at slots.old f ≡ Slot.Absent }
+    ensures { IfOk result (λ good. IsTrue good
+        → (ms : Members) × (read text.now ≡ Some (object ms)) × AreMembers ms slots.new) }
 {
     let mut reader = Reader::new(text, scratch)?;
     let Some(Token::BeginObject) = reader.next() else {
-        return Ok(None);
+        return Ok(false);
     };
-    let Some(slots) = read_members(alloc, &mut reader)? else {
-        return Ok(None);
-    };
-    if reader.next().is_some() {
-        return Ok(None);
+    if !read_members(alloc, &mut reader, slots)? {
+        return Ok(false);
     }
-    Ok(Some(slots))
+    Ok(reader.next().is_none())
 }
 
-fn read_members(alloc: Global, reader: &mut Reader<'_>) -> Result<Option<Slots>, AllocError>
-    ensures { IfOk result (λ found. IfSome found
-        (λ slots. (ms : Members) × ReadsMembers reader.old ms reader.new × AreMembers ms slots)) }
+fn read_members(
+    alloc: Global,
+    reader: &mut Reader<'_>,
+    slots: &mut Slots,
+) -> Result<bool, AllocError>
+    requires absent { (f : Field) → slot_at slots.old f ≡ Slot.Absent }
+    ensures { IfOk result (λ good. IsTrue good
+        → (ms : Members) × ReadsMembers reader.old ms reader.new × AreMembers ms slots.new) }
 {
-    let mut slots = Slots::absent();
     'members: loop {
         let Ok(next) = reader.next_key() else {
-            return Ok(None);
+            return Ok(false);
         };
         let Some(name) = next else {
-            return Ok(Some(slots));
+            return Ok(true);
         };
-        if !read_member(alloc, reader, name, &mut slots)? {
-            return Ok(None);
+        if !read_member(alloc, reader, name, slots)? {
+            return Ok(false);
         }
     }
 }

@@ -4,10 +4,10 @@ use Rattle.json_api.proofs.Passes.{PassedMembers-start, PassedMembers-step, Pass
 use Rattle.json_api.proofs.tokens.read_members.Goals as goal
 
 pub members-init : goal.members-init
-members-init c = PassedMembers-start c.args.reader.now c.absent-slots.result c.absent-slots.ensures
+members-init c = PassedMembers-start c.args.reader.now c.args.slots.now c.requires.absent
 
 pub returns-in_default-next : goal.returns-in_default-next
-returns-in_default-next c =
+returns-in_default-next c _ =
     let key : read_key c.members.reader ≡ Some (None, c.next_key.new.self)
     = c.in-Ok.ensures.value ∙ ap (λ (o : Option (Bor (List ℕ))). Some (option_map (λ s. s.now) o, c.next_key.new.self)) c.in_default-next.is in
     PassedMembers-end c.args.reader.now c.members.reader c.next_key.new.self c.members.slots c.members.invariant key

@@ -13,6 +13,6 @@ invariant_of-result c =
     record {
       few_names = few;
       few_children = rw c.new.ensures.items (omega arith);
-      few_origins = rw c.new-2.ensures.items (omega arith);
-      ascending = rw c.new-2.ensures.items ascending-nil;
+      few_origins = rw c.new-2.ensures (omega arith);
+      ascending = rw c.new-2.ensures ascending-nil;
     }

@@ -1,0 +1,3 @@
+pub mod UriTexts
+pub mod Leaves
+pub mod Spans

@@ -1,0 +1,12 @@
+use Rattle.std.proofs.Common.{◌<◌, ◌^◌, subst, sym, arith}
+use Rattle.cert_obj.specs.Values.{IsCert}
+use Rattle.issue_values.specs.Publishing.{publishing}
+use Rattle.issue_values.proofs.Leaves.{anchor-spelled}
+use Rattle.issue_values.proofs.certificates.anchor_certificate.Goals as goal
+
+pub returns-clause-spelled : goal.returns-clause-spelled
+returns-clause-spelled c =
+    let small : c.args.serial < 2 ^ 64 = omega arith in
+    subst IsCert (sym c.in_ok-cert.ensures)
+    (anchor-spelled c.args.site.now c.args.moment (publishing c.args.anchor.now) c.args.held.now c.args.serial
+    c.can_publish.ensures c.requires c.are_sets.ensures small)

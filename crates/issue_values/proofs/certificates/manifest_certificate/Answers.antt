@@ -1,0 +1,28 @@
+use Rattle.std.proofs.Common.{◌≡◌, ◌<◌, ◌^◌, None, subst, sym, arith, ◌∙◌}
+use Rattle.std.specs.Prelude.{string_bytes}
+use Rattle.cert_obj.specs.Values.{IsCert, cert_value, held_value}
+use Rattle.issue_values.specs.Publishing.{publishing, manifest_of}
+use Rattle.issue_values.specs.Certificates.{point_life, manifest_certificate}
+use Rattle.issue_values.proofs.Leaves.{entity-same, manifest-spelled}
+use Rattle.issue_values.proofs.certificates.manifest_certificate.Goals as goal
+
+pub returns-clause-value : goal.returns-clause-value
+returns-clause-value c =
+    let e = c.in_ok-entity.entity in
+    c.in_ok-cert.ensures
+    ∙ entity-same c.args.site.now c.args.moment point_life (publishing c.args.issuer.now) c.args.serial
+    e.key.bytes c.args.key.now.bytes (held_value e.held) None (string_bytes e.object) (manifest_of c.args.site.now (publishing c.args.issuer.now))
+    c.in_ok-entity.ensures.key c.in_ok-entity.ensures.held c.in_ok-entity.ensures.object
+
+pub returns-clause-spelled : goal.returns-clause-spelled
+returns-clause-spelled c =
+    let small : c.args.serial < 2 ^ 64 = omega arith in
+    let e = c.in_ok-entity.entity in
+    let value : cert_value c.in_ok-cert.cert ≡ manifest_certificate c.args.site.now c.args.moment (publishing c.args.issuer.now) c.args.key.now.bytes c.args.serial =
+    c.in_ok-cert.ensures
+    ∙ entity-same c.args.site.now c.args.moment point_life (publishing c.args.issuer.now) c.args.serial
+    e.key.bytes c.args.key.now.bytes (held_value e.held) None (string_bytes e.object) (manifest_of c.args.site.now (publishing c.args.issuer.now))
+    c.in_ok-entity.ensures.key c.in_ok-entity.ensures.held c.in_ok-entity.ensures.object in
+    subst IsCert (sym value)
+    (manifest-spelled c.args.site.now c.args.moment (publishing c.args.issuer.now) c.args.key.now.bytes c.args.serial
+    c.can_publish.ensures c.requires.certified c.requires.moment c.args.key.now.spelled small)
