@@ -4,8 +4,9 @@ ghost use Rattle.std.specs.Prelude.{◌≡◌, IsTrue, ◌↔◌};
 ghost use Rattle.der.specs.Spelling.{AreBits};
 
 use anyhow::{Result, bail};
+use case_parts::{bytes_of, digits_of, number_of};
 use der::{Bits, Reader};
-use std::alloc::{AllocError, Global};
+use std::alloc::Global;
 
 /// The answer to a call.
 pub fn answer(alloc: Global, call: &str, first: &str, second: &str, third: &str) -> Result<String> {
@@ -19,32 +20,11 @@ pub fn answer(alloc: Global, call: &str, first: &str, second: &str, third: &str)
     }
 }
 
-/// The bytes of hex digits.
-pub fn bytes_of(alloc: Global, digits: &str) -> Result<Vec<u8>> {
-    match hex::decode(alloc, digits.as_bytes()) {
-        Ok(bytes) => Ok(bytes),
-        Err(_) => bail!("no hex digits: {digits}"),
-    }
-}
-
-/// The hex digits of bytes.
-pub fn digits_of(alloc: Global, bytes: &[u8]) -> Result<String, AllocError> {
-    hex::encode(alloc, bytes)
-}
-
 /// The tag of two hex digits.
 fn tag_of(digits: &str) -> Result<u8> {
     match u8::from_str_radix(digits, 16) {
         Ok(tag) => Ok(tag),
         Err(_) => bail!("no tag: {digits}"),
-    }
-}
-
-/// A number in decimal digits.
-pub fn number_of(digits: &str) -> Result<u64> {
-    match digits.parse() {
-        Ok(n) => Ok(n),
-        Err(_) => bail!("no number: {digits}"),
     }
 }
 

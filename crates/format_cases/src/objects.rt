@@ -8,8 +8,8 @@ ghost use Rattle.der_forms.specs.LeafLaws.{number-law};
 ghost use Rattle.der_forms.specs.FrameLaws.{sole-law};
 ghost use Rattle.der_forms.specs.ListLaws.{front-moves, many-law};
 
-use crate::elements::bytes_of;
 use anyhow::{Result, bail};
+use case_parts::bytes_of;
 use der_forms::tags::SEQUENCE;
 use der_forms::{FrontReader, Part, Placed, ShapeFault, WholeReader, many, number, object};
 use std::alloc::Global;

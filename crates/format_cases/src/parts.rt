@@ -1,9 +1,9 @@
 //! What objects have in common.
 
-use crate::elements::{bytes_of, digits_of};
 use crate::objects::{refused, whole};
 use crate::times::moment_of;
 use anyhow::{Result, bail};
+use case_parts::{bytes_of, digits_of};
 use std::alloc::Global;
 
 /// The answer to a call.

@@ -2,8 +2,8 @@
 
 ghost use Rattle.std.specs.Prelude.{◌≡◌, IfOk};
 
-use crate::elements::{bytes_of, digits_of};
 use anyhow::{Result, bail};
+use case_parts::{bytes_of, digits_of};
 use res_ext::{inherit_as as inherited_as, inherit_ip as inherited_ip};
 use res_sets::{Family, Ranges};
 use std::alloc::Global;

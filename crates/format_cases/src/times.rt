@@ -3,8 +3,8 @@
 ghost use Rattle.std.specs.Prelude.{IfOk};
 ghost use Rattle.moments.specs.Civil.{IsMoment};
 
-use crate::elements::number_of;
 use anyhow::{Result, bail};
+use case_parts::number_of;
 use moments::TimeText;
 use std::alloc::Global;
 
