@@ -1,5 +1,9 @@
 //! Why a call on a signer stopped.
 
+ghost use Rattle.std.specs.Prelude.{◌≡◌};
+ghost use Rattle.ring_calls.specs.declared.fault.CallFault.TheVariants.{Memory};
+
+use std::alloc::AllocError;
 use thiserror::Error;
 
 /// Why a call on a signer that is there stopped.
@@ -10,4 +14,12 @@ pub enum CallFault {
     SignerFault { signer: u32 },
     #[error("out of memory")]
     Memory,
+}
+
+impl From<AllocError> for CallFault {
+    ghost from_gives = { λ _ fault. fault ≡ Memory };
+
+    fn from(_: AllocError) -> Self {
+        CallFault::Memory
+    }
 }

@@ -1,0 +1,5 @@
+pub mod Keys
+pub mod Making
+pub mod Seen
+pub mod Indexes
+pub mod Faults
