@@ -5,7 +5,7 @@ use key_ids::Site;
 use pub_set::ObjectSet;
 use rp_audit::{AuditRefused, audit};
 use rp_rules::Audited;
-use signer_api::{MemorySigner, PublicKey, Rehearsal, Signer};
+use signer_api::{PublicKey, Rehearsal, Signer};
 use signer_ring::Ring;
 use std::alloc::Global;
 
@@ -45,7 +45,7 @@ impl<'a> Asked<'a> {
         alloc: Global,
         set: &ObjectSet,
         ring: &mut Ring<S>,
-    ) -> core::result::Result<Audited, AuditRefused> {
+    ) -> std::result::Result<Audited, AuditRefused> {
         audit(alloc, set, &self.anchor, &self.site, self.moment, ring)
     }
 }
@@ -54,15 +54,5 @@ impl<'a> Asked<'a> {
 pub fn rehearsing(alloc: Global) -> Result<Ring<Rehearsal>> {
     let mut signers = Vec::new(alloc);
     signers.push(Rehearsal::new([0; 32]))?;
-    Ok(Ring::new(signers))
-}
-
-/// A signer that vouches for nothing and whose call of that number fails, and one for rehearsals.
-pub fn failing(alloc: Global, call: u64) -> Result<Ring> {
-    let mut fails = Vec::new(alloc);
-    fails.push(call)?;
-    let mut signers: Vec<Box<dyn Signer + Send>> = Vec::new(alloc);
-    signers.push(Box::new(alloc, MemorySigner::new(alloc, [0; 32], fails))?)?;
-    signers.push(Box::new(alloc, Rehearsal::new([0; 32]))?)?;
     Ok(Ring::new(signers))
 }

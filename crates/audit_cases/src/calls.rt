@@ -1,6 +1,6 @@
 //! The calls.
 
-use crate::asked::{Asked, failing, rehearsing};
+use crate::asked::{Asked, rehearsing};
 use crate::changed::{Count, counted};
 use crate::forms::read_changes;
 use crate::print::{audited_text, push_count, refused_text};
@@ -8,6 +8,8 @@ use anyhow::{Context, Result, bail};
 use pub_set::ObjectSet;
 use rp_audit::AuditRefused;
 use rp_rules::Audited;
+use signer_api::{MemorySigner, Rehearsal, Signer};
+use signer_ring::Ring;
 use std::alloc::Global;
 
 /// The answer to a case.
@@ -23,7 +25,7 @@ pub fn answer(alloc: Global, base: &ObjectSet, call: &str, line: &str) -> Result
     Ok(format!(in alloc; "{name}\t{told}")?)
 }
 
-fn told_text(alloc: Global, told: &core::result::Result<Audited, AuditRefused>) -> Result<String> {
+fn told_text(alloc: Global, told: &std::result::Result<Audited, AuditRefused>) -> Result<String> {
     match told {
         Ok(audited) => audited_text(alloc, audited),
         Err(refused) => refused_text(alloc, refused),
@@ -38,10 +40,14 @@ fn one(alloc: Global, base: &ObjectSet, asked: &Asked<'_>) -> Result<String> {
     told_text(alloc, &told)
 }
 
-// What an audit of the set comes to where a signer fails.
+// What an audit of the set comes to behind a signer that vouches for nothing and fails at one call.
 fn with_failure(alloc: Global, base: &ObjectSet, asked: &Asked<'_>) -> Result<String> {
-    let mut ring = failing(alloc, asked.done.parse::<u64>()?)?;
-    let told = asked.audit(alloc, base, &mut ring);
+    let mut fails = Vec::new(alloc);
+    fails.push(asked.done.parse::<u64>()?)?;
+    let mut signers: Vec<Box<dyn Signer + Send>> = Vec::new(alloc);
+    signers.push(Box::new(alloc, MemorySigner::new(alloc, [0; 32], fails))?)?;
+    signers.push(Box::new(alloc, Rehearsal::new([0; 32]))?)?;
+    let told = asked.audit(alloc, base, &mut Ring::new(signers));
     told_text(alloc, &told)
 }
 
