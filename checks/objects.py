@@ -1,7 +1,8 @@
-"""Reads the written objects of the cases with openssl, and compares what it tells with the cases."""
+"""Reads the written objects and bodies of the cases with openssl, and compares what it tells with the cases."""
 
 import datetime
 import hashlib
+import ipaddress
 import re
 import subprocess
 import sys
@@ -105,7 +106,57 @@ def check_object(name, fields, bytes_of_object):
     return True
 
 
-crls = objects = 0
+def elements(name, body):
+    """The elements that openssl finds in a body, in their order: depth, kind and value."""
+    text = openssl("asn1parse", given=body)
+    if text is None:
+        sys.exit(f"checks/objects: {name}: openssl doesn't read it")
+    found = []
+    for line in text.splitlines():
+        at, depth, head, size, kind, value = re.match(
+            r" *(\d+):d=(\d+) +hl=(\d+) l= *(\d+) (?:cons|prim): ([A-Z0-9 ]*[A-Z0-9]) *(?:\[HEX DUMP\])?:?(.*)", line
+        ).groups()
+        if kind == "BIT STRING":
+            start = int(at) + int(head)
+            value = body[start:start + int(size)].hex()
+        if kind == "INTEGER":
+            value = int(value, 16)
+        found.append((int(depth), kind, value))
+    return found
+
+
+def check_roa(name, fields, body):
+    asn, origins = fields
+    wanted = [(0, "SEQUENCE", ""), (1, "INTEGER", int(asn)), (1, "SEQUENCE", "")]
+    family = None
+    for origin in origins.split(","):
+        prefix, _, most = origin.split(" => ")[0].partition("-")
+        network = ipaddress.ip_network(prefix)
+        if network.version != family:
+            family = network.version
+            wanted += [(2, "SEQUENCE", ""), (3, "OCTET STRING", {4: "0001", 6: "0002"}[family]), (3, "SEQUENCE", "")]
+        octets = network.network_address.packed[:(network.prefixlen + 7) // 8]
+        wanted += [(4, "SEQUENCE", ""), (5, "BIT STRING", bytes([-network.prefixlen % 8]).hex() + octets.hex())]
+        if most and int(most) != network.prefixlen:
+            wanted.append((5, "INTEGER", int(most)))
+    wants(name, elements(name, body), wanted)
+
+
+def check_manifest(name, fields, body):
+    numbers, files = fields
+    number, this_update, next_update = numbers.split(" ")
+    wanted = [(0, "SEQUENCE", ""), (1, "INTEGER", int(number))]
+    for seconds in (this_update, next_update):
+        time = datetime.datetime(1970, 1, 1) + datetime.timedelta(seconds=int(seconds))
+        wanted.append((1, "GENERALIZEDTIME", f"{time:%Y%m%d%H%M%S}Z"))
+    wanted += [(1, "OBJECT", "sha256"), (1, "SEQUENCE", "")]
+    for file in filter(None, files.split(",")):
+        name_of_file, digest = file.split(" ")
+        wanted += [(2, "SEQUENCE", ""), (3, "IA5STRING", name_of_file), (3, "BIT STRING", "00" + digest)]
+    wants(name, elements(name, body), wanted)
+
+
+crls = objects = bodies = 0
 fields = {}
 for name, call, arguments, answer in cases("crl_cases"):
     kind = name.rsplit(": ", 1)[0]
@@ -117,5 +168,12 @@ for name, call, arguments, answer in cases("crl_cases"):
 for name, call, arguments, answer in cases("cms_cases"):
     if call == "write" and answer != "no spelling":
         objects += check_object(name, arguments, bytes.fromhex(answer))
-assert crls > 20 and objects > 10, (crls, objects)
+for name, call, arguments, answer in cases("body_cases"):
+    if call == "write roa":
+        check_roa(name, arguments, bytes.fromhex(answer))
+        bodies += 1
+    if call == "write manifest":
+        check_manifest(name, arguments, bytes.fromhex(answer))
+        bodies += 1
+assert crls > 20 and objects > 10 and bodies > 25, (crls, objects, bodies)
 print("checks/objects: ok")

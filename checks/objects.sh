@@ -1,6 +1,6 @@
 #!/bin/sh
-# The CRLs and signed objects that crates/crl_cases and crates/cms_cases write, as openssl reads them: each
-# field is compared with the case's. Skipped where openssl or python3 is missing.
+# The CRLs, signed objects and bodies that crates/crl_cases, cms_cases and body_cases write, as openssl reads
+# them: each field is compared with the case's. Skipped where openssl or python3 is missing.
 set -eu
 top=$(cd "$(dirname "$0")/.." && pwd)
 for tool in openssl python3; do

@@ -9,22 +9,19 @@ use Rattle.der_forms.specs.SequenceLaws.{both-law, only-law}
 use Rattle.der_forms.specs.FrameLaws.{sole-law, preceded-law}
 use Rattle.der_forms.specs.ValueLaws.{tested-law}
 use Rattle.der_forms.specs.LeafLaws.{exactly-law}
-use Rattle.object_parts.specs.declared.identifiers.TheConstants.{BASIC_CONSTRAINTS, SUBJECT_KEY_IDENTIFIER, AUTHORITY_KEY_IDENTIFIER, KEY_USAGE, DISTRIBUTION_POINTS, AUTHORITY_INFORMATION, SUBJECT_INFORMATION, POLICIES, CA_ISSUERS, CA_REPOSITORY, RPKI_MANIFEST, RPKI_NOTIFY, SIGNED_OBJECT}
+use Rattle.object_parts.specs.declared.identifiers.TheConstants.{BASIC_CONSTRAINTS, SUBJECT_KEY_IDENTIFIER, KEY_USAGE, DISTRIBUTION_POINTS, AUTHORITY_INFORMATION, SUBJECT_INFORMATION, POLICIES, CA_ISSUERS, CA_REPOSITORY, RPKI_MANIFEST, RPKI_NOTIFY, SIGNED_OBJECT}
 use Rattle.object_parts.specs.FrameFormats.{identifier}
 use Rattle.object_parts.specs.FrameLaws.{identifier-law, extension-law, critical_extension-law}
 use Rattle.cert_obj.specs.Values.{is_uri}
-use Rattle.cert_obj.specs.Extensions.{ca_true, basic_constraints, subject_key, issuer_key, key_usage, uri, distribution_points, distribution, access, issuer_places, issuer_information, authority_places, authority_information, entity_places, entity_information, rpki_policies, policies}
+use Rattle.cert_obj.specs.Extensions.{ca_true, basic_constraints, subject_key, key_usage, uri, distribution_points, distribution, access, issuer_places, issuer_information, authority_places, authority_information, entity_places, entity_information, rpki_policies, policies}
 
 pub basic_constraints-law : IsFront basic_constraints
-basic_constraints-law = critical_extension-law BASIC_CONSTRAINTS (exactly ca_true) (exactly-law ca_true)
+basic_constraints-law = critical_extension-law BASIC_CONSTRAINTS (exactly ca_true)
+    (exactly-law ca_true)
 
 pub subject_key-law : (key : List ℕ) → IsFront (subject_key key)
-subject_key-law key = extension-law SUBJECT_KEY_IDENTIFIER (sole tag.octet_string (exactly key)) (sole-law tag.octet_string (exactly key) (exactly-law key))
-
-pub issuer_key-law : (key : List ℕ) → IsFront (issuer_key key)
-issuer_key-law key =
-    extension-law AUTHORITY_KEY_IDENTIFIER (sole tag.sequence (sole tag.primitive_0 (exactly key)))
-    (sole-law tag.sequence (sole tag.primitive_0 (exactly key)) (sole-law tag.primitive_0 (exactly key) (exactly-law key)))
+subject_key-law key = extension-law SUBJECT_KEY_IDENTIFIER (sole tag.octet_string (exactly key))
+    (sole-law tag.octet_string (exactly key) (exactly-law key))
 
 pub key_usage-law : (usage : List ℕ) → IsFront (key_usage usage)
 key_usage-law usage = critical_extension-law KEY_USAGE (exactly usage) (exactly-law usage)
@@ -36,7 +33,8 @@ uri-law = tested-law content is_uri content-law
 pub distribution_points-law : IsWhole distribution_points
 unfolding distribution_points
 distribution_points-law =
-    sole-law tag.sequence (sole tag.sequence (sole tag.context_0 (sole tag.context_0 (sole tag.primitive_6 uri))))
+    sole-law tag.sequence
+    (sole tag.sequence (sole tag.context_0 (sole tag.context_0 (sole tag.primitive_6 uri))))
     (sole-law tag.sequence (sole tag.context_0 (sole tag.context_0 (sole tag.primitive_6 uri)))
     (sole-law tag.context_0 (sole tag.context_0 (sole tag.primitive_6 uri))
     (sole-law tag.context_0 (sole tag.primitive_6 uri) (sole-law tag.primitive_6 uri uri-law))))
@@ -48,11 +46,13 @@ pub access-law : (method : List ℕ) → IsFront (access method)
 unfolding access
 access-law method =
     within-law tag.sequence (preceded (identifier method) (sole tag.primitive_6 uri))
-    (preceded-law (identifier method) (sole tag.primitive_6 uri) (identifier-law method) tt (sole-law tag.primitive_6 uri uri-law))
+    (preceded-law (identifier method) (sole tag.primitive_6 uri) (identifier-law method) tt
+    (sole-law tag.primitive_6 uri uri-law))
 
 pub issuer_places-law : IsWhole issuer_places
 unfolding issuer_places
-issuer_places-law = sole-law tag.sequence (only (access CA_ISSUERS)) (only-law (access CA_ISSUERS) (access-law CA_ISSUERS))
+issuer_places-law = sole-law tag.sequence (only (access CA_ISSUERS))
+    (only-law (access CA_ISSUERS) (access-law CA_ISSUERS))
 
 pub issuer_information-law : IsFront issuer_information
 issuer_information-law = extension-law AUTHORITY_INFORMATION issuer_places issuer_places-law
@@ -60,16 +60,20 @@ issuer_information-law = extension-law AUTHORITY_INFORMATION issuer_places issue
 pub authority_places-law : IsWhole authority_places
 unfolding authority_places
 authority_places-law =
-    sole-law tag.sequence (both (access CA_REPOSITORY) (both (access RPKI_MANIFEST) (only (access RPKI_NOTIFY))))
-    (both-law (access CA_REPOSITORY) (both (access RPKI_MANIFEST) (only (access RPKI_NOTIFY))) (access-law CA_REPOSITORY)
-    (both-law (access RPKI_MANIFEST) (only (access RPKI_NOTIFY)) (access-law RPKI_MANIFEST) (only-law (access RPKI_NOTIFY) (access-law RPKI_NOTIFY))))
+    sole-law tag.sequence
+    (both (access CA_REPOSITORY) (both (access RPKI_MANIFEST) (only (access RPKI_NOTIFY))))
+    (both-law (access CA_REPOSITORY) (both (access RPKI_MANIFEST) (only (access RPKI_NOTIFY)))
+    (access-law CA_REPOSITORY)
+    (both-law (access RPKI_MANIFEST) (only (access RPKI_NOTIFY)) (access-law RPKI_MANIFEST)
+    (only-law (access RPKI_NOTIFY) (access-law RPKI_NOTIFY))))
 
 pub authority_information-law : IsFront authority_information
 authority_information-law = extension-law SUBJECT_INFORMATION authority_places authority_places-law
 
 pub entity_places-law : IsWhole entity_places
 unfolding entity_places
-entity_places-law = sole-law tag.sequence (only (access SIGNED_OBJECT)) (only-law (access SIGNED_OBJECT) (access-law SIGNED_OBJECT))
+entity_places-law = sole-law tag.sequence (only (access SIGNED_OBJECT))
+    (only-law (access SIGNED_OBJECT) (access-law SIGNED_OBJECT))
 
 pub entity_information-law : IsFront entity_information
 entity_information-law = extension-law SUBJECT_INFORMATION entity_places entity_places-law

@@ -5,7 +5,7 @@ use Rattle.der.specs.Tags as tag
 use Rattle.der_forms.specs.Form.{Whole, Front}
 use Rattle.der_forms.specs.Forms.{content, within, sole, both, only, preceded, tested}
 use Rattle.der_forms.specs.Leaves.{exactly}
-use Rattle.object_parts.specs.declared.identifiers.TheConstants.{BASIC_CONSTRAINTS, SUBJECT_KEY_IDENTIFIER, AUTHORITY_KEY_IDENTIFIER, KEY_USAGE, DISTRIBUTION_POINTS, AUTHORITY_INFORMATION, SUBJECT_INFORMATION, POLICIES, CA_ISSUERS, CA_REPOSITORY, RPKI_MANIFEST, RPKI_NOTIFY, SIGNED_OBJECT}
+use Rattle.object_parts.specs.declared.identifiers.TheConstants.{BASIC_CONSTRAINTS, SUBJECT_KEY_IDENTIFIER, KEY_USAGE, DISTRIBUTION_POINTS, AUTHORITY_INFORMATION, SUBJECT_INFORMATION, POLICIES, CA_ISSUERS, CA_REPOSITORY, RPKI_MANIFEST, RPKI_NOTIFY, SIGNED_OBJECT}
 use Rattle.object_parts.specs.FrameFormats.{identifier, extension, critical_extension}
 use Rattle.cert_obj.specs.Values.{is_uri}
 
@@ -19,11 +19,6 @@ basic_constraints = critical_extension BASIC_CONSTRAINTS (exactly ca_true)
 -- subjectKeyIdentifier: that key's (section 4.8.2).
 abbrev pub subject_key : List ℕ → Front (Unit {0})
 subject_key key = extension SUBJECT_KEY_IDENTIFIER (sole tag.octet_string (exactly key))
-
--- authorityKeyIdentifier: that key's, and nothing else (section 4.8.3).
-abbrev pub issuer_key : List ℕ → Front (Unit {0})
-issuer_key key =
-    extension AUTHORITY_KEY_IDENTIFIER (sole tag.sequence (sole tag.primitive_0 (exactly key)))
 
 -- keyUsage (section 4.8.4): an authority's key signs certificates and CRLs, an end-entity's key
 -- objects.

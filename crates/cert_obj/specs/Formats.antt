@@ -11,11 +11,11 @@ use Rattle.der_forms.specs.Forms.{within, sole, both, after, preceded, tested, c
 use Rattle.der_forms.specs.Leaves.{number, constant, octet_bits, are_same}
 use Rattle.object_parts.specs.TimeFormats.{period}
 use Rattle.object_parts.specs.NameFormats.{name}
-use Rattle.object_parts.specs.FrameFormats.{signature_algorithm, key_algorithm, signed}
+use Rattle.object_parts.specs.FrameFormats.{signature_algorithm, key_algorithm, issuer_key, signed}
 use Rattle.cert_obj.specs.declared.values.CertKind.{CertKind}
 use Rattle.cert_obj.specs.declared.values.CertKind.TheVariants.{Anchor, Authority, EndEntity}
 use Rattle.cert_obj.specs.Values.{Sets, UriTexts, CertValue, SignedCert, IsHeld, may_hold, AreUris, IsCert}
-use Rattle.cert_obj.specs.Extensions.{basic_constraints, subject_key, issuer_key, authority_usage, entity_usage, key_usage, distribution, issuer_information, authority_information, entity_information, policies}
+use Rattle.cert_obj.specs.Extensions.{basic_constraints, subject_key, authority_usage, entity_usage, key_usage, distribution, issuer_information, authority_information, entity_information, policies}
 use Rattle.cert_obj.specs.Holdings.{held, entity_held}
 
 -- ---- the extensions of each kind

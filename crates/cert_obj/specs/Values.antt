@@ -154,8 +154,8 @@ may_hold Anchor held = true
 may_hold Authority held = true
 may_hold EndEntity held = has_no_numbers held
 
--- A certificate that has a spelling: its times lie in the years 2000 to 9999, it has the URIs of its
--- kind, and its resources are canonical sets.
+-- A certificate that has a spelling: its times lie in the years 2000 to 9999, it has the URIs of
+-- its kind, and its resources are canonical sets.
 pub record IsCert (c : CertValue) : Type 0 where
   pub serial : c.serial < 2 ^ 64
   pub issuer : (length c.issuer ≡ 20) × AreBytes c.issuer

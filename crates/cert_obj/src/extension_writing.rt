@@ -1,18 +1,16 @@
 //! Writers of the extensions but for the resources.
 
 ghost use Rattle.std.specs.Prelude.{◌≡◌, ◌++◌, OnOk};
-ghost use Rattle.cert_obj.specs.Extensions.{basic_constraints, subject_key, issuer_key, key_usage, distribution_points, distribution, access, issuer_places, issuer_information, authority_places, authority_information, entity_places, entity_information, policies};
+ghost use Rattle.cert_obj.specs.Extensions.{basic_constraints, subject_key, key_usage, distribution_points, distribution, access, issuer_places, issuer_information, authority_places, authority_information, entity_places, entity_information, policies};
 
 use crate::fixed::{CA_TRUE, RPKI_POLICIES};
 use der_forms::tags::{CONTEXT_0, OCTET_STRING, PRIMITIVE_6, SEQUENCE};
 use object_parts::identifiers::{
-    AUTHORITY_INFORMATION, AUTHORITY_KEY_IDENTIFIER, BASIC_CONSTRAINTS, CA_ISSUERS, CA_REPOSITORY,
-    DISTRIBUTION_POINTS, KEY_USAGE, POLICIES, RPKI_MANIFEST, RPKI_NOTIFY, SIGNED_OBJECT,
-    SUBJECT_INFORMATION, SUBJECT_KEY_IDENTIFIER,
+    AUTHORITY_INFORMATION, BASIC_CONSTRAINTS, CA_ISSUERS, CA_REPOSITORY, DISTRIBUTION_POINTS,
+    KEY_USAGE, POLICIES, RPKI_MANIFEST, RPKI_NOTIFY, SIGNED_OBJECT, SUBJECT_INFORMATION,
+    SUBJECT_KEY_IDENTIFIER,
 };
-use object_parts::{
-    push_critical_extension, push_identifier, push_issuer_key_identifier, push_key_identifier,
-};
+use object_parts::{push_critical_extension, push_identifier, push_key_identifier};
 use std::alloc::{AllocError, Global};
 
 /// Appends that it is an authority's.
@@ -35,23 +33,6 @@ pub fn push_subject_key(
     push_identifier(alloc, out, &SUBJECT_KEY_IDENTIFIER)?;
     let value = out.len();
     push_key_identifier(alloc, out, subject)?;
-    der::enclose(alloc, out, value, OCTET_STRING)?;
-    der::enclose(alloc, out, from, SEQUENCE)
-}
-
-/// Appends the identifier of the issuer's key.
-#[tactic(auto, using(std::proofs::Common::append_assoc))]
-pub fn push_issuer_key(
-    alloc: Global,
-    out: &mut Vec<u8>,
-    issuer: &[u8; 20],
-) -> Result<(), AllocError>
-    ensures { OnOk result (out.new.items ≡ out.old.items ++ (issuer_key issuer.now).spelling tt) }
-{
-    let from = out.len();
-    push_identifier(alloc, out, &AUTHORITY_KEY_IDENTIFIER)?;
-    let value = out.len();
-    push_issuer_key_identifier(alloc, out, issuer)?;
     der::enclose(alloc, out, value, OCTET_STRING)?;
     der::enclose(alloc, out, from, SEQUENCE)
 }
@@ -122,7 +103,8 @@ pub fn push_issuer_information(
     out: &mut Vec<u8>,
     issuer: &str,
 ) -> Result<(), AllocError>
-    ensures { OnOk result (out.new.items ≡ out.old.items ++ issuer_information.spelling issuer.now) }
+    ensures { OnOk result (out.new.items ≡ out.old.items
+        ++ issuer_information.spelling issuer.now) }
 {
     let from = out.len();
     push_identifier(alloc, out, &AUTHORITY_INFORMATION)?;
@@ -188,7 +170,8 @@ pub fn push_entity_information(
     out: &mut Vec<u8>,
     object: &str,
 ) -> Result<(), AllocError>
-    ensures { OnOk result (out.new.items ≡ out.old.items ++ entity_information.spelling object.now) }
+    ensures { OnOk result (out.new.items ≡ out.old.items
+        ++ entity_information.spelling object.now) }
 {
     let from = out.len();
     push_identifier(alloc, out, &SUBJECT_INFORMATION)?;

@@ -2,13 +2,11 @@
 
 ghost use Rattle.der_forms.specs.Place.{place};
 ghost use Rattle.der_forms.specs.Outcome.{Gives};
-ghost use Rattle.cert_obj.specs.Extensions.{basic_constraints, subject_key, issuer_key, key_usage, policies};
+ghost use Rattle.cert_obj.specs.Extensions.{basic_constraints, subject_key, key_usage, policies};
 
-use der_forms::tags::{OCTET_STRING, PRIMITIVE_0, SEQUENCE};
+use der_forms::tags::OCTET_STRING;
 use der_forms::{Part, ShapeFault, exactly};
-use object_parts::identifiers::{
-    AUTHORITY_KEY_IDENTIFIER, BASIC_CONSTRAINTS, KEY_USAGE, POLICIES, SUBJECT_KEY_IDENTIFIER,
-};
+use object_parts::identifiers::{BASIC_CONSTRAINTS, KEY_USAGE, POLICIES, SUBJECT_KEY_IDENTIFIER};
 use object_parts::{critical_extension, extension};
 
 /// The value of basicConstraints: an authority, and no length of paths.
@@ -36,19 +34,11 @@ pub fn basic_constraints(part: Part<'_>) -> Result<Part<'_>, ShapeFault>
 
 /// The identifier of the subject's key; what stands behind it.
 pub fn subject_key<'a>(part: Part<'a>, subject: &[u8; 20]) -> Result<Part<'a>, ShapeFault>
-    ensures { Gives (λ q. (tt, place q)) result ((subject_key subject.now).read (place part.entry)) }
+    ensures { Gives (λ q. (tt, place q))
+        result ((subject_key subject.now).read (place part.entry)) }
 {
     let (value, rest) = extension(part, &SUBJECT_KEY_IDENTIFIER)?;
     exactly(value.sole(OCTET_STRING)?, subject)?;
-    Ok(rest)
-}
-
-/// The identifier of the issuer's key; what stands behind it.
-pub fn issuer_key<'a>(part: Part<'a>, issuer: &[u8; 20]) -> Result<Part<'a>, ShapeFault>
-    ensures { Gives (λ q. (tt, place q)) result ((issuer_key issuer.now).read (place part.entry)) }
-{
-    let (value, rest) = extension(part, &AUTHORITY_KEY_IDENTIFIER)?;
-    exactly(value.sole(SEQUENCE)?.sole(PRIMITIVE_0)?, issuer)?;
     Ok(rest)
 }
 

@@ -61,7 +61,8 @@ fn push_listed_addresses(
 #[tactic(auto, using(std::proofs::Common::append_assoc))]
 fn push_numbers(alloc: Global, out: &mut Vec<u8>, asn: &Ranges) -> Result<(), AllocError>
     requires { asn.now.family ≡ Asn }
-    ensures { OnOk result (out.new.items ≡ out.old.items ++ numbers.spelling (Some (set_view asn.now))) }
+    ensures { OnOk result (out.new.items ≡ out.old.items
+        ++ numbers.spelling (Some (set_view asn.now))) }
 {
     let from = out.len();
     push_identifier(alloc, out, &AS_IDENTIFIERS)?;
@@ -125,7 +126,8 @@ fn push_inherited(alloc: Global, out: &mut Vec<u8>) -> Result<(), AllocError>
 /// Appends resources.
 #[tactic(auto, using(std::proofs::Common::append_assoc, crate::specs::HoldingLaws::nothing_behind), unfolding(crate::specs::Holdings::held))]
 fn push_sets(alloc: Global, out: &mut Vec<u8>, resources: &Resources) -> Result<(), AllocError>
-    ensures { OnOk result (out.new.items ≡ out.old.items ++ held_form.spelling (Some (sets_of resources.now))) }
+    ensures { OnOk result (out.new.items ≡ out.old.items
+        ++ held_form.spelling (Some (sets_of resources.now))) }
 {
     push_listed_addresses(alloc, out, &resources.v4, &resources.v6)?;
     push_listed_numbers(alloc, out, &resources.asn)
@@ -133,7 +135,8 @@ fn push_sets(alloc: Global, out: &mut Vec<u8>, resources: &Resources) -> Result<
 
 /// Appends the extensions of the resources.
 pub fn push_held(alloc: Global, out: &mut Vec<u8>, held: &Held) -> Result<(), AllocError>
-    ensures { OnOk result (out.new.items ≡ out.old.items ++ held_form.spelling (held_value held.now)) }
+    ensures { OnOk result (out.new.items ≡ out.old.items
+        ++ held_form.spelling (held_value held.now)) }
 {
     match held {
         Held::Inherit => push_inherited(alloc, out),

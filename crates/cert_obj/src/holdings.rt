@@ -38,7 +38,8 @@ fn has_addresses(read: &IpRead) -> bool
 
 /// IP address blocks, which aren't empty.
 fn addresses<'a>(alloc: Global, part: Part<'a>) -> Result<(IpRead, Part<'a>), ShapeFault>
-    ensures { GivesUnlessMemory (λ x. (ip_view x.0, place x.1)) result (addresses.read (place part.entry)) }
+    ensures { GivesUnlessMemory (λ x. (ip_view x.0, place x.1))
+        result (addresses.read (place part.entry)) }
 {
     let (value, rest) = critical_extension(part, &IP_BLOCKS)?;
     let read = ip_blocks(alloc, value)?;
@@ -62,7 +63,8 @@ fn has_numbers(read: &AsRead) -> bool
 
 /// AS identifiers, which aren't empty.
 fn numbers<'a>(alloc: Global, part: Part<'a>) -> Result<(AsRead, Part<'a>), ShapeFault>
-    ensures { GivesUnlessMemory (λ x. (as_view x.0, place x.1)) result (numbers.read (place part.entry)) }
+    ensures { GivesUnlessMemory (λ x. (as_view x.0, place x.1))
+        result (numbers.read (place part.entry)) }
 {
     let (value, rest) = critical_extension(part, &AS_IDENTIFIERS)?;
     let read = as_identifiers(alloc, value)?;
@@ -115,7 +117,8 @@ fn set_of(asn: Ranges, v4: Ranges, v6: Ranges) -> Held
     requires asn { asn.family ≡ Asn }
     requires v4 { v4.family ≡ V4 }
     requires v6 { v6.family ≡ V6 }
-    ensures { held_value result ≡ Some (record { asn = set_view asn; v4 = set_view v4; v6 = set_view v6 }) }
+    ensures { held_value result
+        ≡ Some (record { asn = set_view asn; v4 = set_view v4; v6 = set_view v6 }) }
 {
     Held::Set {
         resources: Resources { asn, v4, v6 },
@@ -124,7 +127,8 @@ fn set_of(asn: Ranges, v4: Ranges, v6: Ranges) -> Held
 
 /// What the two extensions say together.
 fn joined(alloc: Global, ip: Option<IpRead>, asn: Option<AsRead>) -> Option<Held>
-    ensures { option_map held_value result ≡ joined (option_map ip_view ip) (option_map as_view asn) }
+    ensures { option_map held_value result
+        ≡ joined (option_map ip_view ip) (option_map as_view asn) }
 {
     match (ip, asn) {
         (None, None) => Some(set_of(

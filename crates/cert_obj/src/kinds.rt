@@ -6,12 +6,12 @@ ghost use Rattle.der_forms.specs.Place.{place};
 ghost use Rattle.der_forms.specs.Forms.{choice, preceded};
 ghost use Rattle.der_forms.specs.Outcome.{GivesUnlessMemory};
 ghost use Rattle.cert_obj.specs.Values.{held_value};
-ghost use Rattle.cert_obj.specs.Extensions.{issuer_key};
+ghost use Rattle.object_parts.specs.FrameFormats.{issuer_key};
 ghost use Rattle.cert_obj.specs.Views.{published_value, issued_value, authority_value, entity_value, extended_value};
 ghost use Rattle.cert_obj.specs.Formats.{published, anchor_rest, issued_authority, entity, issued_entity, authority_extensions, entity_extensions, of_kinds, kinds, extensions};
 
 use crate::fixed::{
-    AUTHORITY_USAGE, ENTITY_USAGE, basic_constraints, issuer_key, key_usage, policies, subject_key,
+    AUTHORITY_USAGE, ENTITY_USAGE, basic_constraints, key_usage, policies, subject_key,
 };
 use crate::holdings::{entity_held, held};
 use crate::uris::{
@@ -20,6 +20,7 @@ use crate::uris::{
 use crate::values::{CertKind, CertUris, Held};
 use der_forms::tags::{CONTEXT_3, SEQUENCE};
 use der_forms::{Part, ShapeFault};
+use object_parts::issuer_key;
 use std::alloc::Global;
 
 /// What an authority's extensions say behind keyUsage.
@@ -113,7 +114,8 @@ fn authority_rest(
     issuer: &[u8; 20],
 ) -> Result<AuthorityRead, ShapeFault>
     ensures { GivesUnlessMemory authority_value result
-        ((choice anchor_rest (preceded (issuer_key issuer.now) issued_authority)).read (place part.entry)) }
+        ((choice anchor_rest (preceded (issuer_key issuer.now) issued_authority)).read
+        (place part.entry)) }
 {
     match anchor_rest(alloc, part) {
         Ok(published) => Ok(AuthorityRead::Anchor(published)),
@@ -145,7 +147,8 @@ fn authority_extensions(
 /// The object and the resources of an end-entity.
 #[tactic(auto, unfolding(crate::specs::Formats::entity))]
 fn entity(alloc: Global, part: Part<'_>) -> Result<(String, Held), ShapeFault>
-    ensures { GivesUnlessMemory (λ x. (string_bytes x.0, held_value x.1)) result (entity.read (place part.entry)) }
+    ensures { GivesUnlessMemory (λ x. (string_bytes x.0, held_value x.1))
+        result (entity.read (place part.entry)) }
 {
     let (object, rest) = entity_information(alloc, part)?;
     let rest = policies(rest)?;
@@ -244,7 +247,8 @@ fn kinds(
     issuer: &[u8; 20],
     subject: &[u8; 20],
 ) -> Result<ExtendedRead, ShapeFault>
-    ensures { GivesUnlessMemory extended_value result ((kinds issuer.now subject.now).read (place part.entry)) }
+    ensures { GivesUnlessMemory extended_value
+        result ((kinds issuer.now subject.now).read (place part.entry)) }
 {
     match authority_extensions(alloc, part, issuer, subject) {
         Ok(read) => Ok(authority_extended(alloc, read)),
@@ -265,7 +269,8 @@ pub fn extensions(
     issuer: &[u8; 20],
     subject: &[u8; 20],
 ) -> Result<ExtendedRead, ShapeFault>
-    ensures { GivesUnlessMemory extended_value result ((extensions issuer.now subject.now).read (place part.entry)) }
+    ensures { GivesUnlessMemory extended_value
+        result ((extensions issuer.now subject.now).read (place part.entry)) }
 {
     kinds(
         alloc,

@@ -33,14 +33,16 @@ fn has_identifier(key: &[u8; 270], identifier: &[u8; 20]) -> bool
 
 /// The key that is spelled by the bytes, if there is one.
 fn public_key(bytes: &[u8; 270]) -> Option<PublicKey>
-    ensures { option_map (λ key. key.bytes) result ≡ (if is_public_key bytes.now then Some bytes.now else None) }
+    ensures { option_map (λ key. key.bytes) result
+        ≡ (if is_public_key bytes.now then Some bytes.now else None) }
 {
     PublicKey::read(bytes)
 }
 
 /// The same, where it has that identifier.
 fn key_in(bytes: &[u8; 270], subject: &[u8; 20]) -> Option<PublicKey>
-    ensures { option_map (λ key. key.bytes) result ≡ (if is_key_of subject.now bytes.now then Some bytes.now else None) }
+    ensures { option_map (λ key. key.bytes) result
+        ≡ (if is_key_of subject.now bytes.now then Some bytes.now else None) }
 {
     if has_identifier(bytes, subject) {
         public_key(bytes)
@@ -64,7 +66,8 @@ fn key_content(part: Part<'_>, subject: &[u8; 20]) -> Result<PublicKey, ShapeFau
 /// The subject's key; what stands behind it.
 #[tactic(auto, unfolding(crate::specs::Formats::key_of))]
 fn key_of<'a>(part: Part<'a>, subject: &[u8; 20]) -> Result<(PublicKey, Part<'a>), ShapeFault>
-    ensures { Gives (λ x. (x.0.bytes, place x.1)) result ((key_of subject.now).read (place part.entry)) }
+    ensures { Gives (λ x. (x.0.bytes, place x.1))
+        result ((key_of subject.now).read (place part.entry)) }
 {
     let (content, rest) = part.open(SEQUENCE)?;
     let content = key_algorithm(content)?;
@@ -83,7 +86,8 @@ pub struct SubjectRead {
 /// The subject's name, its key and the extensions.
 #[tactic(auto, unfolding(crate::specs::Formats::subject))]
 fn subject(alloc: Global, part: Part<'_>, issuer: &[u8; 20]) -> Result<SubjectRead, ShapeFault>
-    ensures { GivesUnlessMemory subject_value result ((subject issuer.now).read (place part.entry)) }
+    ensures { GivesUnlessMemory subject_value
+        result ((subject issuer.now).read (place part.entry)) }
 {
     let (id, rest) = name(part)?;
     let (key, rest) = key_of(rest, &id)?;

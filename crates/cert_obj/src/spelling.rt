@@ -9,20 +9,8 @@ ghost use Rattle.cert_obj.specs.Values.{IsUriIf, is_issued, is_authority, is_ent
 use crate::holdings::has_no_numbers;
 use crate::uris::is_uri;
 use crate::values::{Cert, CertKind, CertUris, Held};
+use moments::is_moment;
 use res_sets::Resources;
-
-/// 2000-01-01T00:00:00Z.
-const FIRST_MOMENT: u64 = 946_684_800;
-
-/// 9999-12-31T23:59:59Z.
-const LAST_MOMENT: u64 = 253_402_300_799;
-
-/// Whether a time has a spelling.
-fn is_moment(seconds: u64) -> bool
-    ensures { IsTrue result ↔ IsMoment seconds }
-{
-    seconds >= FIRST_MOMENT && seconds <= LAST_MOMENT
-}
 
 /// Whether two times have spellings.
 fn are_moments(one: u64, other: u64) -> bool

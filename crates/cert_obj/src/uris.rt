@@ -87,7 +87,8 @@ fn distribution_points(alloc: Global, part: Part<'_>) -> Result<String, ShapeFau
 
 /// Where the issuer's CRL is.
 pub fn distribution<'a>(alloc: Global, part: Part<'a>) -> Result<(String, Part<'a>), ShapeFault>
-    ensures { GivesUnlessMemory (λ x. (string_bytes x.0, place x.1)) result (distribution.read (place part.entry)) }
+    ensures { GivesUnlessMemory (λ x. (string_bytes x.0, place x.1))
+        result (distribution.read (place part.entry)) }
 {
     let (value, rest) = extension(part, &DISTRIBUTION_POINTS)?;
     let crl = distribution_points(alloc, value)?;
@@ -101,7 +102,8 @@ fn access<'a>(
     part: Part<'a>,
     method: &[u8],
 ) -> Result<(String, Part<'a>), ShapeFault>
-    ensures { GivesUnlessMemory (λ x. (string_bytes x.0, place x.1)) result ((access method.now).read (place part.entry)) }
+    ensures { GivesUnlessMemory (λ x. (string_bytes x.0, place x.1))
+        result ((access method.now).read (place part.entry)) }
 {
     let (content, rest) = part.open(SEQUENCE)?;
     let content = identifier(content, method)?;
@@ -124,7 +126,8 @@ pub fn issuer_information<'a>(
     alloc: Global,
     part: Part<'a>,
 ) -> Result<(String, Part<'a>), ShapeFault>
-    ensures { GivesUnlessMemory (λ x. (string_bytes x.0, place x.1)) result (issuer_information.read (place part.entry)) }
+    ensures { GivesUnlessMemory (λ x. (string_bytes x.0, place x.1))
+        result (issuer_information.read (place part.entry)) }
 {
     let (value, rest) = extension(part, &AUTHORITY_INFORMATION)?;
     let issuer = issuer_places(alloc, value)?;
@@ -160,7 +163,8 @@ pub fn authority_information<'a>(
     alloc: Global,
     part: Part<'a>,
 ) -> Result<(Places, Part<'a>), ShapeFault>
-    ensures { GivesUnlessMemory (λ x. (places_value x.0, place x.1)) result (authority_information.read (place part.entry)) }
+    ensures { GivesUnlessMemory (λ x. (places_value x.0, place x.1))
+        result (authority_information.read (place part.entry)) }
 {
     let (value, rest) = extension(part, &SUBJECT_INFORMATION)?;
     let places = authority_places(alloc, value)?;
@@ -182,7 +186,8 @@ pub fn entity_information<'a>(
     alloc: Global,
     part: Part<'a>,
 ) -> Result<(String, Part<'a>), ShapeFault>
-    ensures { GivesUnlessMemory (λ x. (string_bytes x.0, place x.1)) result (entity_information.read (place part.entry)) }
+    ensures { GivesUnlessMemory (λ x. (string_bytes x.0, place x.1))
+        result (entity_information.read (place part.entry)) }
 {
     let (value, rest) = extension(part, &SUBJECT_INFORMATION)?;
     let object = entity_places(alloc, value)?;

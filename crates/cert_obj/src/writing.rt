@@ -13,14 +13,16 @@ ghost use Rattle.cert_obj.specs.Formats.{published, published_of, anchor_rest, i
 
 use crate::extension_writing::{
     push_authority_information, push_basic_constraints, push_distribution, push_entity_information,
-    push_issuer_information, push_issuer_key, push_key_usage, push_policies, push_subject_key,
+    push_issuer_information, push_key_usage, push_policies, push_subject_key,
 };
 use crate::fixed::{AUTHORITY_USAGE, ENTITY_USAGE};
 use crate::holding_writing::push_held;
 use crate::values::{Cert, CertKind};
 use der_forms::tags::{CONTEXT_0, CONTEXT_3, SEQUENCE};
 use key_ids::KeyId;
-use object_parts::{push_key_info, push_name, push_period, push_signature_algorithm, write_signed};
+use object_parts::{
+    push_issuer_key, push_key_info, push_name, push_period, push_signature_algorithm, write_signed,
+};
 use signer_api::Signature;
 use std::alloc::{AllocError, Global};
 
@@ -40,7 +42,8 @@ fn push_published(alloc: Global, out: &mut Vec<u8>, cert: &Cert) -> Result<(), A
 #[tactic(auto, using(std::proofs::Common::append_assoc), unfolding(crate::specs::Formats::anchor_rest))]
 fn push_anchor_rest(alloc: Global, out: &mut Vec<u8>, cert: &Cert) -> Result<(), AllocError>
     ensures { OnOk result (out.new.items ≡ out.old.items
-        ++ anchor_rest.spelling (published_of (uris_value cert.now.uris) (held_value cert.now.held))) }
+        ++ anchor_rest.spelling
+        (published_of (uris_value cert.now.uris) (held_value cert.now.held))) }
 {
     push_key_usage(alloc, out, &AUTHORITY_USAGE)?;
     push_published(alloc, out, cert)
@@ -171,7 +174,8 @@ fn push_extensions(
     subject: &[u8; 20],
 ) -> Result<(), AllocError>
     ensures { OnOk result (out.new.items ≡ out.old.items
-        ++ (extensions cert.now.issuer.bytes subject.now).spelling (extended_of (cert_value cert.now))) }
+        ++ (extensions cert.now.issuer.bytes subject.now).spelling
+        (extended_of (cert_value cert.now))) }
 {
     let from = out.len();
     push_kinds(alloc, out, cert, subject)?;
@@ -207,7 +211,8 @@ fn push_body(alloc: Global, out: &mut Vec<u8>, cert: &Cert) -> Result<(), AllocE
 #[tactic(auto, using(std::proofs::Common::append_assoc), unfolding(crate::specs::Formats::tbs_content, der::specs::Spelling::unsigned_spelling))]
 fn push_content(alloc: Global, out: &mut Vec<u8>, cert: &Cert) -> Result<(), AllocError>
     requires { IsCert (cert_value cert.now) }
-    ensures { OnOk result (out.new.items ≡ out.old.items ++ tbs_content.spelling (cert_value cert.now)) }
+    ensures { OnOk result (out.new.items ≡ out.old.items
+        ++ tbs_content.spelling (cert_value cert.now)) }
 {
     der::element(alloc, out, CONTEXT_0, &[2, 1, 2])?;
     der::unsigned(alloc, out, cert.serial)?;

@@ -6,13 +6,13 @@ use Rattle.moments.specs.Civil.{IsMoment}
 use Rattle.der.specs.Tags as tag
 use Rattle.der.specs.Spelling.{spelled}
 use Rattle.der_forms.specs.declared.fault.ShapeFault.{ShapeFault}
-use Rattle.der_forms.specs.Place.{Place, ◌>>=◌, open_at, sole_at}
+use Rattle.der_forms.specs.Place.{Place, ◌>>=◌, sole_at}
 use Rattle.der_forms.specs.Form.{Whole, Front}
-use Rattle.der_forms.specs.Forms.{content, leaf, within, sole, both, after, only, preceded, followed, framed, mapped, read_front_by}
+use Rattle.der_forms.specs.Forms.{content, leaf, within, sole, both, after, only, preceded, followed, framed, mapped}
 use Rattle.der_forms.specs.Leaves.{fixed, exactly, constant, are_same}
 use Rattle.object_parts.specs.declared.identifiers.TheConstants.{SIGNED_DATA, CONTENT_TYPE, MESSAGE_DIGEST, SIGNING_TIME, ROA_CONTENT, MANIFEST_CONTENT}
 use Rattle.object_parts.specs.TimeFormats.{time}
-use Rattle.object_parts.specs.FrameFormats.{identifier, key_algorithm, digest_algorithm}
+use Rattle.object_parts.specs.FrameFormats.{identifier, attribute, key_algorithm, digest_algorithm}
 use Rattle.cms_obj.specs.declared.values.ObjectKind.{ObjectKind}
 use Rattle.cms_obj.specs.declared.values.ObjectKind.TheVariants.{Manifest, Roa}
 use Rattle.cms_obj.specs.Values.{ObjectValue, IsElement}
@@ -50,17 +50,6 @@ unfoldable pub certificates : Front (List ℕ)
 certificates = within tag.context_0 (element_bytes tag.sequence)
 
 -- ---- the attributes that are signed (RFC 6488 section 2.1.6.4, RFC 9589)
-
--- An attribute: its identifier, and a SET with the one value, whose place comes first.
-unfoldable pub attribute_at : List ℕ → Place → Result (Place × Place) ShapeFault
-attribute_at oid p =
-    open_at tag.sequence p >>= (λ q. (identifier oid).read q.0 >>= (λ a.
-    sole_at tag.set_of a.1 >>= (λ v. Ok (v, q.1))))
-
-abbrev pub attribute : {A : Type 0} → List ℕ → Whole A → Front A
-attribute oid f =
-    read_front_by (within tag.sequence (preceded (identifier oid) (sole tag.set_of f)))
-    (λ p. attribute_at oid p >>= (λ v. f.read v.0 >>= (λ x. Ok (x, v.1))))
 
 -- The kind of the content once more.
 abbrev pub content_type : ObjectKind → Front (Unit {0})

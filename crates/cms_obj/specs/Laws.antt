@@ -7,25 +7,25 @@ use Rattle.der.specs.Tags as tag
 use Rattle.der.specs.Spelling.{spelled}
 use Rattle.der_forms.specs.declared.fault.ShapeFault.{ShapeFault}
 use Rattle.der_forms.specs.declared.part.Part.{Part}
-use Rattle.der_forms.specs.Place.{Place, ◌>>=◌, open_at, sole_at, place}
+use Rattle.der_forms.specs.Place.{Place, ◌>>=◌, sole_at, place}
 use Rattle.der_forms.specs.PlaceLaws.{part-place}
 use Rattle.der_forms.specs.Form.{Whole, IsWhole, IsFront}
 use Rattle.der_forms.specs.Forms.{content, leaf, within, sole, both, after, only, preceded, followed}
 use Rattle.der_forms.specs.Leaves.{fixed, exactly, are_same}
 use Rattle.der_forms.specs.FormLaws.{same-ok, not-both, not-err, bind-ok, bind-err, told-fewer, leaf-law, content-law, within-law}
 use Rattle.der_forms.specs.SequenceLaws.{after-law, both-law, only-law}
-use Rattle.der_forms.specs.FrameLaws.{sole-again, sole-taken, sole-header, sole-law, preceded-law, followed-law, framed-law, bind-assoc, bind-alike, read_front_by-law}
+use Rattle.der_forms.specs.FrameLaws.{sole-again, sole-taken, sole-header, sole-law, preceded-law, followed-law, framed-law}
 use Rattle.der_forms.specs.ValueLaws.{IsBijection, mapped-law}
 use Rattle.der_forms.specs.LeafLaws.{exactly-law, constant-law, fixed-law, same-lists}
 use Rattle.object_parts.specs.declared.identifiers.TheConstants.{SIGNED_DATA, CONTENT_TYPE, MESSAGE_DIGEST, SIGNING_TIME, ROA_CONTENT, MANIFEST_CONTENT}
 use Rattle.object_parts.specs.TimeFormats.{time}
 use Rattle.object_parts.specs.TimeLaws.{time-law}
 use Rattle.object_parts.specs.FrameFormats.{identifier, key_algorithm, digest_algorithm}
-use Rattle.object_parts.specs.FrameLaws.{identifier-law, key_algorithm-law, digest_algorithm-law}
+use Rattle.object_parts.specs.FrameLaws.{identifier-law, attribute-law, key_algorithm-law, digest_algorithm-law}
 use Rattle.cms_obj.specs.declared.values.ObjectKind.{ObjectKind}
 use Rattle.cms_obj.specs.declared.values.ObjectKind.TheVariants.{Manifest, Roa}
 use Rattle.cms_obj.specs.Values.{ObjectValue, IsElement}
-use Rattle.cms_obj.specs.Formats.{kind_identifier, kind_in, kind, encapsulated, element_bytes, certificates, attribute_at, attribute, content_type, signing_time, message_digest, attributes, signed_attributes, under_set, version, signer, signature, signed, signers, digest_algorithms, behind_content, Parts, signed_data, of_parts, parts_of, IsSignedObject, signed_object}
+use Rattle.cms_obj.specs.Formats.{kind_identifier, kind_in, kind, encapsulated, element_bytes, certificates, content_type, signing_time, message_digest, attributes, signed_attributes, under_set, version, signer, signature, signed, signers, digest_algorithms, behind_content, Parts, signed_data, of_parts, parts_of, IsSignedObject, signed_object}
 
 -- ---- the content and the certificate
 
@@ -33,16 +33,25 @@ kind-again : (k : ObjectKind) → kind_in (kind_identifier k) ≡ Some k
 kind-again Manifest = refl
 kind-again Roa = refl
 
-kind-taken : (a b : Bool) (bytes : List ℕ) (k : ObjectKind) → are_same bytes MANIFEST_CONTENT ≡ a → are_same bytes ROA_CONTENT ≡ b → cond a (Some Manifest) (cond b (Some Roa) None) ≡ Some k → bytes ≡ kind_identifier k
-kind-taken true b bytes k is other e = let same : Manifest ≡ k = cc in same-lists bytes MANIFEST_CONTENT is ∙ ap kind_identifier same
-kind-taken false true bytes k is other e = let same : Roa ≡ k = cc in same-lists bytes ROA_CONTENT other ∙ ap kind_identifier same
+kind-taken : (a b : Bool) (bytes : List ℕ) (k : ObjectKind) → are_same bytes MANIFEST_CONTENT ≡ a
+    → are_same bytes ROA_CONTENT ≡ b → cond a (Some Manifest) (cond b (Some Roa) None) ≡ Some k
+    → bytes ≡ kind_identifier k
+kind-taken true b bytes k is other e = let same : Manifest ≡ k = cc in
+    same-lists bytes MANIFEST_CONTENT is ∙ ap kind_identifier same
+kind-taken false true bytes k is other e = let same : Roa ≡ k = cc in
+    same-lists bytes ROA_CONTENT other ∙ ap kind_identifier same
 kind-taken false false bytes k is other e = absurd cc
 
 pub kind-law : IsFront kind
-kind-law = within-law tag.object_identifier (leaf (λ (k : ObjectKind). Unit {0}) kind_identifier kind_in)
+kind-law =
+    within-law tag.object_identifier (leaf (λ (k : ObjectKind). Unit {0}) kind_identifier kind_in)
     (leaf-law (λ (k : ObjectKind). Unit {0}) kind_identifier kind_in (record {
       again = λ k good input. kind-again k;
-      taken = λ k bytes input e. (tt, kind-taken (are_same bytes MANIFEST_CONTENT) (are_same bytes ROA_CONTENT) bytes k refl refl e);
+      taken = λ k bytes input e. (
+        tt,
+        kind-taken (are_same bytes MANIFEST_CONTENT) (are_same bytes ROA_CONTENT) bytes k
+            refl refl e,
+      );
     }))
 
 pub encapsulated-law : IsFront encapsulated
@@ -50,7 +59,8 @@ unfolding encapsulated
 encapsulated-law =
     within-law tag.sequence (both kind (sole tag.context_0 (sole tag.octet_string content)))
     (both-law kind (sole tag.context_0 (sole tag.octet_string content)) kind-law
-    (sole-law tag.context_0 (sole tag.octet_string content) (sole-law tag.octet_string content content-law)))
+    (sole-law tag.context_0 (sole tag.octet_string content)
+    (sole-law tag.octet_string content content-law)))
 
 pub element_bytes-law : (tag : ℕ) → IsWhole (element_bytes tag)
 element_bytes-law tag = record {
@@ -61,45 +71,48 @@ element_bytes-law tag = record {
       let a = bind-ok (sole_at tag p) (λ q. Ok p.left) x e in
       let t = sole-taken tag p a.0 is a.1 in
       let c : List ℕ = t.opened.content in
-      let left : p.left ≡ spelled tag c = t.opened.front.left ∙ ap (λ (l : List ℕ). spelled tag c ++ l) t.nothing ∙ append-nil (spelled tag c) in
-      subst (λ (y : List ℕ). IsElement tag y × (p.left ≡ y)) (same-ok p.left x a.2) (record { content = c; short = is.input.short; spelled = left }, refl);
+      let left : p.left ≡ spelled tag c = t.opened.front.left
+      ∙ ap (λ (l : List ℕ). spelled tag c ++ l) t.nothing ∙ append-nil (spelled tag c) in
+      subst (λ (y : List ℕ). IsElement tag y × (p.left ≡ y)) (same-ok p.left x a.2)
+      (record { content = c; short = is.input.short; spelled = left }, refl);
   fault = λ e p is h.
       elim (bind-err (sole_at tag p) (λ q. Ok p.left) e h) [
-        | inl refused ↦ told-fewer p e (λ bytes input t. record { value = t.good.content; good = tt; spelled = t.spelled ∙ t.good.spelled }) (sole-header tag content p e is refused)
+        | inl refused ↦
+            told-fewer p e
+            (λ bytes input t.
+            record { value = t.good.content; good = tt; spelled = t.spelled ∙ t.good.spelled })
+            (sole-header tag content p e is refused)
         | inr a ↦ absurd (not-err p.left e a.2)
       ];
 }
 
 pub certificates-law : IsFront certificates
 unfolding certificates
-certificates-law = within-law tag.context_0 (element_bytes tag.sequence) (element_bytes-law tag.sequence)
+certificates-law = within-law tag.context_0 (element_bytes tag.sequence)
+    (element_bytes-law tag.sequence)
 
 -- ---- the attributes
 
-pub attribute-law : {A : Type 0} (oid : List ℕ) (f : Whole A) → IsWhole f → IsFront (attribute oid f)
-unfolding attribute_at
-attribute-law {A = A} oid f law =
-    read_front_by-law (within tag.sequence (preceded (identifier oid) (sole tag.set_of f))) _
-    (within-law tag.sequence (preceded (identifier oid) (sole tag.set_of f)) (preceded-law (identifier oid) (sole tag.set_of f) (identifier-law oid) tt (sole-law tag.set_of f law)))
-    (λ p.
-    bind-assoc (open_at tag.sequence p) _ _ ∙ bind-alike (open_at tag.sequence p) _ _ (λ q.
-    bind-assoc ((identifier oid).read q.0) _ _ ∙ bind-alike ((identifier oid).read q.0) _ (λ a. ((sole_at tag.set_of a.1 >>= f.read) >>= (λ x. Ok (x, q.1)))) (λ a.
-    bind-assoc (sole_at tag.set_of a.1) _ _ ∙ sym (bind-assoc (sole_at tag.set_of a.1) f.read (λ x. Ok (x, q.1)))) ∙ sym (bind-assoc ((identifier oid).read q.0) (λ a. sole_at tag.set_of a.1 >>= f.read) (λ x. Ok (x, q.1)))))
-
 content_type-law : (k : ObjectKind) → IsFront (content_type k)
-content_type-law k = attribute-law CONTENT_TYPE (sole tag.object_identifier (exactly (kind_identifier k))) (sole-law tag.object_identifier (exactly (kind_identifier k)) (exactly-law (kind_identifier k)))
+content_type-law k =
+    attribute-law CONTENT_TYPE (sole tag.object_identifier (exactly (kind_identifier k)))
+    (sole-law tag.object_identifier (exactly (kind_identifier k))
+    (exactly-law (kind_identifier k)))
 
 signing_time-law : IsFront signing_time
 signing_time-law = attribute-law SIGNING_TIME (only time) (only-law time time-law)
 
 message_digest-law : (hash : List ℕ) → IsFront (message_digest hash)
-message_digest-law hash = attribute-law MESSAGE_DIGEST (sole tag.octet_string (exactly hash)) (sole-law tag.octet_string (exactly hash) (exactly-law hash))
+message_digest-law hash = attribute-law MESSAGE_DIGEST (sole tag.octet_string (exactly hash))
+    (sole-law tag.octet_string (exactly hash) (exactly-law hash))
 
 pub attributes-law : (k : ObjectKind) (hash : List ℕ) → IsWhole (attributes k hash)
 unfolding attributes
 attributes-law k hash =
-    preceded-law (content_type k) (followed signing_time (only (message_digest hash))) (content_type-law k) tt
-    (followed-law signing_time (only (message_digest hash)) signing_time-law (only-law (message_digest hash) (message_digest-law hash)) tt)
+    preceded-law (content_type k) (followed signing_time (only (message_digest hash)))
+    (content_type-law k) tt
+    (followed-law signing_time (only (message_digest hash)) signing_time-law
+    (only-law (message_digest hash) (message_digest-law hash)) tt)
 
 -- ---- the signer
 
@@ -107,35 +120,45 @@ signer-law : IsFront signer
 signer-law = within-law tag.primitive_0 (fixed 20) (fixed-law 20)
 
 signature-law : IsWhole signature
-signature-law = preceded-law key_algorithm (sole tag.octet_string (fixed 256)) key_algorithm-law tt (sole-law tag.octet_string (fixed 256) (fixed-law 256))
+signature-law = preceded-law key_algorithm (sole tag.octet_string (fixed 256)) key_algorithm-law
+    tt (sole-law tag.octet_string (fixed 256) (fixed-law 256))
 
 pub signed-law : (k : ObjectKind) (hash : List ℕ) → IsWhole (signed k hash)
 unfolding signed
-signed-law k hash = framed-law tag.context_0 (attributes k hash) signature (attributes-law k hash) signature-law
+signed-law k hash = framed-law tag.context_0 (attributes k hash) signature (attributes-law k hash)
+    signature-law
 
 pub signers-law : (k : ObjectKind) (hash : List ℕ) → IsWhole (signers k hash)
 unfolding signers
 signers-law k hash =
-    sole-law tag.set_of (sole tag.sequence (preceded version (both signer (preceded digest_algorithm (signed k hash)))))
-    (sole-law tag.sequence (preceded version (both signer (preceded digest_algorithm (signed k hash))))
-    (preceded-law version (both signer (preceded digest_algorithm (signed k hash))) (constant-law tag.integer (3 ∷ [])) tt
+    sole-law tag.set_of
+    (sole tag.sequence
+    (preceded version (both signer (preceded digest_algorithm (signed k hash)))))
+    (sole-law tag.sequence
+    (preceded version (both signer (preceded digest_algorithm (signed k hash))))
+    (preceded-law version (both signer (preceded digest_algorithm (signed k hash)))
+    (constant-law tag.integer (3 ∷ [])) tt
     (both-law signer (preceded digest_algorithm (signed k hash)) signer-law
     (preceded-law digest_algorithm (signed k hash) digest_algorithm-law tt (signed-law k hash)))))
 
 -- ---- the whole
 
 digest_algorithms-law : IsFront digest_algorithms
-digest_algorithms-law = within-law tag.set_of (only digest_algorithm) (only-law digest_algorithm digest_algorithm-law)
+digest_algorithms-law = within-law tag.set_of (only digest_algorithm)
+    (only-law digest_algorithm digest_algorithm-law)
 
 pub behind_content-law : (e : ObjectKind × List ℕ) → IsWhole (behind_content e)
 unfolding behind_content
-behind_content-law e = both-law certificates (signers e.0 (sha256 e.1)) certificates-law (signers-law e.0 (sha256 e.1))
+behind_content-law e = both-law certificates (signers e.0 (sha256 e.1)) certificates-law
+    (signers-law e.0 (sha256 e.1))
 
 pub signed_data-law : IsWhole signed_data
 unfolding signed_data
 signed_data-law =
-    sole-law tag.sequence (preceded version (preceded digest_algorithms (after encapsulated behind_content)))
-    (preceded-law version (preceded digest_algorithms (after encapsulated behind_content)) (constant-law tag.integer (3 ∷ [])) tt
+    sole-law tag.sequence
+    (preceded version (preceded digest_algorithms (after encapsulated behind_content)))
+    (preceded-law version (preceded digest_algorithms (after encapsulated behind_content))
+    (constant-law tag.integer (3 ∷ [])) tt
     (preceded-law digest_algorithms (after encapsulated behind_content) digest_algorithms-law tt
     (after-law encapsulated behind_content encapsulated-law (λ e good. behind_content-law e))))
 
@@ -154,10 +177,20 @@ abbrev with_attributes : Parts → List ℕ → Parts
 with_attributes x bytes = (x.0, (x.1.0, (x.1.1.0, (x.1.1.1.0, bytes, x.1.1.1.2))))
 
 object-parts : IsBijection signed_data.good of_parts parts_of IsSignedObject
-unfolding encapsulated certificates attributes signed_attributes signed signers behind_content signed_data spelled
+unfolding encapsulated certificates attributes signed_attributes signed signers behind_content
+    signed_data spelled
 object-parts = record {
   back = λ v good. (
-    ((tt, tt), (good.certificate, ((tt, eq-eqb (length v.signer) 20 good.signer), (good.moment, refl, (tt, eq-eqb (length v.signature) 256 good.signature))))),
+    (
+      (tt, tt),
+      (
+        good.certificate,
+        (
+          (tt, eq-eqb (length v.signer) 20 good.signer),
+          (good.moment, refl, (tt, eq-eqb (length v.signature) 256 good.signature)),
+        ),
+      ),
+    ),
     ap (with_digest v) (sym good.digest),
   );
   there = λ x good. (
@@ -175,22 +208,28 @@ object-parts = record {
 pub signed_object-law : IsWhole signed_object
 unfolding signed_object
 signed_object-law =
-    mapped-law (sole tag.sequence (preceded (identifier SIGNED_DATA) (sole tag.context_0 signed_data))) of_parts parts_of IsSignedObject
+    mapped-law
+    (sole tag.sequence (preceded (identifier SIGNED_DATA) (sole tag.context_0 signed_data)))
+    of_parts parts_of IsSignedObject
     (sole-law tag.sequence (preceded (identifier SIGNED_DATA) (sole tag.context_0 signed_data))
-    (preceded-law (identifier SIGNED_DATA) (sole tag.context_0 signed_data) (identifier-law SIGNED_DATA) tt
+    (preceded-law (identifier SIGNED_DATA) (sole tag.context_0 signed_data)
+    (identifier-law SIGNED_DATA) tt
     (sole-law tag.context_0 signed_data signed_data-law)))
     object-parts
 
 -- ---- one whole element
 
 -- What is opened with nothing behind it is one whole element.
-pub element_found : (tag : ℕ) (part : Part) (i : Place) → sole_at tag (place part) ≡ Ok i → IsElement tag part.bytes.now
+pub element_found : (tag : ℕ) (part : Part) (i : Place) → sole_at tag (place part) ≡ Ok i
+    → IsElement tag part.bytes.now
 element_found tag part i e =
     let read : (element_bytes tag).read (place part) ≡ Ok part.bytes.now = rw e refl in
     ((element_bytes-law tag).taken part.bytes.now (place part) (part-place part) read).0
 
 -- And each whole element is opened.
-pub element_only : (tag : ℕ) (part : Part) (e : ShapeFault) → sole_at tag (place part) ≡ Err e → IsElement tag part.bytes.now → ⊥
+pub element_only : (tag : ℕ) (part : Part) (e : ShapeFault) → sole_at tag (place part) ≡ Err e
+    → IsElement tag part.bytes.now → ⊥
 element_only tag part e h is =
     let read : (element_bytes tag).read (place part) ≡ Err e = rw h refl in
-    not-both ((element_bytes tag).read (place part)) part.bytes.now e ((element_bytes-law tag).again part.bytes.now (place part) is (part-place part) refl) read
+    not-both ((element_bytes tag).read (place part)) part.bytes.now e
+    ((element_bytes-law tag).again part.bytes.now (place part) is (part-place part) refl) read

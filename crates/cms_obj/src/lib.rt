@@ -6,6 +6,7 @@ mod reading;
 mod values;
 mod writing;
 
+pub use moments::is_moment;
 pub use reading::read;
 pub use values::{ObjectKind, SignedObject};
-pub use writing::{attributes, is_certificate, is_moment, write};
+pub use writing::{attributes, is_certificate, write};

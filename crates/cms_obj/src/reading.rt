@@ -7,7 +7,7 @@ ghost use Rattle.der_forms.specs.Place.{place};
 ghost use Rattle.der_forms.specs.Outcome.{Gives, UnlessMemory};
 ghost use Rattle.der_forms.specs.Object.{Spells, read_object, IsTrueFault};
 ghost use Rattle.cms_obj.specs.Values.{ObjectValue, object_value};
-ghost use Rattle.cms_obj.specs.Formats.{kind, encapsulated, certificates, attribute_at, content_type, signing_time, message_digest, attributes, under_set, signer, signature, signed, signers, digest_algorithms, behind_content, signed_data, signed_object};
+ghost use Rattle.cms_obj.specs.Formats.{kind, encapsulated, certificates, content_type, signing_time, message_digest, attributes, under_set, signer, signature, signed, signers, digest_algorithms, behind_content, signed_data, signed_object};
 
 use crate::kinds::kind_in;
 use crate::values::{ObjectKind, SignedObject};
@@ -17,7 +17,7 @@ use der_forms::tags::{
 use der_forms::{Part, ShapeFault, constant, exactly, fixed};
 use key_ids::KeyId;
 use object_parts::identifiers::{CONTENT_TYPE, MESSAGE_DIGEST, SIGNED_DATA, SIGNING_TIME};
-use object_parts::{digest_algorithm, identifier, key_algorithm, time};
+use object_parts::{attribute, digest_algorithm, identifier, key_algorithm, time};
 use sha2::{Digest as Hasher, Sha256};
 use signer_api::{Digest, Signature};
 use std::alloc::Global;
@@ -43,7 +43,8 @@ struct TypedContent<'a> {
 /// The content; what stands behind it.
 #[tactic(auto, unfolding(crate::specs::Formats::encapsulated))]
 fn encapsulated<'a>(part: Part<'a>) -> Result<(TypedContent<'a>, Part<'a>), ShapeFault>
-    ensures { Gives (λ x. ((x.0.kind, x.0.bytes.now), place x.1)) result (encapsulated.read (place part.entry)) }
+    ensures { Gives (λ x. ((x.0.kind, x.0.bytes.now), place x.1))
+        result (encapsulated.read (place part.entry)) }
 {
     let (inside, rest) = part.open(SEQUENCE)?;
     let (kind, inside) = kind(inside)?;
@@ -67,17 +68,6 @@ fn certificates<'a>(part: Part<'a>) -> Result<(&'a [u8], Part<'a>), ShapeFault>
     Ok((content.bytes, rest))
 }
 
-/// An attribute: its value, and what stands behind it.
-#[tactic(auto, unfolding(crate::specs::Formats::attribute_at))]
-fn attribute<'a>(part: Part<'a>, oid: &[u8]) -> Result<(Part<'a>, Part<'a>), ShapeFault>
-    ensures { Gives (λ x. (place x.0, place x.1)) result (attribute_at oid.now (place part.entry)) }
-{
-    let (content, rest) = part.open(SEQUENCE)?;
-    let content = identifier(content, oid)?;
-    let value = content.sole(SET)?;
-    Ok((value, rest))
-}
-
 /// The kind of the content once more; what stands behind it.
 fn content_type<'a>(part: Part<'a>, kind: ObjectKind) -> Result<Part<'a>, ShapeFault>
     ensures { Gives (λ q. (tt, place q)) result ((content_type kind).read (place part.entry)) }
@@ -99,7 +89,8 @@ fn signing_time(part: Part<'_>) -> Result<(u64, Part<'_>), ShapeFault>
 
 /// The hash of the content; what stands behind it.
 fn message_digest<'a>(part: Part<'a>, hash: &[u8; 32]) -> Result<Part<'a>, ShapeFault>
-    ensures { Gives (λ q. (tt, place q)) result ((message_digest hash.now).read (place part.entry)) }
+    ensures { Gives (λ q. (tt, place q))
+        result ((message_digest hash.now).read (place part.entry)) }
 {
     let (value, rest) = attribute(part, &MESSAGE_DIGEST)?;
     exactly(value.sole(OCTET_STRING)?, hash)?;
@@ -150,7 +141,8 @@ fn signed_part<'a>(
     kind: ObjectKind,
     hash: &[u8; 32],
 ) -> Result<SignedPart<'a>, ShapeFault>
-    ensures { Gives (λ s. (s.moment, s.attributes.now, s.signature)) result ((signed kind hash.now).read (place part.entry)) }
+    ensures { Gives (λ s. (s.moment, s.attributes.now, s.signature))
+        result ((signed kind hash.now).read (place part.entry)) }
 {
     let (content, behind) = part.open(CONTEXT_0)?;
     let signature = signature(behind)?;
@@ -227,8 +219,19 @@ struct Vouched<'a> {
 #[tactic(auto, unfolding(crate::specs::Formats::behind_content))]
 fn behind_content<'a>(part: Part<'a>, content: TypedContent<'_>) -> Result<Vouched<'a>, ShapeFault>
     ensures { Gives
-        (λ v. (v.certificate.now, (v.statement.key, (v.statement.signed.moment, v.statement.signed.attributes.now, v.statement.signed.signature))))
-        result ((behind_content (content.entry.kind, content.entry.bytes.now)).read (place part.entry)) }
+        (λ v. (
+          v.certificate.now,
+          (
+            v.statement.key,
+            (
+              v.statement.signed.moment,
+              v.statement.signed.attributes.now,
+              v.statement.signed.signature,
+            ),
+          ),
+        ))
+        result ((behind_content (content.entry.kind, content.entry.bytes.now)).read
+        (place part.entry)) }
 {
     let (certificate, rest) = certificates(part)?;
     let statement = signers(rest, content.kind, &hash_of(content.bytes))?;
@@ -251,7 +254,17 @@ fn signed_data<'a>(part: Part<'a>) -> Result<SignedData<'a>, ShapeFault>
     ensures { Gives
         (λ s. (
           (s.content.kind, s.content.bytes.now),
-          (s.vouched.certificate.now, (s.vouched.statement.key, (s.vouched.statement.signed.moment, s.vouched.statement.signed.attributes.now, s.vouched.statement.signed.signature))),
+          (
+            s.vouched.certificate.now,
+            (
+              s.vouched.statement.key,
+              (
+                s.vouched.statement.signed.moment,
+                s.vouched.statement.signed.attributes.now,
+                s.vouched.statement.signed.signature,
+              ),
+            ),
+          ),
         ))
         result (signed_data.read (place part.entry)) }
 {

@@ -18,12 +18,6 @@ use sha2::{Digest as Hasher, Sha256};
 use signer_api::Signature;
 use std::alloc::{AllocError, Global};
 
-/// 2000-01-01T00:00:00Z.
-const FIRST_MOMENT: u64 = 946_684_800;
-
-/// 9999-12-31T23:59:59Z.
-const LAST_MOMENT: u64 = 253_402_300_799;
-
 /// Appends the kind of the content as an attribute.
 #[tactic(auto, using(std::proofs::Common::append_assoc))]
 fn push_content_type(alloc: Global, out: &mut Vec<u8>, kind: ObjectKind) -> Result<(), AllocError>
@@ -74,7 +68,8 @@ fn push_attributes(
     moment: u64,
 ) -> Result<(), AllocError>
     requires { IsMoment moment }
-    ensures { OnOk result (out.new.items ≡ out.old.items ++ (attributes kind hash.now).spelling moment) }
+    ensures { OnOk result (out.new.items ≡ out.old.items
+        ++ (attributes kind hash.now).spelling moment) }
 {
     push_content_type(alloc, out, kind)?;
     push_signing_time(alloc, out, moment)?;
@@ -157,7 +152,8 @@ fn push_encapsulated(
     kind: ObjectKind,
     content: &[u8],
 ) -> Result<(), AllocError>
-    ensures { OnOk result (out.new.items ≡ out.old.items ++ encapsulated.spelling (kind, content.now)) }
+    ensures { OnOk result (out.new.items ≡ out.old.items
+        ++ encapsulated.spelling (kind, content.now)) }
 {
     let from = out.len();
     push_identifier(alloc, out, &kind.identifier())?;
@@ -199,7 +195,8 @@ fn push_signed_data(
     requires moment { IsMoment said.now.moment }
     requires hash { said.now.hash ≡ sha256 content.now }
     ensures { OnOk result (out.new.items ≡ out.old.items ++ signed_data.spelling (parts_of
-        (object_of said.now.kind content.now certificate.now said.now.signer said.now.moment said.now.signature))) }
+        (object_of said.now.kind content.now certificate.now said.now.signer said.now.moment
+        said.now.signature))) }
 {
     let from = out.len();
     push_head(alloc, out)?;
@@ -220,7 +217,8 @@ fn is_object(
 )
     requires certificate { IsElement tag.sequence certificate.now }
     requires moment { IsMoment moment }
-    ensures { IsSignedObject (object_of kind content.now certificate.now signer.now moment signature.now) }
+    ensures { IsSignedObject
+        (object_of kind content.now certificate.now signer.now moment signature.now) }
 {}
 
 /// The signed object of a content, the certificate of the key that signs, the key's identifier, the time
@@ -235,7 +233,7 @@ pub fn write(
     moment: u64,
     signature: &Signature,
 ) -> Result<Vec<u8>, AllocError>
-    // See `is_certificate` and `is_moment`.
+    // See `is_certificate` and `moments::is_moment`.
     requires certificate { IsElement tag.sequence certificate.now }
     requires moment { IsMoment moment }
 
@@ -243,7 +241,8 @@ pub fn write(
     ensures bytes { IfOk result (λ out. out.items ≡ signed_object.spelling
         (object_of kind content.now certificate.now signer.now.bytes moment signature.now.bytes)) }
     ensures spelled { IfOk result (λ out. length out.items < 2 ^ 32 → Spells signed_object
-        (object_of kind content.now certificate.now signer.now.bytes moment signature.now.bytes) out.items) }
+        (object_of kind content.now certificate.now signer.now.bytes moment signature.now.bytes)
+        out.items) }
 {
     is_object(
         kind,
@@ -267,13 +266,6 @@ pub fn write(
     der::enclose(alloc, &mut out, from, CONTEXT_0)?;
     der::enclose(alloc, &mut out, 0, SEQUENCE)?;
     Ok(out)
-}
-
-/// Whether a time, in seconds since 1970, has a spelling: it lies in the years 2000 to 9999.
-pub fn is_moment(seconds: u64) -> bool
-    ensures { IsTrue result ↔ IsMoment seconds }
-{
-    seconds >= FIRST_MOMENT && seconds <= LAST_MOMENT
 }
 
 /// Whether a part is one whole element.

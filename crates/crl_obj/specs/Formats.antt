@@ -6,11 +6,11 @@ use Rattle.der.specs.Tags as tag
 use Rattle.der.specs.Spelling.{spelled}
 use Rattle.der_forms.specs.Form.{Whole, Front}
 use Rattle.der_forms.specs.Forms.{AreAll, within, sole, both, after, only, preceded, optional, tested, many, mapped, mapped_front}
-use Rattle.der_forms.specs.Leaves.{number, exactly, constant}
-use Rattle.object_parts.specs.declared.identifiers.TheConstants.{AUTHORITY_KEY_IDENTIFIER, CRL_NUMBER}
+use Rattle.der_forms.specs.Leaves.{number, constant}
+use Rattle.object_parts.specs.declared.identifiers.TheConstants.{CRL_NUMBER}
 use Rattle.object_parts.specs.TimeFormats.{time}
 use Rattle.object_parts.specs.NameFormats.{name}
-use Rattle.object_parts.specs.FrameFormats.{signature_algorithm, extension, signed}
+use Rattle.object_parts.specs.FrameFormats.{signature_algorithm, extension, issuer_key, signed}
 use Rattle.crl_obj.specs.declared.values.CrlEntry.{CrlEntry}
 use Rattle.crl_obj.specs.Values.{CrlValue, SignedCrl, IsEntry, rise_above, are_rising, IsCrl}
 
@@ -33,15 +33,12 @@ is_listed (e ∷ es) = rise_above e.serial es
 unfoldable pub listed : Front (List CrlEntry)
 listed = within tag.sequence (tested (many entry) is_listed)
 
--- The identifier of the issuer's key, which is the one that the issuer's name has (section 5.2.1).
-abbrev pub issuer_key : List ℕ → Front (Unit {0})
-issuer_key issuer =
-    extension AUTHORITY_KEY_IDENTIFIER (sole tag.sequence (sole tag.primitive_0 (exactly issuer)))
-
 -- The number of the CRL (section 5.2.3).
 abbrev pub crl_number : Front ℕ
 crl_number = extension CRL_NUMBER (only number)
 
+-- The identifier of the issuer's key, which is the one that the issuer's name has (section 5.2.1),
+-- and the number.
 unfoldable pub extensions : List ℕ → Whole ℕ
 extensions issuer =
     sole tag.context_0 (sole tag.sequence (preceded (issuer_key issuer) (only crl_number)))

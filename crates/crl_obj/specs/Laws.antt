@@ -4,30 +4,31 @@ use Rattle.sha2.specs.Sha256.{sha256}
 use Rattle.der.specs.Tags as tag
 use Rattle.der_forms.specs.Form.{IsWhole, IsFront}
 use Rattle.der_forms.specs.Forms.{within, sole, both, after, only, preceded, optional, tested, many}
-use Rattle.der_forms.specs.Leaves.{number, exactly}
+use Rattle.der_forms.specs.Leaves.{number}
 use Rattle.der_forms.specs.FormLaws.{within-law}
 use Rattle.der_forms.specs.SequenceLaws.{after-law, both-law, only-law}
 use Rattle.der_forms.specs.FrameLaws.{sole-law, preceded-law}
 use Rattle.der_forms.specs.ValueLaws.{IsBijection, mapped-law, mapped_front-law, tested-law}
 use Rattle.der_forms.specs.ChoiceLaws.{IsBegun, IsNeverBegun, optional-law, within-begun, sole-never-begun}
 use Rattle.der_forms.specs.ListLaws.{many-law}
-use Rattle.der_forms.specs.LeafLaws.{number-law, exactly-law, constant-law}
-use Rattle.object_parts.specs.declared.identifiers.TheConstants.{AUTHORITY_KEY_IDENTIFIER, CRL_NUMBER}
+use Rattle.der_forms.specs.LeafLaws.{number-law, constant-law}
+use Rattle.object_parts.specs.declared.identifiers.TheConstants.{CRL_NUMBER}
 use Rattle.object_parts.specs.TimeFormats.{time}
 use Rattle.object_parts.specs.TimeLaws.{time-law}
 use Rattle.object_parts.specs.NameFormats.{name}
 use Rattle.object_parts.specs.NameLaws.{name-law}
-use Rattle.object_parts.specs.FrameFormats.{signature_algorithm, signed}
-use Rattle.object_parts.specs.FrameLaws.{signature_algorithm-law, extension-law, signed-law}
+use Rattle.object_parts.specs.FrameFormats.{signature_algorithm, issuer_key, signed}
+use Rattle.object_parts.specs.FrameLaws.{signature_algorithm-law, extension-law, issuer_key-law, signed-law}
 use Rattle.crl_obj.specs.declared.values.CrlEntry.{CrlEntry}
 use Rattle.crl_obj.specs.Values.{CrlValue, SignedCrl, IsEntry, IsCrl}
-use Rattle.crl_obj.specs.Formats.{of_pair, pair_of, entry, is_listed, listed, issuer_key, crl_number, extensions, entries_of, list_of, AreRevoked, of_optional, optional_of, revoked, body, version, of_parts, parts_of, tbs_content, signed_bytes, of_signed, signed_of, IsSignedCrl, signed_crl}
+use Rattle.crl_obj.specs.Formats.{of_pair, pair_of, entry, is_listed, listed, crl_number, extensions, entries_of, list_of, AreRevoked, of_optional, optional_of, revoked, body, version, of_parts, parts_of, tbs_content, signed_bytes, of_signed, signed_of, IsSignedCrl, signed_crl}
 
 pub entry-law : IsFront entry
 unfolding entry
 entry-law =
     mapped_front-law (within tag.sequence (both number (only time))) of_pair pair_of IsEntry
-    (within-law tag.sequence (both number (only time)) (both-law number (only time) number-law (only-law time time-law)))
+    (within-law tag.sequence (both number (only time))
+    (both-law number (only time) number-law (only-law time time-law)))
     (record {
       back = λ e good. ((good.serial, good.revoked_at), refl);
       there = λ x good. (record { serial = good.0; revoked_at = good.1 }, refl);
@@ -35,16 +36,12 @@ entry-law =
 
 pub listed-law : IsFront listed
 unfolding listed
-listed-law = within-law tag.sequence (tested (many entry) is_listed) (tested-law (many entry) is_listed (many-law entry entry-law))
+listed-law = within-law tag.sequence (tested (many entry) is_listed)
+    (tested-law (many entry) is_listed (many-law entry entry-law))
 
 listed-begun : IsBegun tag.sequence listed
 unfolding listed
 listed-begun = within-begun tag.sequence (tested (many entry) is_listed)
-
-issuer_key-law : (issuer : List ℕ) → IsFront (issuer_key issuer)
-issuer_key-law issuer =
-    extension-law AUTHORITY_KEY_IDENTIFIER (sole tag.sequence (sole tag.primitive_0 (exactly issuer)))
-    (sole-law tag.sequence (sole tag.primitive_0 (exactly issuer)) (sole-law tag.primitive_0 (exactly issuer) (exactly-law issuer)))
 
 crl_number-law : IsFront crl_number
 crl_number-law = extension-law CRL_NUMBER (only number) (only-law number number-law)
@@ -54,41 +51,65 @@ unfolding extensions
 extensions-law issuer =
     sole-law tag.context_0 (sole tag.sequence (preceded (issuer_key issuer) (only crl_number)))
     (sole-law tag.sequence (preceded (issuer_key issuer) (only crl_number))
-    (preceded-law (issuer_key issuer) (only crl_number) (issuer_key-law issuer) tt (only-law crl_number crl_number-law)))
+    (preceded-law (issuer_key issuer) (only crl_number) (issuer_key-law issuer) tt
+    (only-law crl_number crl_number-law)))
 
 extensions-begun : (issuer : List ℕ) → IsNeverBegun tag.sequence (extensions issuer)
 unfolding extensions
-extensions-begun issuer = sole-never-begun tag.sequence tag.context_0 (sole tag.sequence (preceded (issuer_key issuer) (only crl_number))) refl
+extensions-begun issuer = sole-never-begun tag.sequence tag.context_0
+    (sole tag.sequence (preceded (issuer_key issuer) (only crl_number))) refl
 
 never : false ≡ true → ⊥
 never e = cc
 
-list-back : (issuer : List ℕ) (es : List CrlEntry) (n : ℕ) → AreRevoked (es, n) → (optional tag.sequence listed (extensions issuer)).good (list_of es, n) × (of_optional (optional_of (es, n)) ≡ (es, n))
+list-back : (issuer : List ℕ) (es : List CrlEntry) (n : ℕ) → AreRevoked (es, n)
+    → (optional tag.sequence listed (extensions issuer)).good (list_of es, n)
+    × (of_optional (optional_of (es, n)) ≡ (es, n))
 unfolding entry listed extensions
 list-back issuer [] n good = ((tt, good.number), refl)
 list-back issuer (e ∷ es) n good = (((good.entries, good.rising), good.number), refl)
 
-list-there : (issuer : List ℕ) (o : Option (List CrlEntry)) (n : ℕ) → (optional tag.sequence listed (extensions issuer)).good (o, n) → AreRevoked (entries_of o, n) × (optional_of (of_optional (o, n)) ≡ (o, n))
+list-there : (issuer : List ℕ) (o : Option (List CrlEntry)) (n : ℕ)
+    → (optional tag.sequence listed (extensions issuer)).good (o, n)
+    → AreRevoked (entries_of o, n) × (optional_of (of_optional (o, n)) ≡ (o, n))
 unfolding entry listed extensions
 list-there issuer None n good = (record { entries = tt; rising = refl; number = good.1 }, refl)
 list-there issuer (Some []) n good = absurd (never good.0.1)
-list-there issuer (Some (e ∷ es)) n good = (record { entries = good.0.0; rising = good.0.1; number = good.1 }, refl)
+list-there issuer (Some (e ∷ es)) n good =
+    (record { entries = good.0.0; rising = good.0.1; number = good.1 }, refl)
 
 pub revoked-law : (issuer : List ℕ) → IsWhole (revoked issuer)
 unfolding revoked
 revoked-law issuer =
     mapped-law (optional tag.sequence listed (extensions issuer)) of_optional optional_of AreRevoked
-    (optional-law tag.sequence listed (extensions issuer) listed-law (extensions-law issuer) listed-begun (extensions-begun issuer))
-    (record { back = λ y good. list-back issuer y.0 y.1 good; there = λ x good. list-there issuer x.0 x.1 good })
+    (optional-law tag.sequence listed (extensions issuer) listed-law (extensions-law issuer)
+    listed-begun (extensions-begun issuer))
+    (record {
+      back = λ y good. list-back issuer y.0 y.1 good;
+      there = λ x good. list-there issuer x.0 x.1 good;
+    })
 
 pub body-law : (issuer : List ℕ) → IsWhole (body issuer)
 unfolding body
-body-law issuer = both-law time (both time (revoked issuer)) time-law (both-law time (revoked issuer) time-law (revoked-law issuer))
+body-law issuer = both-law time (both time (revoked issuer)) time-law
+    (both-law time (revoked issuer) time-law (revoked-law issuer))
 
 tbs-parts : IsBijection (after name body).good of_parts parts_of IsCrl
 unfolding name body revoked
 tbs-parts = record {
-  back = λ c good. ((good.issuer, (good.this_update, (good.next_update, record { entries = good.entries; rising = good.rising; number = good.number }))), refl);
+  back = λ c good. (
+    (
+      good.issuer,
+      (
+        good.this_update,
+        (
+          good.next_update,
+          record { entries = good.entries; rising = good.rising; number = good.number },
+        ),
+      ),
+    ),
+    refl,
+  );
   there = λ x good. (
     record {
       issuer = good.0;
@@ -105,8 +126,10 @@ tbs-parts = record {
 pub tbs_content-law : IsWhole tbs_content
 unfolding tbs_content
 tbs_content-law =
-    mapped-law (preceded version (preceded signature_algorithm (after name body))) of_parts parts_of IsCrl
-    (preceded-law version (preceded signature_algorithm (after name body)) (constant-law tag.integer (1 ∷ [])) tt
+    mapped-law (preceded version (preceded signature_algorithm (after name body))) of_parts
+    parts_of IsCrl
+    (preceded-law version (preceded signature_algorithm (after name body))
+    (constant-law tag.integer (1 ∷ [])) tt
     (preceded-law signature_algorithm (after name body) signature_algorithm-law tt
     (after-law name body name-law (λ issuer good. body-law issuer))))
     tbs-parts
@@ -121,9 +144,13 @@ signed-parts : IsBijection (signed tbs_content).good of_signed signed_of IsSigne
 unfolding tbs_content signed_bytes
 signed-parts = record {
   back = λ y good. ((good.crl, refl, good.signature), ap (with_digest y) (sym good.digest));
-  there = λ x good. (record { crl = good.0; digest = ap sha256 good.1; signature = good.2 }, ap (with_bytes x) (sym good.1));
+  there = λ x good. (
+    record { crl = good.0; digest = ap sha256 good.1; signature = good.2 },
+    ap (with_bytes x) (sym good.1),
+  );
 }
 
 pub signed_crl-law : IsWhole signed_crl
 unfolding signed_crl
-signed_crl-law = mapped-law (signed tbs_content) of_signed signed_of IsSignedCrl (signed-law tbs_content tbs_content-law) signed-parts
+signed_crl-law = mapped-law (signed tbs_content) of_signed signed_of IsSignedCrl
+    (signed-law tbs_content tbs_content-law) signed-parts

@@ -8,19 +8,7 @@ ghost use Rattle.crl_obj.specs.Values.{IsEntry, rise_above, are_rising, IsCrl, c
 ghost use Rattle.crl_obj.specs.Formats.{is_listed};
 
 use crate::values::{Crl, CrlEntry};
-
-/// 2000-01-01T00:00:00Z.
-const FIRST_MOMENT: u64 = 946_684_800;
-
-/// 9999-12-31T23:59:59Z.
-const LAST_MOMENT: u64 = 253_402_300_799;
-
-/// Whether a time has a spelling.
-fn is_moment(seconds: u64) -> bool
-    ensures { IsTrue result ↔ IsMoment seconds }
-{
-    seconds >= FIRST_MOMENT && seconds <= LAST_MOMENT
-}
+use moments::is_moment;
 
 /// Whether each serial is above the one before it, the first above that number.
 fn rise_above(serial: u64, entries: &[CrlEntry]) -> bool

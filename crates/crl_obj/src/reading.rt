@@ -9,18 +9,16 @@ ghost use Rattle.der_forms.specs.Forms.{many as many_form};
 ghost use Rattle.der_forms.specs.ListLaws.{front-moves};
 ghost use Rattle.crl_obj.specs.declared.values.CrlEntry.{CrlEntry};
 ghost use Rattle.crl_obj.specs.Values.{SignedCrl, crl_value, read_value};
-ghost use Rattle.crl_obj.specs.Formats.{entry, listed, issuer_key, crl_number, extensions, revoked, body, tbs_content, signed_crl};
+ghost use Rattle.crl_obj.specs.Formats.{entry, listed, crl_number, extensions, revoked, body, tbs_content, signed_crl};
 ghost use Rattle.crl_obj.specs.Laws.{entry-law, signed_crl-law};
 
 use crate::entries::is_listed;
 use crate::values::{Crl, CrlEntry, ReadCrl};
-use der_forms::tags::{CONTEXT_0, INTEGER, PRIMITIVE_0, SEQUENCE};
-use der_forms::{
-    FrontReader, Part, ShapeFault, WholeReader, constant, exactly, many, number, object,
-};
+use der_forms::tags::{CONTEXT_0, INTEGER, SEQUENCE};
+use der_forms::{FrontReader, Part, ShapeFault, WholeReader, constant, many, number, object};
 use key_ids::KeyId;
-use object_parts::identifiers::{AUTHORITY_KEY_IDENTIFIER, CRL_NUMBER};
-use object_parts::{extension, name, signature_algorithm, signed, time};
+use object_parts::identifiers::CRL_NUMBER;
+use object_parts::{extension, issuer_key, name, signature_algorithm, signed, time};
 use sha2::{Digest as Hasher, Sha256};
 use signer_api::{Digest, Signature};
 use std::alloc::Global;
@@ -70,7 +68,8 @@ fn entries(alloc: Global, part: Part<'_>) -> Result<Vec<CrlEntry>, ShapeFault>
 /// The list of entries.
 #[tactic(auto, unfolding(crate::specs::Formats::listed))]
 fn listed<'a>(alloc: Global, part: Part<'a>) -> Result<(Vec<CrlEntry>, Part<'a>), ShapeFault>
-    ensures { GivesUnlessMemory (λ x. (x.0.items, place x.1)) result (listed.read (place part.entry)) }
+    ensures { GivesUnlessMemory (λ x. (x.0.items, place x.1))
+        result (listed.read (place part.entry)) }
 {
     let (content, rest) = part.open(SEQUENCE)?;
     let entries = entries(alloc, content)?;
@@ -79,15 +78,6 @@ fn listed<'a>(alloc: Global, part: Part<'a>) -> Result<(Vec<CrlEntry>, Part<'a>)
     } else {
         Err(content.fault())
     }
-}
-
-/// The identifier of the issuer's key; what stands behind it.
-fn issuer_key<'a>(part: Part<'a>, issuer: &[u8; 20]) -> Result<Part<'a>, ShapeFault>
-    ensures { Gives (λ q. (tt, place q)) result ((issuer_key issuer.now).read (place part.entry)) }
-{
-    let (value, rest) = extension(part, &AUTHORITY_KEY_IDENTIFIER)?;
-    exactly(value.sole(SEQUENCE)?.sole(PRIMITIVE_0)?, issuer)?;
-    Ok(rest)
 }
 
 /// The number of the CRL.
@@ -118,7 +108,8 @@ fn revoked(
     part: Part<'_>,
     issuer: &[u8; 20],
 ) -> Result<(Vec<CrlEntry>, u64), ShapeFault>
-    ensures { GivesUnlessMemory (λ x. (x.0.items, x.1)) result ((revoked issuer.now).read (place part.entry)) }
+    ensures { GivesUnlessMemory (λ x. (x.0.items, x.1))
+        result ((revoked issuer.now).read (place part.entry)) }
 {
     if part.begins(SEQUENCE) {
         let (entries, rest) = listed(alloc, part)?;

@@ -8,14 +8,13 @@ ghost use Rattle.der_forms.specs.Forms.{AreAll, many, spelled_some};
 ghost use Rattle.der_forms.specs.Object.{Spells};
 ghost use Rattle.object_parts.specs.FrameFormats.{signature as signature_form};
 ghost use Rattle.crl_obj.specs.Values.{CrlValue, IsEntry, IsCrl, crl_value};
-ghost use Rattle.crl_obj.specs.Formats.{entry, listed, list_of, issuer_key, crl_number, extensions, body, parts_of, tbs_content, signed_bytes, signed_crl};
+ghost use Rattle.crl_obj.specs.Formats.{entry, listed, list_of, crl_number, extensions, body, parts_of, tbs_content, signed_bytes, signed_crl};
 
 use crate::values::{Crl, CrlEntry};
 use der_forms::tags::{CONTEXT_0, INTEGER, OCTET_STRING, SEQUENCE};
-use object_parts::identifiers::{AUTHORITY_KEY_IDENTIFIER, CRL_NUMBER};
+use object_parts::identifiers::CRL_NUMBER;
 use object_parts::{
-    push_identifier, push_issuer_key_identifier, push_name, push_signature_algorithm, push_time,
-    write_signed,
+    push_identifier, push_issuer_key, push_name, push_signature_algorithm, push_time, write_signed,
 };
 use signer_api::Signature;
 use std::alloc::{AllocError, Global};
@@ -59,25 +58,13 @@ fn push_list(alloc: Global, out: &mut Vec<u8>, entries: &[CrlEntry]) -> Result<(
 /// Appends the list of entries, or nothing where there are none.
 fn push_listed(alloc: Global, out: &mut Vec<u8>, entries: &[CrlEntry]) -> Result<(), AllocError>
     requires { AreAll IsEntry entries.now }
-    ensures { OnOk result (out.new.items ≡ out.old.items ++ spelled_some listed.spelling (list_of entries.now)) }
+    ensures { OnOk result (out.new.items ≡ out.old.items
+        ++ spelled_some listed.spelling (list_of entries.now)) }
 {
     match entries.split_first() {
         Some(_) => push_list(alloc, out, entries),
         None => Ok(()),
     }
-}
-
-/// Appends the identifier of the issuer's key.
-#[tactic(auto, using(std::proofs::Common::append_assoc))]
-fn push_issuer_key(alloc: Global, out: &mut Vec<u8>, issuer: &[u8; 20]) -> Result<(), AllocError>
-    ensures { OnOk result (out.new.items ≡ out.old.items ++ (issuer_key issuer.now).spelling tt) }
-{
-    let from = out.len();
-    push_identifier(alloc, out, &AUTHORITY_KEY_IDENTIFIER)?;
-    let value = out.len();
-    push_issuer_key_identifier(alloc, out, issuer)?;
-    der::enclose(alloc, out, value, OCTET_STRING)?;
-    der::enclose(alloc, out, from, SEQUENCE)
 }
 
 /// Appends the number of the CRL.
@@ -101,7 +88,8 @@ fn push_extensions(
     issuer: &[u8; 20],
     number: u64,
 ) -> Result<(), AllocError>
-    ensures { OnOk result (out.new.items ≡ out.old.items ++ (extensions issuer.now).spelling number) }
+    ensures { OnOk result (out.new.items ≡ out.old.items
+        ++ (extensions issuer.now).spelling number) }
 {
     let from = out.len();
     push_issuer_key(alloc, out, issuer)?;
@@ -127,7 +115,8 @@ fn push_body(alloc: Global, out: &mut Vec<u8>, crl: &Crl) -> Result<(), AllocErr
 #[tactic(auto, using(std::proofs::Common::append_assoc), unfolding(crate::specs::Formats::tbs_content))]
 fn push_content(alloc: Global, out: &mut Vec<u8>, crl: &Crl) -> Result<(), AllocError>
     requires { IsCrl (crl_value crl.now) }
-    ensures { OnOk result (out.new.items ≡ out.old.items ++ tbs_content.spelling (crl_value crl.now)) }
+    ensures { OnOk result (out.new.items ≡ out.old.items
+        ++ tbs_content.spelling (crl_value crl.now)) }
 {
     der::element(alloc, out, INTEGER, &[1])?;
     push_signature_algorithm(alloc, out)?;

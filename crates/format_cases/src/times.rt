@@ -33,7 +33,7 @@ pub fn moment_of(digits: &str) -> Result<u64>
     ensures { IfOk result IsMoment }
 {
     let seconds = number_of(digits)?;
-    if seconds < 946_684_800 || seconds > 253_402_300_799 {
+    if !moments::is_moment(seconds) {
         bail!("no moment: {seconds}");
     }
     Ok(seconds)

@@ -17,7 +17,8 @@ second_of_day c = c.hour * 3600 + c.minute * 60 + c.second
 
 -- The civil time is that many seconds after 1970-01-01T00:00:00Z.
 unfoldable pub IsAt : Civil → ℕ → Type 0
-IsAt c seconds = pos seconds ≡ days_from_civil (pos c.year) c.month c.day *ℤ pos 86_400 +ℤ pos (second_of_day c)
+IsAt c seconds = pos seconds ≡ days_from_civil (pos c.year) c.month c.day *ℤ pos 86_400
+    +ℤ pos (second_of_day c)
 
 -- The moments that have a spelling here: from 2000-01-01T00:00:00Z to 9999-12-31T23:59:59Z.
 pub record IsMoment (seconds : ℕ) : Type 0 where

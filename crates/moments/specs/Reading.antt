@@ -16,7 +16,8 @@ is_digit b = nat_le 48 b && nat_le b 57
 unfoldable pub pair_at : List ℕ → Option (ℕ × List ℕ)
 pair_at [] = None
 pair_at (a ∷ []) = None
-pair_at (a ∷ b ∷ rest) = if is_digit a && is_digit b then Some ((a - 48) * 10 + (b - 48), rest) else None
+pair_at (a ∷ b ∷ rest) = if is_digit a && is_digit b then Some ((a - 48) * 10 + (b - 48), rest)
+    else None
 
 -- The bytes are a Z.
 abbrev pub is_z : List ℕ → Bool
@@ -32,7 +33,16 @@ after_year_at year bytes = do
   hour ← pair_at day.1
   minute ← pair_at hour.1
   second ← pair_at minute.1
-  if is_z second.1 then Some (record { year = year; month = month.0; day = day.0; hour = hour.0; minute = minute.0; second = second.0 }) else None
+  if is_z second.1
+      then Some (record {
+        year = year;
+        month = month.0;
+        day = day.0;
+        hour = hour.0;
+        minute = minute.0;
+        second = second.0;
+      })
+      else None
 
 -- The year digits of a UTCTime from 50 on are of the twentieth century.
 abbrev pub utc_year : ℕ → ℕ
@@ -51,12 +61,14 @@ civil_at false bytes = do
 -- The calendar has the date, and the clock the time of day.
 abbrev pub is_civil : Civil → Bool
 is_civil c =
-    nat_le 1 c.month && nat_le c.month 12 && nat_le 1 c.day && nat_le c.day (days_in_month (pos c.year) c.month)
+    nat_le 1 c.month && nat_le c.month 12 && nat_le 1 c.day
+    && nat_le c.day (days_in_month (pos c.year) c.month)
     && nat_lt c.hour 24 && nat_lt c.minute 60 && nat_lt c.second 60
 
 -- The seconds since 1970-01-01T00:00:00Z.
 unfoldable pub seconds_at : Civil → ℕ
-seconds_at c = (day_count (pos c.year) c.month c.day - day_count (pos 1970) 1 1) * 86_400 + second_of_day c
+seconds_at c = (day_count (pos c.year) c.month c.day - day_count (pos 1970) 1 1) * 86_400
+    + second_of_day c
 
 -- The moment that a text spells.
 unfoldable pub moment_in : Bool → List ℕ → Option ℕ

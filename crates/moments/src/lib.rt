@@ -15,4 +15,4 @@ pub use fault::TimeFault;
 pub use laws::{civil_time, one_time, spelled_is_read, text_length};
 pub use reading::read;
 pub use text::TimeText;
-pub use writing::{cert_time, general};
+pub use writing::{cert_time, general, is_moment};

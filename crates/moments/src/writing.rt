@@ -14,6 +14,19 @@ const FROM_2050: u64 = 2_524_608_000;
 
 const DAY: u64 = 86_400;
 
+/// 2000-01-01T00:00:00Z.
+const FIRST_MOMENT: u64 = 946_684_800;
+
+/// 9999-12-31T23:59:59Z.
+const LAST_MOMENT: u64 = 253_402_300_799;
+
+/// Whether a time, in seconds since 1970, has a spelling here: it lies in the years 2000 to 9999.
+pub fn is_moment(seconds: u64) -> bool
+    ensures { IsTrue result ↔ IsMoment seconds }
+{
+    seconds >= FIRST_MOMENT && seconds <= LAST_MOMENT
+}
+
 /// What the calendar and the clock show at a moment.
 fn civil_of(seconds: u64) -> Civil
     requires { IsMoment seconds }

@@ -24,7 +24,8 @@ if_lower text None = None
 
 -- 20 bytes as 40 hex digits in lower case.
 abbrev pub key_digits : Whole (List ℕ)
-key_digits = leaf (λ bytes. (length bytes ≡ 20) × AreBytes bytes) key_text (λ text. if_lower text (key_in text))
+key_digits = leaf (λ bytes. (length bytes ≡ 20) × AreBytes bytes) key_text
+    (λ text. if_lower text (key_in text))
 
 -- One common name.
 unfoldable pub name : Front (List ℕ)

@@ -29,7 +29,8 @@ time_kind n = if is_general n then inr n else inl n
 
 abbrev pub time : Front ℕ
 time = mapped_front
-    (either tag.utc_time (within tag.utc_time utc_content) (within tag.generalized_time (tested general_content is_general)))
+    (either tag.utc_time (within tag.utc_time utc_content)
+    (within tag.generalized_time (tested general_content is_general)))
     time_of time_kind IsMoment
 
 -- From a time to another.

@@ -15,10 +15,11 @@ use Rattle.der_forms.specs.SequenceLaws.{both-law, only-law}
 use Rattle.object_parts.specs.TimeFormats.{utc_content, general_content, general_time, time_of, time_kind, time, period}
 
 pub utc_content-law : IsWhole utc_content
-utc_content-law = leaf-law (λ n. IsMoment n × (n < 2_524_608_000)) (time_text false) (moment_in false) (record {
-  again = λ n good input. moment_in-again false n good.0 (λ e. good.1);
-  taken = λ n bytes input e. let t = moment_in-taken false bytes n e in ((t.0, t.2 refl), t.1);
-})
+utc_content-law = leaf-law (λ n. IsMoment n × (n < 2_524_608_000)) (time_text false)
+    (moment_in false) (record {
+      again = λ n good input. moment_in-again false n good.0 (λ e. good.1);
+      taken = λ n bytes input e. let t = moment_in-taken false bytes n e in ((t.0, t.2 refl), t.1);
+    })
 
 pub general_content-law : IsWhole general_content
 general_content-law = leaf-law IsMoment (time_text true) (moment_in true) (record {
@@ -34,24 +35,35 @@ general_time-law = within-law tag.generalized_time general_content general_conte
 
 pub time-law : IsFront time
 time-law =
-    mapped_front-law (either tag.utc_time (within tag.utc_time utc_content) (within tag.generalized_time (tested general_content is_general))) time_of time_kind IsMoment
-    (either-law tag.utc_time (within tag.utc_time utc_content) (within tag.generalized_time (tested general_content is_general))
+    mapped_front-law
+    (either tag.utc_time (within tag.utc_time utc_content)
+    (within tag.generalized_time (tested general_content is_general))) time_of time_kind
+    IsMoment
+    (either-law tag.utc_time (within tag.utc_time utc_content)
+    (within tag.generalized_time (tested general_content is_general))
     (within-law tag.utc_time utc_content utc_content-law)
-    (within-law tag.generalized_time (tested general_content is_general) (tested-law general_content is_general general_content-law))
+    (within-law tag.generalized_time (tested general_content is_general)
+    (tested-law general_content is_general general_content-law))
     (within-begun tag.utc_time utc_content)
     (within-not-begun tag.utc_time tag.generalized_time (tested general_content is_general) refl))
     (record { back = λ n good. back n good; there = there })
   where
-    back : (n : ℕ) → IsMoment n → EitherOf (λ n. IsMoment n × (n < 2_524_608_000)) (λ n. IsMoment n × (is_general n ≡ true)) (time_kind n) × (time_of (time_kind n) ≡ n)
+    back : (n : ℕ) → IsMoment n
+        → EitherOf (λ n. IsMoment n × (n < 2_524_608_000))
+        (λ n. IsMoment n × (is_general n ≡ true)) (time_kind n) × (time_of (time_kind n) ≡ n)
     back n good = elim (cases_lt n 2_524_608_000) [
       | inl early ↦ rw (lt-leb 2_524_608_000 n early) ((good, early), refl)
       | inr late ↦ let test = le-leb 2_524_608_000 n late in rw test ((good, test), refl)
     ]
 
-    there : (x : ℕ ⊎ ℕ) → EitherOf (λ n. IsMoment n × (n < 2_524_608_000)) (λ n. IsMoment n × (is_general n ≡ true)) x → IsMoment (time_of x) × (time_kind (time_of x) ≡ x)
+    there : (x : ℕ ⊎ ℕ)
+        → EitherOf (λ n. IsMoment n × (n < 2_524_608_000))
+        (λ n. IsMoment n × (is_general n ≡ true)) x
+        → IsMoment (time_of x) × (time_kind (time_of x) ≡ x)
     there (inl n) good = (good.0, rw (lt-leb 2_524_608_000 n good.1) refl)
     there (inr n) good = (good.0, rw good.1 refl)
 
 pub period-law : IsFront period
 unfolding period
-period-law = within-law tag.sequence (both time (only time)) (both-law time (only time) time-law (only-law time time-law))
+period-law = within-law tag.sequence (both time (only time))
+    (both-law time (only time) time-law (only-law time time-law))

@@ -1,15 +1,18 @@
 //! Readers of what the objects have in common.
 
 ghost use Rattle.std.specs.Prelude.{[], ◌∷◌};
+ghost use Rattle.der.specs.Tags as tag;
 ghost use Rattle.der_forms.specs.Place.{place};
 ghost use Rattle.der_forms.specs.Outcome.{Gives};
-ghost use Rattle.object_parts.specs.FrameFormats.{identifier, signature_algorithm, key_algorithm, digest_algorithm, extension_at, critical_extension_at, signature, signed_at, key_identifier, issuer_key_identifier, key_info};
+ghost use Rattle.object_parts.specs.FrameFormats.{identifier, signature_algorithm, key_algorithm, digest_algorithm, named_at, critical_extension_at, signature, signed_at, key_identifier, issuer_key_identifier, issuer_key, key_info};
 
-use crate::identifiers::{DIGEST_ALGORITHM, KEY_ALGORITHM, SIGNATURE_ALGORITHM};
-use der_forms::tags::{
-    BIT_STRING, BOOLEAN, OBJECT_IDENTIFIER, OCTET_STRING, PRIMITIVE_0, SEQUENCE,
+use crate::identifiers::{
+    AUTHORITY_KEY_IDENTIFIER, DIGEST_ALGORITHM, KEY_ALGORITHM, SIGNATURE_ALGORITHM,
 };
-use der_forms::{Part, ShapeFault, constant, fixed, octet_bits};
+use der_forms::tags::{
+    BIT_STRING, BOOLEAN, OBJECT_IDENTIFIER, OCTET_STRING, PRIMITIVE_0, SEQUENCE, SET,
+};
+use der_forms::{Part, ShapeFault, constant, exactly, fixed, octet_bits};
 
 /// An OBJECT IDENTIFIER; what stands behind it.
 pub fn identifier<'a>(part: Part<'a>, oid: &[u8]) -> Result<Part<'a>, ShapeFault>
@@ -39,15 +42,32 @@ pub fn digest_algorithm(part: Part<'_>) -> Result<Part<'_>, ShapeFault>
     constant(part, SEQUENCE, &DIGEST_ALGORITHM)
 }
 
-/// An extension that isn't critical: its value, and what stands behind it.
-#[tactic(auto, unfolding(crate::specs::FrameFormats::extension_at))]
-pub fn extension<'a>(part: Part<'a>, oid: &[u8]) -> Result<(Part<'a>, Part<'a>), ShapeFault>
-    ensures { Gives (λ x. (place x.0, place x.1)) result (extension_at oid.now (place part.entry)) }
+/// A SEQUENCE of an identifier and an element of that tag: the content of the element, and what stands
+/// behind the SEQUENCE.
+#[tactic(auto, unfolding(crate::specs::FrameFormats::named_at))]
+fn named<'a>(part: Part<'a>, outer: u8, oid: &[u8]) -> Result<(Part<'a>, Part<'a>), ShapeFault>
+    ensures { Gives (λ x. (place x.0, place x.1)) result (named_at outer oid.now (place part.entry)) }
 {
     let (content, rest) = part.open(SEQUENCE)?;
     let content = identifier(content, oid)?;
-    let value = content.sole(OCTET_STRING)?;
+    let value = content.sole(outer)?;
     Ok((value, rest))
+}
+
+/// An extension that isn't critical: its value, and what stands behind it.
+pub fn extension<'a>(part: Part<'a>, oid: &[u8]) -> Result<(Part<'a>, Part<'a>), ShapeFault>
+    ensures { Gives (λ x. (place x.0, place x.1))
+        result (named_at tag.octet_string oid.now (place part.entry)) }
+{
+    named(part, OCTET_STRING, oid)
+}
+
+/// An attribute of a signed object: its value, and what stands behind it.
+pub fn attribute<'a>(part: Part<'a>, oid: &[u8]) -> Result<(Part<'a>, Part<'a>), ShapeFault>
+    ensures { Gives (λ x. (place x.0, place x.1))
+        result (named_at tag.set_of oid.now (place part.entry)) }
+{
+    named(part, SET, oid)
 }
 
 /// A critical extension: its value, and what stands behind it.
@@ -56,7 +76,8 @@ pub fn critical_extension<'a>(
     part: Part<'a>,
     oid: &[u8],
 ) -> Result<(Part<'a>, Part<'a>), ShapeFault>
-    ensures { Gives (λ x. (place x.0, place x.1)) result (critical_extension_at oid.now (place part.entry)) }
+    ensures { Gives (λ x. (place x.0, place x.1))
+        result (critical_extension_at oid.now (place part.entry)) }
 {
     let (content, rest) = part.open(SEQUENCE)?;
     let content = identifier(content, oid)?;
@@ -86,7 +107,8 @@ fn signature(part: Part<'_>) -> Result<[u8; 256], ShapeFault>
 /// An object that is signed: one element, its algorithm and its signature.
 #[tactic(auto, unfolding(crate::specs::FrameFormats::signed_at))]
 pub fn signed(part: Part<'_>) -> Result<SignedParts<'_>, ShapeFault>
-    ensures { Gives (λ s. (place s.content, s.whole.now, s.signature)) result (signed_at (place part.entry)) }
+    ensures { Gives (λ s. (place s.content, s.whole.now, s.signature))
+        result (signed_at (place part.entry)) }
 {
     let inner = part.sole(SEQUENCE)?;
     let (content, rest) = inner.open(SEQUENCE)?;
@@ -110,6 +132,15 @@ pub fn issuer_key_identifier(part: Part<'_>) -> Result<[u8; 20], ShapeFault>
     ensures { Gives (λ b. b) result (issuer_key_identifier.read (place part.entry)) }
 {
     fixed(part.sole(SEQUENCE)?.sole(PRIMITIVE_0)?)
+}
+
+/// The extension with the identifier of the issuer's key, which is that one; what stands behind it.
+pub fn issuer_key<'a>(part: Part<'a>, key: &[u8; 20]) -> Result<Part<'a>, ShapeFault>
+    ensures { Gives (λ q. (tt, place q)) result ((issuer_key key.now).read (place part.entry)) }
+{
+    let (value, rest) = extension(part, &AUTHORITY_KEY_IDENTIFIER)?;
+    exactly(value.sole(SEQUENCE)?.sole(PRIMITIVE_0)?, key)?;
+    Ok(rest)
 }
 
 /// A key with its algorithm.

@@ -5,11 +5,13 @@ ghost use Rattle.der.specs.Spelling.{spelled};
 ghost use Rattle.der.specs.Tags as tag;
 ghost use Rattle.der_forms.specs.Forms.{content};
 ghost use Rattle.moments.specs.Civil.{IsMoment};
-ghost use Rattle.object_parts.specs.TimeFormats.{time, period};
-ghost use Rattle.object_parts.specs.FrameFormats.{identifier, signature_algorithm, key_algorithm, digest_algorithm, extension, critical_extension, signature as signature_form, key_identifier, issuer_key_identifier, key_info};
+ghost use Rattle.object_parts.specs.TimeFormats.{time, general_time, period};
+ghost use Rattle.object_parts.specs.FrameFormats.{identifier, signature_algorithm, key_algorithm, digest_algorithm, extension, critical_extension, signature as signature_form, key_identifier, issuer_key_identifier, issuer_key, key_info};
 ghost use Rattle.object_parts.specs.NameFormats.{name};
 
-use crate::identifiers::{COMMON_NAME, DIGEST_ALGORITHM, KEY_ALGORITHM, SIGNATURE_ALGORITHM};
+use crate::identifiers::{
+    AUTHORITY_KEY_IDENTIFIER, COMMON_NAME, DIGEST_ALGORITHM, KEY_ALGORITHM, SIGNATURE_ALGORITHM,
+};
 use crate::names::key_text;
 use der_forms::tags::{
     BIT_STRING, BOOLEAN, GENERALIZED_TIME, OBJECT_IDENTIFIER, OCTET_STRING, PRIMITIVE_0,
@@ -29,6 +31,15 @@ pub fn push_time(alloc: Global, out: &mut Vec<u8>, seconds: u64) -> Result<(), A
         UTC_TIME
     };
     der::element(alloc, out, tag, text.as_bytes())
+}
+
+/// Appends a GeneralizedTime.
+pub fn push_general_time(alloc: Global, out: &mut Vec<u8>, seconds: u64) -> Result<(), AllocError>
+    requires { IsMoment seconds }
+    ensures { OnOk result (out.new.items ≡ out.old.items ++ general_time.spelling seconds) }
+{
+    let text = moments::general(seconds);
+    der::element(alloc, out, GENERALIZED_TIME, text.as_bytes())
 }
 
 /// Appends the name of an identifier.
@@ -88,7 +99,8 @@ pub fn push_digest_algorithm(alloc: Global, out: &mut Vec<u8>) -> Result<(), All
 /// Appends bytes as a BIT STRING without unused bits.
 #[tactic(auto, using(std::proofs::Common::append_assoc))]
 pub fn push_octet_bits(alloc: Global, out: &mut Vec<u8>, bytes: &[u8]) -> Result<(), AllocError>
-    ensures { OnOk result (out.new.items ≡ out.old.items ++ spelled tag.bit_string (0 ∷ bytes.now)) }
+    ensures { OnOk result (out.new.items ≡ out.old.items
+        ++ spelled tag.bit_string (0 ∷ bytes.now)) }
 {
     let from = out.len();
     out.push(0)?;
@@ -114,10 +126,24 @@ pub fn push_issuer_key_identifier(
     out: &mut Vec<u8>,
     key: &[u8; 20],
 ) -> Result<(), AllocError>
-    ensures { OnOk result (out.new.items ≡ out.old.items ++ issuer_key_identifier.spelling key.now) }
+    ensures { OnOk result (out.new.items ≡ out.old.items
+        ++ issuer_key_identifier.spelling key.now) }
 {
     let from = out.len();
     der::element(alloc, out, PRIMITIVE_0, key)?;
+    der::enclose(alloc, out, from, SEQUENCE)
+}
+
+/// Appends the extension with the identifier of the issuer's key.
+#[tactic(auto, using(std::proofs::Common::append_assoc))]
+pub fn push_issuer_key(alloc: Global, out: &mut Vec<u8>, key: &[u8; 20]) -> Result<(), AllocError>
+    ensures { OnOk result (out.new.items ≡ out.old.items ++ (issuer_key key.now).spelling tt) }
+{
+    let from = out.len();
+    push_identifier(alloc, out, &AUTHORITY_KEY_IDENTIFIER)?;
+    let value = out.len();
+    push_issuer_key_identifier(alloc, out, key)?;
+    der::enclose(alloc, out, value, OCTET_STRING)?;
     der::enclose(alloc, out, from, SEQUENCE)
 }
 
@@ -140,7 +166,8 @@ pub fn push_extension(
     oid: &[u8],
     value: &[u8],
 ) -> Result<(), AllocError>
-    ensures { OnOk result (out.new.items ≡ out.old.items ++ (extension oid.now content).spelling value.now) }
+    ensures { OnOk result (out.new.items ≡ out.old.items
+        ++ (extension oid.now content).spelling value.now) }
 {
     let from = out.len();
     push_identifier(alloc, out, oid)?;
@@ -156,7 +183,8 @@ pub fn push_critical_extension(
     oid: &[u8],
     value: &[u8],
 ) -> Result<(), AllocError>
-    ensures { OnOk result (out.new.items ≡ out.old.items ++ (critical_extension oid.now content).spelling value.now) }
+    ensures { OnOk result (out.new.items ≡ out.old.items
+        ++ (critical_extension oid.now content).spelling value.now) }
 {
     let from = out.len();
     push_identifier(alloc, out, oid)?;
@@ -172,7 +200,8 @@ pub fn write_signed(
     whole: &[u8],
     signature: &[u8; 256],
 ) -> Result<Vec<u8>, AllocError>
-    ensures { IfOk result (λ out. out.items ≡ spelled tag.sequence (whole.now ++ signature_form.spelling signature.now)) }
+    ensures { IfOk result (λ out. out.items
+        ≡ spelled tag.sequence (whole.now ++ signature_form.spelling signature.now)) }
 {
     let mut out = Vec::new(alloc);
     out.extend_from_slice(whole)?;

@@ -1,6 +1,4 @@
 pub mod Prefixes
-pub mod ByteLaws
-pub mod BitLaws
 pub mod PrefixLaws
 pub mod Order
 pub mod PlacedLaws

@@ -23,7 +23,8 @@ is_stem_byte b = is_ascii_alphanumeric b || (b == 45) || (b == 95)
 -- Such bytes up to a place, a dot (46) there, and letters behind it.
 abbrev pub has_dot_at : ℕ → List ℕ → Bool
 has_dot_at at bytes =
-    list_all is_stem_byte (take at bytes) && (get_or bytes at 0 == 46) && list_all is_ascii_alphabetic (drop (at + 1) bytes)
+    list_all is_stem_byte (take at bytes) && (get_or bytes at 0 == 46)
+    && list_all is_ascii_alphabetic (drop (at + 1) bytes)
 
 -- The name of a file (RFC 9286 section 4.2.2): a stem of one byte or more, a dot and three letters.
 unfoldable pub is_name : List ℕ → Bool
@@ -46,13 +47,14 @@ file name = within tag.sequence (file_content name)
 abbrev pub files : {A : Type 0} → Front A → Whole (List (A × List ℕ))
 files name = preceded (identifier SHA256) (sole tag.sequence (many (file name)))
 
--- The number, the times of this update and the next one, and the files. The version is the default one,
--- and so left out.
+-- The number, the times of this update and the next one, and the files. The version is the
+-- default one, and so left out.
 abbrev pub ManifestOf : Type 0 → Type 0
 ManifestOf A = ℕ × (ℕ × (ℕ × List (A × List ℕ)))
 
 unfoldable pub manifest_body : {A : Type 0} → Front A → Whole (ManifestOf A)
-manifest_body name = sole tag.sequence (both number (both general_time (both general_time (files name))))
+manifest_body name =
+    sole tag.sequence (both number (both general_time (both general_time (files name))))
 
 abbrev pub Manifest : Type 0
 Manifest = ManifestOf (List ℕ)
@@ -91,7 +93,11 @@ pub record IsManifest (value : Manifest) : Type 0 where
   pub rises : is_rising_manifest value ≡ true
 
 abbrev pub manifest : Whole Manifest
-manifest = record { good = IsManifest; spelling = unordered_manifest.spelling; read = (tested unordered_manifest is_rising_manifest).read }
+manifest = record {
+  good = IsManifest;
+  spelling = unordered_manifest.spelling;
+  read = (tested unordered_manifest is_rising_manifest).read;
+}
 
 abbrev pub name_of : ListedFile → List ℕ
 name_of f = string_bytes f.name

@@ -16,8 +16,10 @@ abbrev pub value_or : {A : Type 0} → A → Option ℕ → Result A BodyFault
 value_or x None = Ok x
 value_or x (Some at) = Err (Order at)
 
--- What a reading without regard to order comes to: what is read, and the first place that is out of order.
-abbrev pub ordered : {A B : Type 0} → (A → B) → (A → Option ℕ) → Result A ShapeFault → Result B BodyFault
+-- What a reading without regard to order comes to: what is read, and the first place that is out
+-- of order.
+abbrev pub ordered : {A B : Type 0} → (A → B) → (A → Option ℕ) → Result A ShapeFault
+    → Result B BodyFault
 ordered value place (Ok x) = value_or (value x) (place x)
 ordered value place (Err e) = Err (body_fault e)
 
@@ -39,13 +41,15 @@ IsOrderOrMemory (Err (Order at)) = ⊤
 IsOrderOrMemory (Err Memory) = ⊤
 
 -- The bytes spell a value that isn't ordered.
-pub record IsDisorder {A : Type 0} (f : Whole A) (is_ordered : A → Bool) (bytes : List ℕ) : Type 0 where
-  pub value : A
-  pub spelled : Spells f value bytes
-  pub unordered : is_ordered value ≡ false
+pub record IsDisorder {A : Type 0} (f : Whole A) (is_ordered : A → Bool) (bytes : List ℕ) : Type 0
+  where
+    pub value : A
+    pub spelled : Spells f value bytes
+    pub unordered : is_ordered value ≡ false
 
 -- A fault is told rightly, f being the format without regard to order.
 abbrev pub IsTrueBodyFault : {A : Type 0} → Whole A → (A → Bool) → List ℕ → BodyFault → Type 0
-IsTrueBodyFault f is_ordered bytes (Shape at) = IsTruePlace f bytes at × (IsDisorder f is_ordered bytes → ⊥)
+IsTrueBodyFault f is_ordered bytes (Shape at) = IsTruePlace f bytes at
+    × (IsDisorder f is_ordered bytes → ⊥)
 IsTrueBodyFault f is_ordered bytes (Order at) = IsDisorder f is_ordered bytes
 IsTrueBodyFault f is_ordered bytes Memory = ⊤

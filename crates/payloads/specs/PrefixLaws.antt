@@ -1,70 +1,86 @@
 -- The law of prefixes.
-use Rattle.std.proofs.Common.{◌≡◌, ℕ, ◌-◌, ◌*◌, ◌/◌, ◌%◌, ◌^◌, ◌≤◌, Bool, true, false, cond, leb, Some, None, List, length, take, ap, refl, sym, subst, ◌∙◌, arith}
-use Rattle.std.proofs.lemmas.Bool.{le-leb, leb-true}
-use Rattle.std.proofs.lemmas.Nat.{shl_whole}
-use Rattle.std.specs.Int.{div_ceil, bytes_high_first}
-use Rattle.der.specs.Spelling.{AreBits}
-use Rattle.der.specs.Grammar.{AreBytes}
+use Rattle.std.proofs.Common.{◌≡◌, ℕ, ◌≤◌, Bool, true, false, cond, Some, None, List, ◌++◌, length, Ok, Err, refl, sym, ap, subst, ◌∙◌, arith}
 use Rattle.origins.specs.Prefix.{address_bits, IsPrefix}
-use Rattle.der_forms.specs.Form.{IsFront}
-use Rattle.der_forms.specs.Leaves.{bits}
-use Rattle.der_forms.specs.LeafLaws.{bits-law}
-use Rattle.der_forms.specs.ValueLaws.{through_front-law}
-use Rattle.payloads.specs.Prefixes.{IsAddressSize, octets, spare, leading_bytes, prefix_bits, prefix_in, IsPrefixOf, prefix}
-use Rattle.payloads.specs.ByteLaws.{number, fits-high_first}
-use Rattle.payloads.specs.BitLaws.{leading_found, leading_said, leading_bits, leading_written}
+use Rattle.der_forms.specs.declared.fault.ShapeFault.{ShapeFault}
+use Rattle.der_forms.specs.Place.{Place, IsPlace}
+use Rattle.der_forms.specs.Form.{Begins, IsTold, IsBehind, IsFront}
+use Rattle.der_forms.specs.FormLaws.{told-fewer}
+use Rattle.der_forms.specs.ValueLaws.{IsBijection, mapped_front-law}
+use Rattle.res_forms.specs.Prefixes.{IsAddressSize}
+use Rattle.res_forms.specs.Formats.{leading_good, leading}
+use Rattle.res_forms.specs.FormatLaws.{leading-law, v4-size, v6-size}
+use Rattle.payloads.specs.Prefixes.{prefix_from, leading_of, IsPrefixOf, leading_prefix, prefix}
 
 pub address_size : (v6 : Bool) → IsAddressSize (address_bits v6)
-address_size true = record { some = omega arith; short = omega arith; whole = refl }
-address_size false = record { some = omega arith; short = omega arith; whole = refl }
+address_size true = v6-size
+address_size false = v4-size
 
 -- What a test has let through.
-pub let_through : {A : Type 0} (b : Bool) (x y : A) → cond b (Some x) None ≡ Some y → (b ≡ true) × (x ≡ y)
+pub let_through : {A : Type 0} (b : Bool) (x y : A) → cond b (Some x) None ≡ Some y
+    → (b ≡ true) × (x ≡ y)
 let_through true x y e = (refl, cc)
 let_through false x y e = absurd cc
 
-pub prefix-back : (v6 : Bool) (address len : ℕ) → IsPrefix v6 address len → prefix_in v6 (spare len) (leading_bytes (address_bits v6) len address) ≡ Some (v6, address, len)
-unfolding prefix_in
-prefix-back v6 address len is =
-    let size : ℕ = address_bits v6 in
-    let said = leading_said size (spare len) (leading_bytes size len address) len address (address_size v6) is.short is.fits is.no_host_bits refl refl in
-    let test : leb (8 * length (leading_bytes size len address) - spare len) size ≡ true = le-leb (8 * length (leading_bytes size len address) - spare len) size (omega (arith, said.len_is, is.short)) in
-    rw test (λ i. Some (v6, said.address i, said.len_is i))
+prefix_kinds : (v6 : Bool)
+    → IsBijection (leading_good (address_bits v6)) (prefix_from v6) leading_of (IsPrefixOf v6)
+prefix_kinds v6 = record { back = back; there = there }
+  where
+    good_bits : (v6 : Bool) (address len : ℕ) → IsPrefix v6 address len
+        → leading_good (address_bits v6) (len, address)
+    good_bits v6 address len is = (is.short, is.fits, is.no_host_bits)
 
-pub prefix-there : (v6 : Bool) (unused : ℕ) (bytes : List ℕ) (y : Bool × ℕ × ℕ) → AreBits unused bytes → AreBytes bytes → prefix_in v6 unused bytes ≡ Some y → IsPrefixOf v6 y × (prefix_bits y ≡ (unused, bytes))
-unfolding prefix_in
-prefix-there v6 unused bytes y are fits e =
-    let size : ℕ = address_bits v6 in
-    let p = let_through (leb (8 * length bytes - unused) size) (v6, number bytes * 2 ^ (size - 8 * length bytes), 8 * length bytes - unused) y e in
-    let le : 8 * length bytes - unused ≤ size = leb-true (8 * length bytes - unused) size p.0 in
-    let l = leading_found size unused bytes (address_size v6) are fits le in
-    subst (λ (z : Bool × ℕ × ℕ). IsPrefixOf v6 z × (prefix_bits z ≡ (unused, bytes))) p.1
-    ((refl, record { fits = l.below; short = le; no_host_bits = l.clear }), (λ i. (sym l.spare i, sym l.same i)))
+    back : (y : Bool × ℕ × ℕ) → IsPrefixOf v6 y
+        → leading_good (address_bits v6) (leading_of y) × (prefix_from v6 (leading_of y) ≡ y)
+    back y good = (
+      subst (λ (b : Bool). leading_good (address_bits b) (y.2, y.1)) good.0
+          (good_bits y.0 y.1 y.2 good.1),
+      λ i. (sym good.0 i, y.1, y.2),
+    )
+
+    there : (x : ℕ × ℕ) → leading_good (address_bits v6) x
+        → IsPrefixOf v6 (prefix_from v6 x) × (leading_of (prefix_from v6 x) ≡ x)
+    there x good = ((refl, record { fits = good.1; short = good.0; no_host_bits = good.2 }), refl)
+
+leading_prefix-law : (v6 : Bool) → IsFront (leading_prefix v6)
+leading_prefix-law v6 =
+    mapped_front-law (leading (address_bits v6)) (prefix_from v6) leading_of (IsPrefixOf v6)
+    (leading-law (address_bits v6) (address_size v6)) (prefix_kinds v6)
+
+one_spelling : (v6 : Bool) (x : Bool × ℕ × ℕ) → IsPrefixOf v6 x
+    → (prefix v6).spelling x ≡ (leading_prefix v6).spelling x
+one_spelling v6 x good = ap (λ (b : Bool). (leading (address_bits b)).spelling (leading_of x))
+    good.0
 
 pub prefix-law : (v6 : Bool) → IsFront (prefix v6)
-prefix-law v6 = through_front-law bits (λ x. prefix_in v6 x.0 x.1) prefix_bits (IsPrefixOf v6) bits-law (record {
-  back = λ y good. (fine y good, found y good);
-  there = λ x y good e. prefix-there v6 x.0 x.1 y good.0 good.1 e;
-})
+prefix-law v6 = record { again = again; taken = taken; fault = fault; some = some }
   where
-    fine : (y : Bool × ℕ × ℕ) → IsPrefixOf v6 y → AreBits (spare y.2) (leading_bytes (address_bits y.0) y.2 y.1) × AreBytes (leading_bytes (address_bits y.0) y.2 y.1)
-    fine y good = (
-      leading_bits (address_bits y.0) y.2 y.1 good.1.short good.1.fits good.1.no_host_bits,
-      fits-high_first (octets y.2) (y.1 / 2 ^ (address_bits y.0 - y.2) * 2 ^ spare y.2),
-    )
+    again : (x : Bool × ℕ × ℕ) (p q : Place) → IsPrefixOf v6 x → IsPlace p
+        → IsBehind ((prefix v6).spelling x) p q
+        → (prefix v6).read p ≡ Ok (x, q)
+    again x p q good is b =
+        (leading_prefix-law v6).again x p q good is
+        (subst (λ (l : List ℕ). IsBehind l p q) (one_spelling v6 x good) b)
 
-    found : (y : Bool × ℕ × ℕ) → IsPrefixOf v6 y → prefix_in v6 (spare y.2) (leading_bytes (address_bits y.0) y.2 y.1) ≡ Some y
-    found y good = (λ i. prefix_in (sym good.0 i) (spare y.2) (leading_bytes (address_bits y.0) y.2 y.1)) ∙ prefix-back y.0 y.1 y.2 good.1
+    taken : (x : Bool × ℕ × ℕ) (p q : Place) → IsPlace p → (prefix v6).read p ≡ Ok (x, q)
+        → IsPrefixOf v6 x × IsBehind ((prefix v6).spelling x) p q
+    taken x p q is e =
+        let t = (leading_prefix-law v6).taken x p q is e in
+        (t.0, subst (λ (l : List ℕ). IsBehind l p q) (sym (one_spelling v6 x t.0)) t.1)
 
--- The bytes that are written of a prefix: the first ones of its address in 16 bytes.
-pub written : (v6 : Bool) (address len size from count : ℕ) (bytes : List ℕ) → IsPrefix v6 address len → size ≡ address_bits v6 → from ≡ len → count ≡ div_ceil from 8 → bytes ≡ bytes_high_first 16 (address * 2 ^ (128 - size) % 2 ^ 128)
-    → (8 * count - from ≡ spare len) × (take count bytes ≡ leading_bytes (address_bits v6) len address)
-written v6 address len size from count bytes is s f k b =
-    let all : ℕ = address_bits v6 in
-    let short = (address_size v6).short in
-    let whole : address * 2 ^ (128 - all) % 2 ^ 128 ≡ address * 2 ^ (128 - all) = shl_whole address all (128 - all) 128 is.fits (omega (arith, short)) in
-    let octets-is : count ≡ octets len = omega (arith, k, f) in
-    let top : bytes ≡ bytes_high_first 16 (address * 2 ^ (128 - all)) = b ∙ ap (λ (n : ℕ). bytes_high_first 16 (address * 2 ^ (128 - n) % 2 ^ 128)) s ∙ ap (bytes_high_first 16) whole in (
-      λ i. 8 * octets-is i - f i,
-      (λ i. take (octets-is i) (top i)) ∙ leading_written all len address (address_size v6) is.short is.fits is.no_host_bits,
-    )
+    begun : (bytes : List ℕ) → Begins (prefix v6) bytes → Begins (leading_prefix v6) bytes
+    begun bytes w = record {
+      value = w.value;
+      rest = w.rest;
+      good = w.good;
+      spelled = w.spelled ∙ ap (λ (l : List ℕ). l ++ w.rest) (one_spelling v6 w.value w.good);
+    }
+
+    fault : (e : ShapeFault) (p : Place) → IsPlace p → (prefix v6).read p ≡ Err e
+        → IsTold (Begins (prefix v6)) p e
+    fault e p is h = told-fewer p e (λ bytes input w. begun bytes w)
+        ((leading_prefix-law v6).fault e p is h)
+
+    some : (x : Bool × ℕ × ℕ) → IsPrefixOf v6 x → 1 ≤ length ((prefix v6).spelling x)
+    some x good =
+        subst (λ (l : List ℕ). 1 ≤ length l) (sym (one_spelling v6 x good))
+        ((leading_prefix-law v6).some x good)

@@ -21,7 +21,12 @@ pub record IsEntry (e : Entry) : Type 0 where
   pub maximum : IsMaximum e.v6 e.len e.max
 
 abbrev pub entry_view : RoaEntry → Entry
-entry_view e = record { v6 = e.prefix.v6; address = e.prefix.address; len = e.prefix.length; max = e.max }
+entry_view e = record {
+  v6 = e.prefix.v6;
+  address = e.prefix.address;
+  len = e.prefix.length;
+  max = e.max;
+}
 
 -- The maximum is written where it isn't the prefix's length.
 abbrev pub entry_parts : Entry → (Bool × ℕ × ℕ) × Option ℕ
@@ -32,14 +37,16 @@ entry_with x max = record { v6 = x.0; address = x.1; len = x.2; max = max }
 
 unfoldable pub entry_of : Bool × ℕ × ℕ → Option ℕ → Option Entry
 entry_of x None = Some (entry_with x x.2)
-entry_of x (Some max) = if nat_lt x.2 max && nat_le max (address_bits x.0) then Some (entry_with x max) else None
+entry_of x (Some max) =
+    if nat_lt x.2 max && nat_le max (address_bits x.0) then Some (entry_with x max) else None
 
 abbrev pub IsEntryOf : Bool → Entry → Type 0
 IsEntryOf v6 e = (e.v6 ≡ v6) × IsEntry e
 
 -- RFC 9582 section 4.3.2.
 abbrev pub entry_content : Bool → Whole Entry
-entry_content v6 = through (both (prefix v6) (maybe (only number))) (λ x. entry_of x.0 x.1) entry_parts (IsEntryOf v6)
+entry_content v6 = through (both (prefix v6) (maybe (only number))) (λ x. entry_of x.0 x.1)
+    entry_parts (IsEntryOf v6)
 
 abbrev pub entry : Bool → Front Entry
 entry v6 = within tag.sequence (entry_content v6)
@@ -63,7 +70,8 @@ has_some (x ∷ xs) = true
 -- A family and its entries, of which there is one at least.
 unfoldable pub family : {A : Type 0} → (Bool → Front A) → Front (Bool × List A)
 family entry =
-    within tag.sequence (after family_number (λ v6. sole tag.sequence (tested (many (entry v6)) has_some)))
+    within tag.sequence
+    (after family_number (λ v6. sole tag.sequence (tested (many (entry v6)) has_some)))
 
 -- The lists of one family or of both, IPv4 first, as one.
 abbrev pub joined : {A : Type 0} → Bool × List A → Option (Bool × List A) → Option (List A)
@@ -85,13 +93,17 @@ abbrev pub parted : {A : Type 0} → (A → Bool) → List A → (Bool × List A
 parted is_v6 xs = families_of (take (leading_v4 is_v6 xs) xs) (drop (leading_v4 is_v6 xs) xs)
 
 -- One family or both (RFC 9582 section 4.3), over the values of their lists.
-unfoldable pub blocks : {A : Type 0} → (Bool → Front A) → (A → Bool) → (List A → Type 0) → Whole (List A)
+unfoldable pub blocks : {A : Type 0} → (Bool → Front A) → (A → Bool) → (List A → Type 0)
+    → Whole (List A)
 blocks entry is_v6 good =
-    through (both (family entry) (maybe (only (family entry)))) (λ x. joined x.0 x.1) (parted is_v6) good
+    through (both (family entry) (maybe (only (family entry)))) (λ x. joined x.0 x.1)
+    (parted is_v6) good
 
 -- The version is the default one, and so left out.
-unfoldable pub body : {A : Type 0} → (Bool → Front A) → (A → Bool) → (List A → Type 0) → Whole (ℕ × List A)
-body entry is_v6 good = sole tag.sequence (both short_number (sole tag.sequence (blocks entry is_v6 good)))
+unfoldable pub body : {A : Type 0} → (Bool → Front A) → (A → Bool) → (List A → Type 0)
+    → Whole (ℕ × List A)
+body entry is_v6 good =
+    sole tag.sequence (both short_number (sole tag.sequence (blocks entry is_v6 good)))
 
 -- The reading of an entry that gives the place at which it starts.
 abbrev pub placed_entry : Bool → Front (ℕ × Entry)
@@ -142,4 +154,8 @@ pub record IsRoa (value : ℕ × List Entry) : Type 0 where
   pub rises : is_rising value ≡ true
 
 abbrev pub roa : Whole (ℕ × List Entry)
-roa = record { good = IsRoa; spelling = unordered_roa.spelling; read = (tested unordered_roa is_rising).read }
+roa = record {
+  good = IsRoa;
+  spelling = unordered_roa.spelling;
+  read = (tested unordered_roa is_rising).read;
+}

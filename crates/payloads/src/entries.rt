@@ -95,7 +95,8 @@ impl Ranked for RoaEntry {
 
 /// Appends the maximum, where it isn't the prefix's length.
 fn push_maximum(alloc: Global, out: &mut Vec<u8>, item: &RoaEntry) -> Result<(), AllocError>
-    ensures { OnOk result (out.new.items ≡ out.old.items ++ (maybe (only number_form)).spelling (entry_parts (entry_view item.now)).1) }
+    ensures { OnOk result (out.new.items ≡ out.old.items
+        ++ (maybe (only number_form)).spelling (entry_parts (entry_view item.now)).1) }
 {
     if item.max == item.prefix.length {
         return Ok(());
@@ -106,7 +107,8 @@ fn push_maximum(alloc: Global, out: &mut Vec<u8>, item: &RoaEntry) -> Result<(),
 /// Appends an entry.
 #[tactic(auto, using(std::proofs::Common::append_assoc))]
 pub fn push_entry(alloc: Global, out: &mut Vec<u8>, item: &RoaEntry) -> Result<(), AllocError>
-    ensures { OnOk result (out.new.items ≡ out.old.items ++ (entry item.now.prefix.v6).spelling (entry_view item.now)) }
+    ensures { OnOk result (out.new.items ≡ out.old.items
+        ++ (entry item.now.prefix.v6).spelling (entry_view item.now)) }
 {
     let from = out.len();
     push_prefix(alloc, out, item.prefix)?;

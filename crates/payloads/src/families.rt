@@ -67,7 +67,8 @@ fn family_number(part: Part<'_>) -> Result<(bool, Part<'_>), ShapeFault>
 
 /// The entries of a family, with their places. There is one at least.
 fn entries_of(alloc: Global, v6: bool, part: Part<'_>) -> Result<Vec<(u64, RoaEntry)>, ShapeFault>
-    ensures { GivesUnlessMemory (λ v. map placed_view v.items) result ((placed_entries v6).read (place part.entry)) }
+    ensures { GivesUnlessMemory (λ v. map placed_view v.items)
+        result ((placed_entries v6).read (place part.entry)) }
 {
     let entries = many(alloc, &Placed(Entries { v6 }), part)?;
     if entries.is_empty() {
@@ -87,7 +88,8 @@ struct FamilyEntries {
 /// A family, and what stands behind it.
 #[tactic(auto, unfolding(crate::specs::RoaFormats::family))]
 fn family(alloc: Global, part: Part<'_>) -> Result<(FamilyEntries, Part<'_>), ShapeFault>
-    ensures { GivesUnlessMemory (λ x. ((x.0.v6, map placed_view x.0.entries.items), place x.1)) result ((family placed_entry).read (place part.entry)) }
+    ensures { GivesUnlessMemory (λ x. ((x.0.v6, map placed_view x.0.entries.items), place x.1))
+        result ((family placed_entry).read (place part.entry)) }
 {
     let (content, rest) = part.open(SEQUENCE)?;
     let (v6, content) = family_number(content)?;
@@ -98,7 +100,8 @@ fn family(alloc: Global, part: Part<'_>) -> Result<(FamilyEntries, Part<'_>), Sh
 /// The entries of one family or of both, with their places.
 #[tactic(auto, unfolding(crate::specs::RoaFormats::blocks))]
 pub fn blocks(alloc: Global, part: Part<'_>) -> Result<Vec<(u64, RoaEntry)>, ShapeFault>
-    ensures { GivesUnlessMemory (λ v. map placed_view v.items) result (placed_blocks.read (place part.entry)) }
+    ensures { GivesUnlessMemory (λ v. map placed_view v.items)
+        result (placed_blocks.read (place part.entry)) }
 {
     let (first, rest) = family(alloc, part)?;
     if rest.is_empty() {
@@ -131,7 +134,8 @@ pub fn leading_v4(entries: &[RoaEntry]) -> usize
 
 /// Appends entries.
 fn push_entries(alloc: Global, out: &mut Vec<u8>, entries: &[RoaEntry]) -> Result<(), AllocError>
-    ensures { OnOk result (out.new.items ≡ out.old.items ++ flat_map (entry false).spelling (map entry_view entries.now)) }
+    ensures { OnOk result (out.new.items ≡ out.old.items
+        ++ flat_map (entry false).spelling (map entry_view entries.now)) }
 {
     for entry in entries {
         push_entry(alloc, out, entry)?;
@@ -154,7 +158,8 @@ fn push_family(
     v6: bool,
     entries: &[RoaEntry],
 ) -> Result<(), AllocError>
-    ensures { OnOk result (out.new.items ≡ out.old.items ++ (family entry).spelling (v6, map entry_view entries.now)) }
+    ensures { OnOk result (out.new.items ≡ out.old.items
+        ++ (family entry).spelling (v6, map entry_view entries.now)) }
 {
     let from = out.len();
     der::element(alloc, out, OCTET_STRING, &family_bytes(v6))?;
@@ -172,7 +177,8 @@ pub fn push_families(
     v6: &[RoaEntry],
 ) -> Result<(), AllocError>
     ensures { OnOk result (out.new.items ≡ out.old.items
-        ++ (both (family entry) (maybe (only (family entry)))).spelling (families_of (map entry_view v4.now) (map entry_view v6.now))) }
+        ++ (both (family entry) (maybe (only (family entry)))).spelling
+        (families_of (map entry_view v4.now) (map entry_view v6.now))) }
 {
     if v6.is_empty() {
         return push_family(alloc, out, false, v4);

@@ -32,7 +32,8 @@ impl Ranked for ListedFile {
 
 /// A name and a hash.
 fn file_content(alloc: Global, part: Part<'_>) -> Result<(u64, ListedFile), ShapeFault>
-    ensures { GivesUnlessMemory (λ x. placed_file_view x) result ((file_content placed_name).read (place part.entry)) }
+    ensures { GivesUnlessMemory (λ x. placed_file_view x)
+        result ((file_content placed_name).read (place part.entry)) }
 {
     let (name, rest) = file_name(alloc, part)?;
     let hash = octet_bits(rest.sole(BIT_STRING)?)?;
@@ -67,7 +68,8 @@ impl FrontReader for FileReader {
 
 /// The algorithm of the hashes, and the files with the places of their names.
 pub fn files(alloc: Global, part: Part<'_>) -> Result<Vec<(u64, ListedFile)>, ShapeFault>
-    ensures { GivesUnlessMemory (λ v. map placed_file_view v.items) result ((files placed_name).read (place part.entry)) }
+    ensures { GivesUnlessMemory (λ v. map placed_file_view v.items)
+        result ((files placed_name).read (place part.entry)) }
 {
     let list = identifier(part, &SHA256)?.sole(SEQUENCE)?;
     many(alloc, &FileReader, list)
@@ -83,7 +85,8 @@ pub fn have_names(items: &[ListedFile]) -> bool
 /// Appends a file.
 #[tactic(auto, using(std::proofs::Common::append_assoc))]
 fn push_file(alloc: Global, out: &mut Vec<u8>, item: &ListedFile) -> Result<(), AllocError>
-    ensures { OnOk result (out.new.items ≡ out.old.items ++ (file file_name).spelling (file_view item.now)) }
+    ensures { OnOk result (out.new.items ≡ out.old.items
+        ++ (file file_name).spelling (file_view item.now)) }
 {
     let from = out.len();
     der::element(alloc, out, IA5_STRING, item.name.as_bytes())?;
@@ -93,7 +96,8 @@ fn push_file(alloc: Global, out: &mut Vec<u8>, item: &ListedFile) -> Result<(), 
 
 /// Appends files.
 fn push_each(alloc: Global, out: &mut Vec<u8>, items: &[ListedFile]) -> Result<(), AllocError>
-    ensures { OnOk result (out.new.items ≡ out.old.items ++ flat_map (file file_name).spelling (map file_view items.now)) }
+    ensures { OnOk result (out.new.items ≡ out.old.items
+        ++ flat_map (file file_name).spelling (map file_view items.now)) }
 {
     for item in items {
         push_file(alloc, out, item)?;
@@ -104,7 +108,8 @@ fn push_each(alloc: Global, out: &mut Vec<u8>, items: &[ListedFile]) -> Result<(
 /// Appends the algorithm of the hashes, and the files.
 #[tactic(auto, using(std::proofs::Common::append_assoc))]
 pub fn push_files(alloc: Global, out: &mut Vec<u8>, items: &[ListedFile]) -> Result<(), AllocError>
-    ensures { OnOk result (out.new.items ≡ out.old.items ++ (files file_name).spelling (map file_view items.now)) }
+    ensures { OnOk result (out.new.items ≡ out.old.items
+        ++ (files file_name).spelling (map file_view items.now)) }
 {
     push_identifier(alloc, out, &SHA256)?;
     let from = out.len();

@@ -1,11 +1,9 @@
 //! The body of a manifest (RFC 9286 section 4.2).
 
-ghost use Rattle.std.specs.Prelude.{◌≡◌, ◌↔◌, ◌++◌, ◌<◌, ◌^◌, ℕ, List, false, Ok, IsTrue, IfOk, IfErr, OnOk};
-ghost use Rattle.moments.specs.Civil.{IsMoment};
+ghost use Rattle.std.specs.Prelude.{◌≡◌, ◌↔◌, ◌<◌, ◌^◌, ℕ, List, false, Ok, IsTrue, IfOk, IfErr};
 ghost use Rattle.der_forms.specs.Place.{place};
 ghost use Rattle.der_forms.specs.Outcome.{GivesUnlessMemory};
 ghost use Rattle.der_forms.specs.Object.{Spells, read_object};
-ghost use Rattle.object_parts.specs.TimeFormats.{general_time};
 ghost use Rattle.payloads.specs.Outcome.{ordered, GivesBody, UnlessNoMemory, IsOrderOrMemory, IsTrueBodyFault};
 ghost use Rattle.payloads.specs.ManifestFormats.{Manifest, IsManifest, placed_manifest, unordered_manifest, manifest, is_rising_manifest};
 ghost use Rattle.payloads.specs.ManifestReading.{manifest_view, placed_view, manifest_value, unordered_name, manifest_read};
@@ -14,9 +12,10 @@ use crate::fault::BodyFault;
 use crate::files::{files, have_names, push_files};
 use crate::order::{are_rising, first_unordered, without_places};
 use crate::values::ListedFile;
-use der_forms::tags::{GENERALIZED_TIME, SEQUENCE};
+use der_forms::tags::SEQUENCE;
 use der_forms::{Part, ShapeFault, number};
-use object_parts::general_time;
+use moments::is_moment;
+use object_parts::{general_time, push_general_time};
 use std::alloc::{AllocError, Global};
 
 /// What a manifest says: which files a publication point has.
@@ -42,7 +41,8 @@ struct PlacedBody {
 /// The body with the places of the names.
 #[tactic(auto, unfolding(crate::specs::ManifestFormats::manifest_body))]
 fn placed_body(alloc: Global, part: Part<'_>) -> Result<PlacedBody, ShapeFault>
-    ensures { GivesUnlessMemory (λ x. placed_view x) result (placed_manifest.read (place part.entry)) }
+    ensures { GivesUnlessMemory (λ x. placed_view x)
+        result (placed_manifest.read (place part.entry)) }
 {
     let (number, rest) = number(part.sole(SEQUENCE)?)?;
     let (this_update, rest) = general_time(rest)?;
@@ -58,7 +58,8 @@ fn placed_body(alloc: Global, part: Part<'_>) -> Result<PlacedBody, ShapeFault>
 
 /// The same of all the bytes.
 fn placed(alloc: Global, bytes: &[u8]) -> Result<PlacedBody, ShapeFault>
-    ensures { GivesUnlessMemory (λ x. placed_view x) result (read_object placed_manifest bytes.now) }
+    ensures { GivesUnlessMemory (λ x. placed_view x)
+        result (read_object placed_manifest bytes.now) }
 {
     match Part::whole(bytes) {
         Some(part) => placed_body(alloc, part),
@@ -70,7 +71,8 @@ fn placed(alloc: Global, bytes: &[u8]) -> Result<PlacedBody, ShapeFault>
 
 /// The body, or the place of the first name that isn't above the one before it.
 fn body_of(alloc: Global, placed: PlacedBody) -> Result<ManifestBody, BodyFault>
-    ensures { GivesBody manifest_view result (ordered manifest_value unordered_name (Ok (placed_view placed))) }
+    ensures { GivesBody manifest_view
+        result (ordered manifest_value unordered_name (Ok (placed_view placed))) }
 {
     match first_unordered(&placed.files) {
         Some(at) => Err(BodyFault::Order { at }),
@@ -93,22 +95,6 @@ fn read_body(alloc: Global, bytes: &[u8]) -> Result<ManifestBody, BodyFault>
 {
     let placed = placed(alloc, bytes)?;
     body_of(alloc, placed)
-}
-
-/// Whether the moment has a text: it lies from 2000 to 9999.
-fn is_moment(seconds: u64) -> bool
-    ensures { IsTrue result ↔ IsMoment seconds }
-{
-    (946_684_800..=253_402_300_799).contains(&seconds)
-}
-
-/// Appends a GeneralizedTime.
-fn push_general_time(alloc: Global, out: &mut Vec<u8>, seconds: u64) -> Result<(), AllocError>
-    requires { IsMoment seconds }
-    ensures { OnOk result (out.new.items ≡ out.old.items ++ general_time.spelling seconds) }
-{
-    let text = moments::general(seconds);
-    der::element(alloc, out, GENERALIZED_TIME, text.as_bytes())
 }
 
 impl ManifestBody {

@@ -59,7 +59,8 @@ fn text_of(alloc: Global, name: &[u8]) -> Result<String, AllocError>
 
 /// The name that all bytes of the part are.
 fn name_content(alloc: Global, part: Part<'_>) -> Result<String, ShapeFault>
-    ensures { GivesUnlessMemory (λ text. string_bytes text) result (name_content.read (place part.entry)) }
+    ensures { GivesUnlessMemory (λ text. string_bytes text)
+        result (name_content.read (place part.entry)) }
 {
     if !is_name(part.bytes) {
         return Err(part.fault());
@@ -69,7 +70,8 @@ fn name_content(alloc: Global, part: Part<'_>) -> Result<String, ShapeFault>
 
 /// The name in front, as an IA5String.
 pub fn file_name(alloc: Global, part: Part<'_>) -> Result<(String, Part<'_>), ShapeFault>
-    ensures { GivesUnlessMemory (λ x. (string_bytes x.0, place x.1)) result (file_name.read (place part.entry)) }
+    ensures { GivesUnlessMemory (λ x. (string_bytes x.0, place x.1))
+        result (file_name.read (place part.entry)) }
 {
     let (content, rest) = part.open(IA5_STRING)?;
     let name = name_content(alloc, content)?;

@@ -27,7 +27,8 @@ pub struct RoaBody {
 /// The number of the AS, and the entries with their places.
 #[tactic(auto, unfolding(crate::specs::RoaFormats::body))]
 fn placed_body(alloc: Global, part: Part<'_>) -> Result<(u32, Vec<(u64, RoaEntry)>), ShapeFault>
-    ensures { GivesUnlessMemory (λ x. (x.0, map placed_view x.1.items)) result (placed_roa.read (place part.entry)) }
+    ensures { GivesUnlessMemory (λ x. (x.0, map placed_view x.1.items))
+        result (placed_roa.read (place part.entry)) }
 {
     let (asn, rest) = short_number(part.sole(SEQUENCE)?)?;
     let entries = blocks(alloc, rest.sole(SEQUENCE)?)?;
@@ -36,7 +37,8 @@ fn placed_body(alloc: Global, part: Part<'_>) -> Result<(u32, Vec<(u64, RoaEntry
 
 /// The same of all the bytes.
 fn placed(alloc: Global, bytes: &[u8]) -> Result<(u32, Vec<(u64, RoaEntry)>), ShapeFault>
-    ensures { GivesUnlessMemory (λ x. (x.0, map placed_view x.1.items)) result (read_object placed_roa bytes.now) }
+    ensures { GivesUnlessMemory (λ x. (x.0, map placed_view x.1.items))
+        result (read_object placed_roa bytes.now) }
 {
     match Part::whole(bytes) {
         Some(part) => placed_body(alloc, part),
@@ -48,7 +50,8 @@ fn placed(alloc: Global, bytes: &[u8]) -> Result<(u32, Vec<(u64, RoaEntry)>), Sh
 
 /// The body, or the place of the first entry that isn't above the one before it.
 fn body_of(alloc: Global, asn: u32, placed: Vec<(u64, RoaEntry)>) -> Result<RoaBody, BodyFault>
-    ensures { GivesBody roa_view result (ordered roa_value unordered_entry (Ok (asn, map placed_view placed.items))) }
+    ensures { GivesBody roa_view
+        result (ordered roa_value unordered_entry (Ok (asn, map placed_view placed.items))) }
 {
     match first_unordered(&placed) {
         Some(at) => Err(BodyFault::Order { at }),

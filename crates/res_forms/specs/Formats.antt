@@ -1,5 +1,5 @@
--- The formats of the extensions, part by part. A range is seen as its first and its last number, and
--- a set as the list of its ranges.
+-- The formats of the extensions, part by part. A range is seen as its first and its last number,
+-- and a set as the list of its ranges.
 use Rattle.std.specs.Prelude.{◌≡◌, ℕ, ◌+◌, ◌-◌, ◌*◌, ◌/◌, ◌^◌, ◌<◌, ◌≤◌, ◌%◌, ◌⊎◌, Bool, true, false, ◌&&◌, ◌==◌, nat_lt, nat_le, Option, Some, None, is_none, List, [], ◌∷◌, length, ⊤, if◌then◌else◌}
 use Rattle.std.proofs.Common.{inl, inr}
 use Rattle.std.specs.Int.Digits.{number_from_digits}
@@ -33,7 +33,8 @@ abbrev pub as_ends : Whole (ℕ × ℕ)
 as_ends = tested (both number (only number)) (λ span. nat_lt span.0 span.1)
 
 unfoldable pub as_block : Front (ℕ × ℕ)
-as_block = mapped_front (either tag.integer number (within tag.sequence as_ends)) as_span as_kind as_good
+as_block = mapped_front (either tag.integer number (within tag.sequence as_ends)) as_span as_kind
+    as_good
 
 -- ---- addresses of so many bits (RFC 3779 section 2.2.3)
 
@@ -59,22 +60,26 @@ last_of size y = y.1 + (2 ^ (size - y.0) - 1)
 -- The two prefixes are as short as they can be for the ends, which are no prefix.
 abbrev pub are_shortest : ℕ → ℕ × ℕ → ℕ × ℕ → Bool
 are_shortest size low high =
-    nat_le low.1 (last_of size high) && low.0 == kept 0 size low.1 && high.0 == kept 1 size (last_of size high)
+    nat_le low.1 (last_of size high) && low.0 == kept 0 size low.1
+    && high.0 == kept 1 size (last_of size high)
     && is_none (span_length size (low.1, last_of size high))
 
 unfoldable pub ends_in : ℕ → (ℕ × ℕ) × (ℕ × ℕ) → Option (ℕ × ℕ)
 ends_in size x = if are_shortest size x.0 x.1 then Some (x.0.1, last_of size x.1) else None
 
 abbrev pub ends_out : ℕ → ℕ × ℕ → (ℕ × ℕ) × (ℕ × ℕ)
-ends_out size span =
-    ((kept 0 size span.0, span.0), (kept 1 size span.1, span.1 - (2 ^ (size - kept 1 size span.1) - 1)))
+ends_out size span = (
+  (kept 0 size span.0, span.0),
+  (kept 1 size span.1, span.1 - (2 ^ (size - kept 1 size span.1) - 1)),
+)
 
 abbrev pub ends_good : ℕ → ℕ × ℕ → Type 0
 ends_good size span = (span.0 ≤ span.1) × (span.1 < 2 ^ size) × (span_length size span ≡ None)
 
 abbrev pub address_ends : ℕ → Whole (ℕ × ℕ)
 address_ends size =
-    through (both (leading size) (only (leading size))) (ends_in size) (ends_out size) (ends_good size)
+    through (both (leading size) (only (leading size))) (ends_in size) (ends_out size)
+    (ends_good size)
 
 abbrev pub address_span : ℕ → (ℕ × ℕ) ⊎ (ℕ × ℕ) → ℕ × ℕ
 address_span size (inl prefix) = (prefix.1, last_of size prefix)
@@ -93,7 +98,8 @@ address_good size span = (span.0 ≤ span.1) × (span.1 < 2 ^ size)
 
 unfoldable pub address_block : ℕ → Front (ℕ × ℕ)
 address_block size =
-    mapped_front (either tag.bit_string (leading size) (within tag.sequence (address_ends size))) (address_span size) (address_kind size) (address_good size)
+    mapped_front (either tag.bit_string (leading size) (within tag.sequence (address_ends size)))
+    (address_span size) (address_kind size) (address_good size)
 
 -- ---- sets
 
@@ -106,7 +112,8 @@ block V6 = address_block 128
 abbrev pub are_canonical : ℕ → ℕ → List (ℕ × ℕ) → Bool
 are_canonical end low [] = true
 are_canonical end low (span ∷ spans) =
-    nat_le low span.0 && nat_le span.0 span.1 && nat_lt span.1 end && are_canonical end (span.1 + 2) spans
+    nat_le low span.0 && nat_le span.0 span.1 && nat_lt span.1 end
+    && are_canonical end (span.1 + 2) spans
 
 abbrev pub if_canonical : Family → List (ℕ × ℕ) → Option (List (ℕ × ℕ))
 if_canonical family spans = if are_canonical (family_end family) 0 spans then Some spans else None
@@ -130,7 +137,9 @@ choice_good family (Some spans) = (blocks family).good spans
 
 unfoldable pub choice : Family → Whole (Option (List (ℕ × ℕ)))
 choice family =
-    only (mapped_front (either tag.null (within tag.null ends) (within tag.sequence (blocks family))) choice_value choice_kind (choice_good family))
+    only (mapped_front
+    (either tag.null (within tag.null ends) (within tag.sequence (blocks family)))
+    choice_value choice_kind (choice_good family))
 
 -- ---- the extensions
 
@@ -154,10 +163,13 @@ family_bytes V6 = 0 ∷ 2 ∷ []
 -- A family of addresses: its number, and what stands for it.
 unfoldable pub part : Family → Front (Option (List (ℕ × ℕ)))
 part family =
-    within tag.sequence (preceded (constant tag.octet_string (family_bytes family)) (tested (choice family) has_numbers))
+    within tag.sequence
+    (preceded (constant tag.octet_string (family_bytes family))
+    (tested (choice family) has_numbers))
 
 -- What the two families say together: both inherit, or none does.
-abbrev pub joined : Option (Option (List (ℕ × ℕ))) → Option (Option (List (ℕ × ℕ))) → Option (Option (List (ℕ × ℕ) × List (ℕ × ℕ)))
+abbrev pub joined : Option (Option (List (ℕ × ℕ))) → Option (Option (List (ℕ × ℕ)))
+    → Option (Option (List (ℕ × ℕ) × List (ℕ × ℕ)))
 joined None None = Some (Some ([], []))
 joined None (Some None) = None
 joined None (Some (Some v6)) = Some (Some ([], v6))
@@ -168,7 +180,8 @@ joined (Some (Some v4)) None = Some (Some (v4, []))
 joined (Some (Some v4)) (Some None) = None
 joined (Some (Some v4)) (Some (Some v6)) = Some (Some (v4, v6))
 
-unfoldable pub ip_in : Option (Option (List (ℕ × ℕ))) × (Option (Option (List (ℕ × ℕ))) × Unit {0}) → Option (Option (List (ℕ × ℕ) × List (ℕ × ℕ)))
+unfoldable pub ip_in : Option (Option (List (ℕ × ℕ)))
+    × (Option (Option (List (ℕ × ℕ))) × Unit {0}) → Option (Option (List (ℕ × ℕ) × List (ℕ × ℕ)))
 ip_in x = joined x.0 x.1.0
 
 -- A set that is empty is left out.
@@ -176,7 +189,8 @@ abbrev pub listed_spans : List (ℕ × ℕ) → Option (Option (List (ℕ × ℕ
 listed_spans [] = None
 listed_spans (span ∷ spans) = Some (Some (span ∷ spans))
 
-abbrev pub ip_out : Option (List (ℕ × ℕ) × List (ℕ × ℕ)) → Option (Option (List (ℕ × ℕ))) × (Option (Option (List (ℕ × ℕ))) × Unit {0})
+abbrev pub ip_out : Option (List (ℕ × ℕ) × List (ℕ × ℕ)) → Option (Option (List (ℕ × ℕ)))
+    × (Option (Option (List (ℕ × ℕ))) × Unit {0})
 ip_out None = (Some None, (Some None, tt))
 ip_out (Some sets) = (listed_spans sets.0, (listed_spans sets.1, tt))
 

@@ -21,13 +21,15 @@ spare len = 8 * octets len - len
 
 -- The first len bits of an address that has so many bits, as bytes: big-endian, with zeros behind.
 abbrev pub leading_bytes : ℕ → ℕ → ℕ → List ℕ
-leading_bytes bits len address = bytes_high_first (octets len) (address / 2 ^ (bits - len) * 2 ^ spare len)
+leading_bytes bits len address =
+    bytes_high_first (octets len) (address / 2 ^ (bits - len) * 2 ^ spare len)
 
 -- The first len bits of an address as a BIT STRING.
 unfoldable pub leading_spelling : ℕ → ℕ → ℕ → List ℕ
 leading_spelling bits len address = bits_spelling (spare len) (leading_bytes bits len address)
 
--- How many leading bits stay of a number of so many bits, when trailing bits of that kind are left out.
+-- How many leading bits stay of a number of so many bits, when trailing bits of that kind are
+-- left out.
 abbrev pub kept : ℕ → ℕ → ℕ → ℕ
 kept bit zero n = zero
 kept bit (suc bits) n = if n % 2 == bit then kept bit bits (n / 2) else suc bits

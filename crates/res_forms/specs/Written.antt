@@ -13,14 +13,20 @@ use Rattle.res_forms.specs.FormatLaws.{v4-size, v6-size}
 abbrev pub IsWithin : Family → Range → Type 0
 IsWithin family range = range.last < family_end family
 
-each-within : (family : Family) (ranges : List Range) → ((n : ℕ) → any_spans ranges n ≡ true → n < family_end family) → AreAll (IsWithin family) ranges
+each-within : (family : Family) (ranges : List Range)
+    → ((n : ℕ) → any_spans ranges n ≡ true → n < family_end family)
+    → AreAll (IsWithin family) ranges
 each-within family [] within = tt
 each-within family (r ∷ ranges) within =
     let ordered : r.first ≤ r.last = r.ordered in
-    let here : spans r r.last ≡ true = and_from _ _ (le-leb r.first r.last ordered) (le-leb r.last r.last (omega arith)) in
-    (within r.last (or_left _ _ here), each-within family ranges (λ n has. within n (or_right _ _ has)))
+    let here : spans r r.last ≡ true = and_from _ _ (le-leb r.first r.last ordered)
+    (le-leb r.last r.last (omega arith)) in (
+      within r.last (or_left _ _ here),
+      each-within family ranges (λ n has. within n (or_right _ _ has)),
+    )
 
-pub all_within : (family : Family) (ranges : List Range) → AreCanonical family ranges → AreAll (IsWithin family) ranges
+pub all_within : (family : Family) (ranges : List Range) → AreCanonical family ranges
+    → AreAll (IsWithin family) ranges
 all_within family ranges canonical = each-within family ranges canonical.within
 
 pub is_v4_size : IsAddressSize 32
