@@ -11,17 +11,20 @@ use std::alloc::Global;
 
 /// The name of a case, how an audit is asked for, and what is done before.
 #[derive(Drop)]
-pub struct Asked<'a> {
-    pub name: &'a str,
+pub struct Asked {
+    pub name: String,
     anchor: PublicKey,
     site: Site,
     moment: u64,
-    pub done: &'a str,
+    pub done: String,
 }
 
-impl<'a> Asked<'a> {
+/// What an audit comes to.
+pub type Told = std::result::Result<Audited, AuditRefused>;
+
+impl Asked {
     /// Reads the fields between tabs.
-    pub fn read(alloc: Global, line: &'a str) -> Result<Asked<'a>> {
+    pub fn read(alloc: Global, line: &str) -> Result<Asked> {
         let mut fields = Vec::new(alloc);
         for field in line.split('\t') {
             fields.push(field)?;
@@ -31,28 +34,32 @@ impl<'a> Asked<'a> {
         };
         let key = hex::decode(alloc, key)?;
         Ok(Asked {
-            name,
+            name: String::from_str(alloc, name)?,
             anchor: PublicKey::read(&key).context("not a key")?,
             site: Site::read(alloc, rsync, rrdp)?,
             moment: moment.parse::<u64>()?,
-            done,
+            done: String::from_str(alloc, done)?,
         })
     }
 
-    /// What an audit comes to.
+    /// What an audit comes to that asks these signers.
     pub fn audit<S: Signer>(
         &self,
         alloc: Global,
         set: &ObjectSet,
-        ring: &mut Ring<S>,
-    ) -> std::result::Result<Audited, AuditRefused> {
-        audit(alloc, set, &self.anchor, &self.site, self.moment, ring)
+        signers: Vec<S>,
+    ) -> Result<Told> {
+        if signers.len() > 2 {
+            bail!("too many signers");
+        }
+        let mut ring = Ring::new(signers);
+        Ok(audit(alloc, set, &self.anchor, &self.site, self.moment, &mut ring))
     }
-}
 
-/// One signer for rehearsals.
-pub fn rehearsing(alloc: Global) -> Result<Ring<Rehearsal>> {
-    let mut signers = Vec::new(alloc);
-    signers.push(Rehearsal::new([0; 32]))?;
-    Ok(Ring::new(signers))
+    /// What an audit comes to that asks one signer for rehearsals.
+    pub fn rehearse(&self, alloc: Global, set: &ObjectSet) -> Result<Told> {
+        let mut signers = Vec::new(alloc);
+        signers.push(Rehearsal::new([0; 32]))?;
+        self.audit(alloc, set, signers)
+    }
 }

@@ -1,6 +1,6 @@
 //! Sets with one byte changed.
 
-use crate::asked::{Asked, rehearsing};
+use crate::asked::Told;
 use anyhow::{Context, Result};
 use pub_set::{Change, Content, Object, ObjectSet};
 use rp_audit::AuditRefused;
@@ -26,40 +26,39 @@ impl Count {
             otherwise: 0,
         }
     }
-}
 
-/// Changes one byte of an object, and counts what the audit comes to.
-pub fn counted(
-    alloc: Global,
-    asked: &Asked<'_>,
-    base: &ObjectSet,
-    object: &Object,
-    place: usize,
-    mask: u8,
-    count: &mut Count,
-) -> Result<()> {
-    let set = changed(alloc, base, object, place, mask)?;
-    let answers = match asked.audit(alloc, &set, &mut rehearsing(alloc)?) {
-        Err(AuditRefused::Refused { uri, rule }) if uri.as_str() == object.uri.as_str() => {
-            counter(count, rule)
+    /// Counts what an audit came to, the object with that URI being changed.
+    pub fn add(&mut self, told: &Told, uri: &str) {
+        match rule_at(told, uri) {
+            Some(Rule::Hash) => self.hash = self.hash.saturating_add(1),
+            Some(Rule::Shape) => self.add_shape_or_signature(),
+            Some(Rule::Signature) => self.add_shape_or_signature(),
+            Some(Rule::Identity) => self.identity = self.identity.saturating_add(1),
+            _ => self.otherwise = self.otherwise.saturating_add(1),
         }
-        _ => &mut count.otherwise,
-    };
-    *answers = answers.saturating_add(1);
-    Ok(())
-}
+    }
 
-fn counter(count: &mut Count, rule: Rule) -> &mut u32 {
-    match rule {
-        Rule::Hash => &mut count.hash,
-        Rule::Shape => &mut count.shape_or_signature,
-        Rule::Signature => &mut count.shape_or_signature,
-        Rule::Identity => &mut count.identity,
-        _ => &mut count.otherwise,
+    fn add_shape_or_signature(&mut self) {
+        self.shape_or_signature = self.shape_or_signature.saturating_add(1);
     }
 }
 
-fn changed(
+/// The rule that the object at the URI breaks, if it is refused.
+fn rule_at(told: &Told, uri: &str) -> Option<Rule> {
+    match told {
+        Err(AuditRefused::Refused { uri: at, rule }) => {
+            if at.as_str() == uri {
+                Some(*rule)
+            } else {
+                None
+            }
+        }
+        _ => None,
+    }
+}
+
+/// The set with the byte at that place of an object changed.
+pub fn changed(
     alloc: Global,
     base: &ObjectSet,
     object: &Object,
