@@ -27,6 +27,7 @@ bench:
 	python3 bench/objects
 	python3 bench/rrdp
 	python3 bench/tree
+	python3 bench/audit
 	python3 bench/board
 
 seconds:
