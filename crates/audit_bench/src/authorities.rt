@@ -97,10 +97,7 @@ impl Authority {
     fn manifest(&self, alloc: Global) -> Result<Vec<u8>> {
         let mut files = Vec::new(alloc);
         for (name, hash) in &self.files {
-            files.push(ListedFile {
-                name: String::from_str(alloc, name.as_str())?,
-                hash: *hash,
-            })?;
+            files.push(listed(alloc, name.as_str(), *hash)?)?;
         }
         let body = ManifestBody {
             number: 1,
@@ -113,4 +110,9 @@ impl Authority {
         }
         Ok(body.write(alloc)?)
     }
+}
+
+fn listed(alloc: Global, name: &str, hash: [u8; 32]) -> Result<ListedFile> {
+    let name = String::from_str(alloc, name)?;
+    Ok(ListedFile { name, hash })
 }

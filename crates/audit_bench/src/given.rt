@@ -132,10 +132,12 @@ fn origin_of(number: u32) -> Result<Origin> {
 
 // So many prefixes, the first with that number, in one range.
 fn held_of(alloc: Global, first: u32, count: u32) -> Result<Held> {
-    let range = Range {
-        first: address_of(first),
-        last: address_of(first.saturating_add(count)).saturating_sub(1),
-    };
+    let last = address_of(first.saturating_add(count)).saturating_sub(1);
+    let first = address_of(first);
+    if last < first {
+        bail!("no addresses");
+    }
+    let range = Range { first, last };
     let mut resources = Resources::empty(alloc);
     resources.v4 = Ranges::from_sorted(Family::V4, vec![in alloc; range]?).context("no addresses")?;
     Ok(Held::Set { resources })
