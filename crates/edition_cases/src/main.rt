@@ -1,0 +1,35 @@
+//! Cases of what an edition's objects are made of. Each line of standard input is one: its name, what is tried, and
+//! its fields, with tabs between them; a list's items have `|` between them, an item's fields `;`.
+#![tactic(auto)]
+
+mod fields;
+mod keys;
+mod lists;
+mod objects;
+
+use anyhow::{Result, bail};
+use std::alloc::Global;
+
+fn answer(alloc: Global, fields: &[&str]) -> Result<String> {
+    match fields {
+        [_, "keys", start, before, desks, rows] => keys::made(alloc, start, before, desks, rows),
+        [_, "rows", roles, dropped, rows] => keys::kept(alloc, roles, dropped, rows),
+        [_, "revoked", entries] => keys::revoked(alloc, entries),
+        [_, "anchor", start, moment, name, held] => {
+            objects::anchor(alloc, start, moment, name, held)
+        }
+        _ => bail!("no such case"),
+    }
+}
+
+fn main(rt: HostRuntime) -> Result<()> {
+    let alloc = rt.alloc();
+    for line in rt.lines(alloc) {
+        let line = line?;
+        let fields: Vec<&str> = line.split('\t').collect(alloc)?;
+        let answers = answer(alloc, &fields)?;
+        let name = fields.first().copied().unwrap_or("");
+        println!(rt; "{name}\t{answers}")?;
+    }
+    Ok(())
+}

@@ -1,0 +1,183 @@
+//! Where what is wanted stands, and what stands elsewhere.
+
+ghost use Rattle.std.specs.Prelude.{◌≡◌, ◌++◌, ◌∷◌, [], ◌||◌, Bool, ℕ, List, IfOk, OnOk, slice_get, string_bytes};
+ghost use Rattle.std.specs.Str.{bytes_eq};
+ghost use Rattle.std.specs.List.{flat_map};
+ghost use Rattle.std.specs.BTreeSet.{contains_text};
+ghost use Rattle.entitle.specs.Certified.{settings_of, names_of};
+ghost use Rattle.issue_plan.specs.Places as spec;
+ghost use Rattle.issue_plan.specs.Places.{key_uris, owed_uris, is_among, wanted_uris};
+
+use crate::keys::NextKey;
+use crate::lookups::{name_at, parent_at};
+use authority_book::{Config, NameRow};
+use entitle::Owed;
+use key_ids::Site;
+use key_roll::{IssuedRow, KeyName};
+use pub_set::Uri;
+use std::alloc::{AllocError, Global};
+use std::collections::BTreeSet;
+
+// Puts the place of a key's certificate behind the others, if it is known.
+fn push_certificate_uri(
+    alloc: Global,
+    uris: &mut Vec<Uri>,
+    site: &Site,
+    configs: &[Config],
+    key: &NextKey,
+) -> Result<(), AllocError>
+    ensures { OnOk result (uris.new.items
+        ≡ uris.old.items ++ spec.certificate_uris site.now (settings_of configs.now) key.now) }
+{
+    if key.desk == 0 {
+        uris.push(Uri::new(site.anchor_uri(alloc)?))?;
+        return Ok(());
+    }
+    let Some(parent) = parent_at(configs, key.desk) else {
+        return Ok(());
+    };
+    if let KeyName::Live { id } = key.name {
+        uris.push(Uri::new(site.cert_uri(alloc, parent.as_str(), &id)?))?;
+    }
+    Ok(())
+}
+
+// Puts the places of a key's point behind the others, if they are known.
+fn push_point_uris(
+    alloc: Global,
+    uris: &mut Vec<Uri>,
+    site: &Site,
+    names: &[NameRow],
+    key: &NextKey,
+) -> Result<(), AllocError>
+    ensures { OnOk result (uris.new.items
+        ≡ uris.old.items ++ spec.point_uris site.now (slice_get names.now key.now.desk) key.now.name) }
+{
+    let Some(row) = name_at(names, key.desk) else {
+        return Ok(());
+    };
+    if let KeyName::Live { id } = key.name {
+        uris.push(Uri::new(site.crl_uri(alloc, row.name.as_str(), &id)?))?;
+        uris.push(Uri::new(site.manifest_uri(alloc, row.name.as_str(), &id)?))?;
+    }
+    Ok(())
+}
+
+fn push_key_uris(
+    alloc: Global,
+    uris: &mut Vec<Uri>,
+    site: &Site,
+    names: &[NameRow],
+    configs: &[Config],
+    key: &NextKey,
+) -> Result<(), AllocError>
+    requires { names.now ≡ names_of (settings_of configs.now) }
+    ensures { OnOk result (uris.new.items
+        ≡ uris.old.items ++ key_uris site.now (settings_of configs.now) key.now) }
+{
+    push_certificate_uri(alloc, uris, site, configs, key)?;
+    push_point_uris(alloc, uris, site, names, key)
+}
+
+// Puts the place of an owed origin's ROA behind the others.
+fn push_roa_uri(
+    alloc: Global,
+    uris: &mut Vec<Uri>,
+    site: &Site,
+    names: &[NameRow],
+    owed: &Owed,
+) -> Result<(), AllocError>
+    ensures { OnOk result (uris.new.items
+        ≡ uris.old.items ++ spec.roa_uris site.now owed.now.origin (slice_get names.now owed.now.desk)) }
+{
+    if let Some(row) = name_at(names, owed.desk) {
+        let file = owed.origin.file_name(alloc)?;
+        let uri = site.file_uri(alloc, row.name.as_str(), file.as_str())?;
+        uris.push(Uri::new(uri))?;
+    }
+    Ok(())
+}
+
+fn push_all_key_uris(
+    alloc: Global,
+    uris: &mut Vec<Uri>,
+    site: &Site,
+    names: &[NameRow],
+    configs: &[Config],
+    keys: &[NextKey],
+) -> Result<(), AllocError>
+    requires { names.now ≡ names_of (settings_of configs.now) }
+    ensures { OnOk result (uris.new.items
+        ≡ uris.old.items ++ flat_map (key_uris site.now (settings_of configs.now)) keys.now) }
+{
+    for key in keys {
+        push_key_uris(alloc, uris, site, names, configs, key)?;
+    }
+    Ok(())
+}
+
+fn push_all_roa_uris(
+    alloc: Global,
+    uris: &mut Vec<Uri>,
+    site: &Site,
+    names: &[NameRow],
+    configs: &[Config],
+    owed: &[Owed],
+) -> Result<(), AllocError>
+    requires { names.now ≡ names_of (settings_of configs.now) }
+    ensures { OnOk result (uris.new.items
+        ≡ uris.old.items ++ flat_map (owed_uris site.now (settings_of configs.now)) owed.now) }
+{
+    for each in owed {
+        push_roa_uri(alloc, uris, site, names, each)?;
+    }
+    Ok(())
+}
+
+/// All places that are wanted and known.
+pub fn wanted_uris(
+    alloc: Global,
+    site: &Site,
+    names: &[NameRow],
+    configs: &[Config],
+    keys: &[NextKey],
+    owed: &[Owed],
+) -> Result<Vec<Uri>, AllocError>
+    requires { names.now ≡ names_of (settings_of configs.now) }
+    ensures { IfOk result (λ uris. uris.items
+        ≡ wanted_uris site.now (settings_of configs.now) keys.now owed.now) }
+{
+    let mut uris = Vec::new(alloc);
+    push_all_key_uris(alloc, &mut uris, site, names, configs, keys)?;
+    push_all_roa_uris(alloc, &mut uris, site, names, configs, owed)?;
+    Ok(uris)
+}
+
+// The URIs, so that one is looked up in logarithmic time.
+fn sorted(alloc: Global, uris: &[Uri]) -> Result<BTreeSet<String>, AllocError>
+    ensures { IfOk result (λ sorted. (uri : List ℕ) → contains_text sorted uri ≡ is_among uris.now uri) }
+{
+    let mut sorted = BTreeSet::new(alloc);
+    for uri in uris {
+        sorted.insert(uri.copy(alloc)?.into_string())?;
+    }
+    Ok(sorted)
+}
+
+/// The places of what stands and isn't wanted.
+pub fn withdrawn(
+    alloc: Global,
+    wanted: &[Uri],
+    issued: &[IssuedRow],
+) -> Result<Vec<Uri>, AllocError>
+    ensures { IfOk result (λ withdrawn. withdrawn.items ≡ spec.withdrawn wanted.now issued.now) }
+{
+    let known = sorted(alloc, wanted)?;
+    let mut withdrawn = Vec::new(alloc);
+    for row in issued {
+        if !known.contains(row.uri.as_str()) {
+            withdrawn.push(row.uri.copy(alloc)?)?;
+        }
+    }
+    Ok(withdrawn)
+}

@@ -1,0 +1,126 @@
+//! The work of an edition.
+
+ghost use Rattle.std.specs.Prelude.{◌≡◌, map, filter, IfOk};
+ghost use Rattle.std.specs.List.{filter_map};
+ghost use Rattle.entitle.specs.Certified.{settings_of, names_of, AreCertified};
+ghost use Rattle.issue_plan.specs.Work as spec;
+ghost use Rattle.issue_plan.specs.Work.{IsPlan};
+
+use crate::keys::{NextKey, id_of, next_keys};
+use crate::places::{wanted_uris, withdrawn};
+use crate::wanted::{certificates, points, roas};
+use authority_book::{Config, NameRow};
+use entitle::{Tree, owed};
+use items::Items;
+use key_ids::{KeyId, Site};
+use key_roll::{Issued, KeyName, KeyRow, NewKey, RoleWork, Work};
+use std::alloc::{AllocError, Global};
+
+fn new_key_of(key: &NextKey) -> Option<NewKey>
+    ensures { result ≡ spec.new_key_of key.now }
+{
+    match key.name {
+        KeyName::Fresh { desk } => Some(NewKey {
+            desk,
+            signer: key.signer,
+            role: key.role,
+            since: key.since,
+            done: key.done,
+        }),
+        KeyName::Live { .. } => None,
+    }
+}
+
+// The keys to make.
+fn new_keys(alloc: Global, keys: &[NextKey]) -> Result<Vec<NewKey>, AllocError>
+    ensures { IfOk result (λ new. new.items ≡ filter_map spec.new_key_of keys.now) }
+{
+    keys.iter().filter_map(|key| new_key_of(key)).collect(alloc)
+}
+
+fn role_of(key: &NextKey) -> Option<RoleWork>
+    ensures { result ≡ spec.role_of key.now }
+{
+    match key.name {
+        KeyName::Live { id } if key.is_changed => Some(RoleWork {
+            key: id,
+            role: key.role,
+            since: key.since,
+            done: key.done,
+        }),
+        _ => None,
+    }
+}
+
+// The live keys that go on otherwise than before.
+fn roles(alloc: Global, keys: &[NextKey]) -> Result<Vec<RoleWork>, AllocError>
+    ensures { IfOk result (λ roles. roles.items ≡ filter_map spec.role_of keys.now) }
+{
+    keys.iter().filter_map(|key| role_of(key)).collect(alloc)
+}
+
+fn is_live(id: &KeyId, name: &KeyName) -> bool
+    ensures { result ≡ spec.is_live id.now name.now }
+{
+    match name {
+        KeyName::Live { id: other } => other.bytes.as_slice() == id.bytes.as_slice(),
+        KeyName::Fresh { .. } => false,
+    }
+}
+
+fn goes_on(keys: &[NextKey], id: &KeyId) -> bool
+    ensures { result ≡ spec.goes_on keys.now id.now }
+{
+    keys.iter().any(|key| is_live(id, &key.name))
+}
+
+// The live keys that end.
+fn dropped(alloc: Global, keys: &[NextKey], rows: &[KeyRow]) -> Result<Vec<KeyId>, AllocError>
+    ensures { IfOk result (λ dropped. dropped.items ≡ spec.dropped keys.now rows.now) }
+{
+    let mut dropped = Vec::new(alloc);
+    for row in rows {
+        let id = id_of(row);
+        if !goes_on(keys, &id) {
+            dropped.push(id)?;
+        }
+    }
+    Ok(dropped)
+}
+
+/// What an edition at the moment makes and withdraws: all that is wanted of these configurations,
+/// which stand at the places of their names, and what stands and isn't wanted. The tree is what these
+/// configurations are certified for.
+///
+/// Keys and points are in the order of the desks and of the roles, ROAs in that of the desks and of
+/// the origins, what is withdrawn and the keys that end in that in which they are given.
+pub fn plan(
+    alloc: Global,
+    rows: &[KeyRow],
+    names: &[NameRow],
+    configs: &[Config],
+    tree: &Tree,
+    issued: &Issued,
+    site: &Site,
+    moment: u64,
+) -> Result<Work, AllocError>
+    requires names { names.now ≡ names_of (settings_of configs.now) }
+    requires certified { AreCertified (settings_of configs.now) tree.now.sets.items }
+    ensures { IfOk result (IsPlan
+        (record { rows = rows.now; configs = settings_of configs.now; sets = tree.now.sets.items; moment = moment })
+        issued.now.rows site.now) }
+{
+    let keys = next_keys(alloc, rows, names, configs, tree, moment)?;
+    let owed = owed(alloc, configs, tree)?;
+    let wanted = wanted_uris(alloc, site, names, configs, &keys, &owed)?;
+    Ok(Work {
+        moment,
+        new_keys: Items::new(new_keys(alloc, &keys)?),
+        roles: Items::new(roles(alloc, &keys)?),
+        certs: Items::new(certificates(alloc, configs, tree, &keys)?),
+        roas: Items::new(roas(alloc, &keys, &owed)?),
+        points: Items::new(points(alloc, &keys)?),
+        withdrawn: Items::new(withdrawn(alloc, &wanted, issued.rows.as_slice())?),
+        dropped: Items::new(dropped(alloc, &keys, rows)?),
+    })
+}
