@@ -1,5 +1,5 @@
 -- What the work says of a key, found by an index.
-use Rattle.std.proofs.Common.{◌≡◌, ℕ, Option, Some, List, map, get_or, sym, ap, subst, ◌∙◌}
+use Rattle.std.proofs.Common.{◌≡◌, ℕ, Option, Some, List, map, get_or, sym, ap, ◌∙◌}
 use Rattle.std.specs.Option.{is_some}
 use Rattle.std.proofs.lemmas.Option.{slice_get-get_or}
 use Rattle.key_ids.specs.declared.identifier.KeyId.{KeyId}
@@ -9,10 +9,7 @@ use Rattle.key_roll.specs.declared.rows.KeyRow.{KeyRow}
 use Rattle.key_roll.specs.declared.work.RoleWork.{RoleWork}
 use Rattle.edition_keys.specs.Keys.{id_of, role_of, is_dropped}
 use Rattle.edition_keys.specs.Indexes.{IsIndex, has_id}
-use Rattle.edition_keys.proofs.Places.{first_of, first-is, position-map, any-found, At, at-index}
-
-pub index-moved : (keys others : List (Option KeyId)) (index : List Placed) → keys ≡ others → IsIndex keys index → IsIndex others index
-index-moved keys others index e h = subst (λ (l : List (Option KeyId)). IsIndex l index) e h
+use Rattle.edition_keys.specs.FirstPlaces.{first_of, first-is, position-map, any-found, At, at-index}
 
 pub dropped-is : (dropped : List KeyId) (index : List Placed) (row : KeyRow) (id : KeyId) (o : Option ℕ) → IsIndex (map (λ key. Some key) dropped) index → id.bytes ≡ id_of row → o ≡ first_of (places_under id.bytes index) → is_some o ≡ is_dropped dropped row
 dropped-is dropped index row id o h same is =

@@ -1,79 +1,27 @@
--- The first place of a key in a list.
-use Rattle.std.proofs.Common.{◌≡◌, ℕ, ◌+◌, ◌-◌, ◌<◌, ◌≤◌, suc, Bool, true, false, cond, ◌||◌, Option, None, Some, List, [], ◌∷◌, ◌++◌, length, get_or, take, map, find, refl, sym, ap, ◌∙◌, arith}
-use Rattle.std.specs.List.{slice_get, list_any, position_from}
-use Rattle.std.specs.Option.{option_map, is_some}
-use Rattle.std.specs.Str.{bytes_eq}
+-- The places of a list's keys, one item more at a time.
+use Rattle.std.proofs.Common.{◌≡◌, ℕ, ◌+◌, ◌<◌, Option, None, Some, List, [], ◌∷◌, ◌++◌}
+use Rattle.std.proofs.Common.{length, get_or, take, sym, ap, ◌∙◌, arith}
 use Rattle.std.proofs.lemmas.List.{take_more, length-take-le}
 use Rattle.key_ids.specs.declared.identifier.KeyId.{KeyId}
 use Rattle.key_index.specs.declared.entries.Placed.{Placed}
-use Rattle.key_index.specs.Under.{places_under}
-use Rattle.edition_keys.specs.Indexes.{placed_from, IsIndex, has_id, first_at}
+use Rattle.edition_keys.specs.Indexes.{placed_from}
 
-abbrev pub first_of : List Placed → Option ℕ
-first_of places = option_map (λ entry. entry.place) (slice_get places 0)
-
-first-placed : (keys : List (Option KeyId)) (n : ℕ) (id : List ℕ) → first_of (places_under id (placed_from n keys)) ≡ position_from (has_id id) n keys
-first-placed [] n id = refl
-first-placed (None ∷ keys) n id = first-placed keys (n + 1) id
-first-placed (Some k ∷ keys) n id = by (bytes_eq k.bytes id) (first-placed keys (n + 1) id)
-  where
-    by : (b : Bool) → first_of (places_under id (placed_from (n + 1) keys)) ≡ position_from (has_id id) (n + 1) keys → first_of (cond b (record { key = k; place = n } ∷ places_under id (placed_from (n + 1) keys)) (places_under id (placed_from (n + 1) keys))) ≡ cond b (Some n) (position_from (has_id id) (n + 1) keys)
-    by true rest = refl
-    by false rest = rest
-
--- What an index finds first.
-pub first-is : (keys : List (Option KeyId)) (index : List Placed) (id : List ℕ) → IsIndex keys index → first_of (places_under id index) ≡ first_at id keys
-first-is keys index id h = ap first_of (h id) ∙ first-placed keys 0 id
-
-pub position-map : {A B : Type 0} (p : B → Bool) (f : A → B) (n : ℕ) (xs : List A) → position_from p n (map f xs) ≡ position_from (λ x. p (f x)) n xs
-position-map p f n [] = refl
-position-map p f n (x ∷ xs) = ap (λ (o : Option ℕ). cond (p (f x)) (Some n) o) (position-map p f (n + 1) xs)
-
-past : {A : Type 0} (x : A) (xs : List A) (n k : ℕ) → n + 1 ≤ k → slice_get xs (k - (n + 1)) ≡ slice_get (x ∷ xs) (k - n)
-past x xs n k le =
-    let e : k - n ≡ suc (k - (n + 1)) = omega arith in
-    sym (ap (slice_get (x ∷ xs)) e)
-
-pub found : {A : Type 0} (p : A → Bool) (n : ℕ) (xs : List A) (k : ℕ) → position_from p n xs ≡ Some k → (n ≤ k) × (k < n + length xs) × (find p xs ≡ slice_get xs (k - n))
-found p n [] k e = absurd cc
-found {A} p n (x ∷ xs) k e = by (p x) (found p (n + 1) xs k) e
-  where
-    by : (b : Bool) → (position_from p (n + 1) xs ≡ Some k → (n + 1 ≤ k) × (k < (n + 1) + length xs) × (find p xs ≡ slice_get xs (k - (n + 1)))) → cond b (Some n) (position_from p (n + 1) xs) ≡ Some k → (n ≤ k) × (k < n + length (x ∷ xs)) × (cond b (Some x) (find p xs) ≡ slice_get (x ∷ xs) (k - n))
-    by true rest e =
-        let same : n ≡ k = cc in
-        let none : k - n ≡ 0 = omega arith in
-        (omega arith, omega arith, sym (ap (slice_get (x ∷ xs)) none))
-    by false rest e =
-        let r = rest e in
-        (omega arith, omega arith, r.2 ∙ past x xs n k r.0)
-
-pub missing : {A : Type 0} (p : A → Bool) (n : ℕ) (xs : List A) → position_from p n xs ≡ None → find p xs ≡ None
-missing p n [] e = refl
-missing {A} p n (x ∷ xs) e = by (p x) (missing p (n + 1) xs) e
-  where
-    by : (b : Bool) → (position_from p (n + 1) xs ≡ None → find p xs ≡ None) → cond b (Some n) (position_from p (n + 1) xs) ≡ None → cond b (Some x) (find p xs) ≡ None
-    by true rest e = absurd cc
-    by false rest e = rest e
-
-pub any-found : {A : Type 0} (p : A → Bool) (n : ℕ) (xs : List A) → is_some (position_from p n xs) ≡ list_any p xs
-any-found p n [] = refl
-any-found {A} p n (x ∷ xs) = by (p x) (any-found p (n + 1) xs)
-  where
-    by : (b : Bool) → is_some (position_from p (n + 1) xs) ≡ list_any p xs → is_some (cond b (Some n) (position_from p (n + 1) xs)) ≡ (b || list_any p xs)
-    by true rest = refl
-    by false rest = rest
-
--- ---- one item more
-
-placed-append : (n : ℕ) (keys others : List (Option KeyId)) → placed_from n (keys ++ others) ≡ placed_from n keys ++ placed_from (n + length keys) others
+placed-append : (n : ℕ) (keys others : List (Option KeyId))
+    → placed_from n (keys ++ others) ≡ placed_from n keys ++ placed_from (n + length keys) others
 placed-append n [] others = ap (λ (m : ℕ). placed_from m others) (omega arith)
 placed-append n (None ∷ keys) others =
-    placed-append (n + 1) keys others ∙ ap (λ (m : ℕ). placed_from (n + 1) keys ++ placed_from m others) (omega arith)
+    placed-append (n + 1) keys others
+    ∙ ap (λ (m : ℕ). placed_from (n + 1) keys ++ placed_from m others) (omega arith)
 placed-append n (Some k ∷ keys) others =
     ap (λ (l : List Placed). record { key = k; place = n } ∷ l)
-    (placed-append (n + 1) keys others ∙ ap (λ (m : ℕ). placed_from (n + 1) keys ++ placed_from m others) (omega arith))
+    (placed-append (n + 1) keys others
+    ∙ ap (λ (m : ℕ). placed_from (n + 1) keys ++ placed_from m others) (omega arith))
 
-pub placed-more : (keys : List (Option KeyId)) (i : ℕ) (d : Option KeyId) (before after : List Placed) → i < length keys → before ≡ placed_from 0 (take i keys) → after ≡ before ++ placed_from i (get_or keys i d ∷ []) → after ≡ placed_from 0 (take (i + 1) keys)
+pub placed-more : (keys : List (Option KeyId)) (i : ℕ) (d : Option KeyId)
+    (before after : List Placed)
+    → i < length keys → before ≡ placed_from 0 (take i keys)
+    → after ≡ before ++ placed_from i (get_or keys i d ∷ [])
+    → after ≡ placed_from 0 (take (i + 1) keys)
 placed-more keys i d before after lt was now =
     let one = get_or keys i d ∷ [] in
     let count : length (take i keys) ≡ i = length-take-le i keys (omega arith) in
@@ -81,21 +29,3 @@ placed-more keys i d before after lt was now =
     now ∙ (ap (λ (l : List Placed). l ++ placed_from i one) was
     ∙ (ap (λ (m : ℕ). placed_from 0 (take i keys) ++ placed_from m one) (sym at)
     ∙ (sym (placed-append 0 (take i keys) one) ∙ ap (placed_from 0) (sym (take_more keys i d lt)))))
-
--- ---- what stands at a place that was found
-
-abbrev pub At : {A : Type 0} → (A → Bool) → List A → Option ℕ → Type 0
-At p xs None = find p xs ≡ None
-At p xs (Some k) = (find p xs ≡ slice_get xs k) × (k < length xs)
-
-pub at-found : {A : Type 0} (p : A → Bool) (xs : List A) (o : Option ℕ) → position_from p 0 xs ≡ o → At p xs o
-at-found p xs None e = missing p 0 xs e
-at-found p xs (Some k) e =
-    let r = found p 0 xs k e in
-    let same : k - 0 ≡ k = omega arith in
-    (r.2 ∙ ap (slice_get xs) same, omega arith)
-
--- The same of an index over a list's keys.
-pub at-index : {A : Type 0} (f : A → Option KeyId) (xs : List A) (index : List Placed) (id : List ℕ) (o : Option ℕ) → IsIndex (map f xs) index → o ≡ first_of (places_under id index) → At (λ (x : A). has_id id (f x)) xs o
-at-index {A} f xs index id o h is =
-    at-found (λ (x : A). has_id id (f x)) xs o (sym (is ∙ (first-is (map f xs) index id h ∙ position-map (has_id id) f 0 xs)))

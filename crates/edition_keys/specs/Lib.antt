@@ -3,3 +3,4 @@ pub mod Making
 pub mod Seen
 pub mod Indexes
 pub mod Faults
+pub mod FirstPlaces

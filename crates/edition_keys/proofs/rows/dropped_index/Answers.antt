@@ -1,5 +1,5 @@
 use Rattle.std.proofs.Common.{◌∙◌}
-use Rattle.edition_keys.proofs.Finds.{index-moved}
+use Rattle.edition_keys.specs.FirstPlaces.{index-moved}
 use Rattle.edition_keys.proofs.rows.dropped_index.Goals as goal
 
 pub returns : goal.returns
