@@ -11,40 +11,62 @@ use Rattle.json_api.specs.declared.line.LineFault.{LineFault}
 use Rattle.json_api.specs.declared.line.LineFault.TheVariants.{BadLine, UnknownCommand}
 use Rattle.json_api.specs.declared.slots.Slot.{Slot}
 use Rattle.json_api.specs.declared.slots.Slot.TheVariants.{Absent}
-use Rattle.json_api.specs.Names.{name_of, kind_of, first_other}
-use Rattle.json_api.specs.Table.{as_row, line_at, only, of_row, of_members}
-use Rattle.json_api.specs.Slots.{slot_at, are_taken}
+use Rattle.json_api.specs.Names.{name_of, kind_of}
+use Rattle.json_api.specs.Rows.{Slots, as_row}
+use Rattle.json_api.specs.Table.{fields_of, line_at, first_other, only, of_row, of_members}
+use Rattle.json_api.specs.Slots.{slot_at, left_of, are_taken, first_left}
 use Rattle.json_api.specs.Line.{Tells, AreSlots, ReadsValue}
 use Rattle.json_api.specs.Passes.{IsMember, AreMembers}
 use Rattle.json_api.proofs.Named.{field_named-name_of}
-use Rattle.json_api.proofs.Others.{none_other}
+use Rattle.json_api.proofs.Others.{none_other, first_left-other}
 
 pub AreSlots-members : (ms : Members) (slots : List Slot) → AreMembers ms slots → AreSlots (object ms) (slot_at slots)
 AreSlots-members ms slots are f = subst (λ (o : Option Field). IsMember o (get_member (name_of f) ms) slots) (field_named-name_of f) (are (name_of f))
 
-only-none : (found : Result Line LineFault) → only found None ≡ found
-only-none (Ok meant) = refl
-only-none (Err fault) = refl
-
--- the row of a line whose tokens told it
-pub row_answers : (ms : Members) (slots : List Slot) (of : Row) (result : Result Line LineFault) → AreMembers ms slots → as_row (slot_at slots Command) ≡ Some of
-    → are_taken of slots ≡ true → result ≡ line_at of (slot_at slots) → ReadsValue (object ms) result
-row_answers ms slots of result are row taken says = record {
+-- the line of a row whose tokens told it, where no other member is left
+pub row_answers : (ms : Members) (slots : List Slot) (of : Row) (meant : Line) → AreMembers ms slots → as_row (slot_at slots Command) ≡ Some of
+    → are_taken (left_of (fields_of of) slots) ≡ true → Ok meant ≡ line_at of (slot_at slots) → ReadsValue (object ms) (Ok meant)
+row_answers ms slots of meant are row taken says = record {
   slots = slot_at slots;
   are = AreSlots-members ms slots are;
-  says = says
-      ∙ sym (only-none (line_at of (slot_at slots)))
-      ∙ ap (λ (other : Option (List ℕ)). only (line_at of (slot_at slots)) other) (sym (none_other of ms slots are taken))
+  says = ap (λ (other : Option (List ℕ)). only (Ok meant) other) (sym (none_other of ms slots are taken))
+      ∙ ap (λ (r : Result Line LineFault). only r (first_other of ms)) says
       ∙ ap (λ (r : Option Row). of_row r (slot_at slots) ms) (sym row);
 }
 
+-- the fault of such a row
+pub row_refuses : (ms : Members) (slots : List Slot) (of : Row) (fault : LineFault) → AreMembers ms slots → as_row (slot_at slots Command) ≡ Some of
+    → Err fault ≡ line_at of (slot_at slots) → ReadsValue (object ms) (Err fault)
+row_refuses ms slots of fault are row says = record {
+  slots = slot_at slots;
+  are = AreSlots-members ms slots are;
+  says = ap (λ (r : Result Line LineFault). only r (first_other of ms)) says
+      ∙ ap (λ (r : Option Row). of_row r (slot_at slots) ms) (sym row);
+}
+
+-- which other member is named doesn't matter to a fault
+fault_first : (found : Result Line LineFault) (a b : Option (List ℕ)) → ((meant : Line) → found ≡ Ok meant → a ≡ b) → only found a ≡ only found b
+fault_first (Ok meant) a b same = ap (only (Ok meant)) (same meant refl)
+fault_first (Err fault) a b same = refl
+
+are_of_object : (value : Data) (ms : Members) (s : Slots) → as_object value ≡ Some ms → AreSlots value s → AreSlots (object ms) s
+are_of_object null ms s e are = absurd (cc)
+are_of_object (boolean b) ms s e are = absurd (cc)
+are_of_object (number n) ms s e are = absurd (cc)
+are_of_object (string t) ms s e are = absurd (cc)
+are_of_object (array ds) ms s e are = absurd (cc)
+are_of_object (object ns) ms s e are = let same : ns ≡ ms = cc in subst (λ (of : Members). AreSlots (object of) s) same are
+
 -- the row of a line whose value told it
-pub value_answers : (value : Data) (ms : Members) (slots : List Slot) (of : Row) (result : Result Line LineFault) → as_object value ≡ Some ms → AreSlots value (slot_at slots)
-    → as_row (slot_at slots Command) ≡ Some of → result ≡ only (line_at of (slot_at slots)) (first_other of ms) → ReadsValue value result
-value_answers value ms slots of result is are row says = record {
+pub value_answers : (value : Data) (ms : Members) (slots left : List Slot) (of : Row) (result : Result Line LineFault) → as_object value ≡ Some ms → AreSlots value (slot_at slots)
+    → as_row (slot_at slots Command) ≡ Some of → ((meant : Line) → line_at of (slot_at slots) ≡ Ok meant → left ≡ left_of (fields_of of) slots)
+    → result ≡ only (line_at of (slot_at slots)) (first_left left ms) → ReadsValue value result
+value_answers value ms slots left of result is are row taken says = record {
   slots = slot_at slots;
   are = are;
   says = says
+      ∙ fault_first (line_at of (slot_at slots)) (first_left left ms) (first_other of ms) (λ meant fine.
+          ap (λ (rest : List Slot). first_left rest ms) (taken meant fine) ∙ first_left-other of ms slots (are_of_object value ms (slot_at slots) is are))
       ∙ ap (λ (r : Option Row). of_row r (slot_at slots) ms) (sym row)
       ∙ ap (λ (o : Option Members). of_members o (slot_at slots)) (sym is);
 }

@@ -23,8 +23,9 @@ use Rattle.json_api.specs.declared.line.Line.{Line}
 use Rattle.json_api.specs.declared.line.LineFault.{LineFault}
 use Rattle.json_api.specs.declared.slots.Slot.{Slot}
 use Rattle.json_api.specs.declared.slots.Slot.TheVariants as slot
-use Rattle.json_api.specs.Names.{name_of, kind_of, row_named}
-use Rattle.json_api.specs.Table.{Slots, as_row, as_name, as_number as number_in, as_resources, as_origins, line_of}
+use Rattle.json_api.specs.Names.{name_of, kind_of}
+use Rattle.json_api.specs.Rows.{Slots, as_row, as_name, as_number as number_in, as_resources, as_origins}
+use Rattle.json_api.specs.Table.{row_named, line_of}
 use Rattle.json_api.specs.Line.{AreOriginTexts, IsSetText, AreResources, Says, Tells, AreSlots, ReadsValue, ReadsLine}
 
 -- what is known of the texts of sets and of origins

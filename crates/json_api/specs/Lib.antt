@@ -1,5 +1,6 @@
 pub mod Names
 pub mod MemberName
+pub mod Rows
 pub mod Table
 pub mod Slots
 pub mod Line

@@ -4,7 +4,8 @@ use Rattle.json.specs.Print.{quoted}
 use Rattle.json_api.specs.declared.history.Member.{Member}
 use Rattle.json_api.specs.declared.history.MemberValue.{MemberValue}
 use Rattle.json_api.specs.declared.history.MemberValue.TheVariants.{Row, Name, Number, Resources, Origins}
-use Rattle.json_api.specs.Names.{name_of, command_of}
+use Rattle.json_api.specs.Names.{name_of}
+use Rattle.json_api.specs.Table.{command_of}
 use Rattle.json_api.specs.Texts.{resources_text, origins_text}
 
 abbrev pub value_text : MemberValue → List ℕ

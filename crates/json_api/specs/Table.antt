@@ -1,10 +1,7 @@
--- The table of lines: what the fields of each row come to.
-use Rattle.std.specs.Prelude.{ℕ, List, [], Option, Some, None, Result, Ok, Err, codes}
-use Rattle.serde_json.specs.Data.{Data, Members}
+-- The table of lines: a row for each `command`, and what an object is by it.
+use Rattle.std.specs.Prelude.{ℕ, ◌==◌, List, [], ◌∷◌, map, Bool, false, ◌||◌, Option, Some, None, Result, Ok, Err, codes, if◌then◌else◌}
+use Rattle.serde_json.specs.Data.{Data, Members, no_members, member}
 use Rattle.serde_json.specs.Find.{as_object}
-use Rattle.res_sets.specs.declared.holdings.Resources.{Resources}
-use Rattle.origins.specs.declared.Origin.{Origin}
-use Rattle.authority_book.specs.declared.commands.Command.{Command}
 use Rattle.authority_book.specs.declared.commands.Command.TheVariants as commands
 use Rattle.json_api.specs.declared.fields.Field.{Field}
 use Rattle.json_api.specs.declared.fields.Field.TheVariants as field
@@ -15,83 +12,80 @@ use Rattle.json_api.specs.declared.line.Line.{Line}
 use Rattle.json_api.specs.declared.line.Line.TheVariants as line
 use Rattle.json_api.specs.declared.line.LineFault.{LineFault}
 use Rattle.json_api.specs.declared.line.LineFault.TheVariants.{BadLine, UnknownCommand, BadField}
-use Rattle.json_api.specs.declared.slots.Slot.{Slot}
-use Rattle.json_api.specs.declared.slots.Slot.TheVariants as slot
-use Rattle.json_api.specs.Names.{name_of, first_other}
-
--- ---- what a slot holds
-
-abbrev pub as_row : Slot → Option Row
-as_row (slot.Row of) = Some of
-as_row other = None
-
-abbrev pub as_name : Slot → Option (List ℕ)
-as_name (slot.Name name) = Some name
-as_name other = None
-
-abbrev pub as_number : Slot → Option ℕ
-as_number (slot.Number n) = Some n
-as_number other = None
-
-abbrev pub as_resources : Slot → Option Resources
-as_resources (slot.Resources held) = Some held
-as_resources other = None
-
-abbrev pub as_origins : Slot → Option (List Origin)
-as_origins (slot.Origins origins) = Some origins
-as_origins other = None
-
--- what stands, or the default where the field is left out
-abbrev pub or_default : Slot → Slot → Slot
-or_default default slot.Absent = default
-or_default default found = found
-
--- ---- what a row's fields come to
-
--- the value of the field, or the fault of having none
-abbrev pub with_field : {A : Type 0} → Field → Option A → (A → Result Line LineFault) → Result Line LineFault
-with_field f None rest = Err (BadField (name_of f))
-with_field f (Some value) rest = rest value
+use Rattle.json_api.specs.Names.{place_of, is_among, first_named, field_named}
+use Rattle.json_api.specs.Rows.{RowField, required, optional, Entry, entry, Slots, as_row}
 
 -- the trust anchor's name
 abbrev pub anchor : List ℕ
 anchor = codes "ta"
 
--- the fields' slots
-abbrev pub Slots : Type 0
-Slots = Field → Slot
+-- A new authority is added by the anchor.
+abbrev pub table : Row → Entry
+table row.Add = entry (codes "add") (required Ca ∷ optional Signer 0 ∷ [])
+    (λ new signer. line.Command anchor (commands.Add new signer))
+table row.Delete = entry (codes "delete") (required Ca ∷ [])
+    (λ ca. line.Command ca commands.Delete)
+table row.ParentsAdd = entry (codes "parents add") (required Ca ∷ required Parent ∷ [])
+    (λ ca parent. line.Command ca (commands.AddParent parent))
+table row.ChildrenAdd = entry (codes "children add") (required Ca ∷ required Child ∷ required field.Resources ∷ [])
+    (λ ca child grant. line.Command ca (commands.AddChild child grant))
+table row.ChildrenUpdate = entry (codes "children update") (required Ca ∷ required Child ∷ required field.Resources ∷ [])
+    (λ ca child grant. line.Command ca (commands.UpdateChild child grant))
+table row.ChildrenRemove = entry (codes "children remove") (required Ca ∷ required Child ∷ [])
+    (λ ca child. line.Command ca (commands.RemoveChild child))
+table row.ChildrenSuspend = entry (codes "children suspend") (required Ca ∷ required Child ∷ [])
+    (λ ca child. line.Command ca (commands.SuspendChild child))
+table row.ChildrenUnsuspend = entry (codes "children unsuspend") (required Ca ∷ required Child ∷ [])
+    (λ ca child. line.Command ca (commands.UnsuspendChild child))
+table row.RoasUpdate = entry (codes "roas update") (required Ca ∷ optional field.Add [] ∷ optional Remove [] ∷ [])
+    (λ ca added removed. line.Command ca (commands.UpdateRoas added removed))
+table row.List = entry (codes "list") []
+    line.List
+table row.Show = entry (codes "show") (required Ca ∷ [])
+    (λ ca. line.Show ca)
+table row.RoasList = entry (codes "roas list") (required Ca ∷ [])
+    (λ ca. line.Roas ca)
+table row.HistoryCommands = entry (codes "history commands") (required Ca ∷ [])
+    (λ ca. line.History ca)
 
-abbrev pub name : Field → Slots → (List ℕ → Result Line LineFault) → Result Line LineFault
-name f s rest = with_field f (as_name (s f)) rest
+abbrev pub rows : List Row
+rows =
+    row.Add ∷ row.Delete ∷ row.ParentsAdd ∷ row.ChildrenAdd ∷ row.ChildrenUpdate ∷ row.ChildrenRemove ∷ row.ChildrenSuspend
+    ∷ row.ChildrenUnsuspend ∷ row.RoasUpdate ∷ row.List ∷ row.Show ∷ row.RoasList ∷ row.HistoryCommands ∷ []
 
-abbrev pub number : Field → ℕ → Slots → (ℕ → Result Line LineFault) → Result Line LineFault
-number f default s rest = with_field f (as_number (or_default (slot.Number default) (s f))) rest
+-- ---- what the table says of a row
 
-abbrev pub resources : Field → Slots → (Resources → Result Line LineFault) → Result Line LineFault
-resources f s rest = with_field f (as_resources (s f)) rest
+-- the text of the member `command`
+abbrev pub command_of : Row → List ℕ
+command_of of = (table of).command
 
-abbrev pub origins : Field → Slots → (List Origin → Result Line LineFault) → Result Line LineFault
-origins f s rest = with_field f (as_origins (or_default (slot.Origins []) (s f))) rest
+abbrev pub row_named : List ℕ → Option Row
+row_named text = first_named command_of rows text
 
-abbrev pub command : List ℕ → Command → Result Line LineFault
-command ca meant = Ok (line.Command ca meant)
+-- the row's fields, in the order in which they are read
+abbrev pub fields_of : Row → List Field
+fields_of of = map (λ (f : RowField). f.field) (table of).fields
 
--- A row's fields are read in their order: the first that is missing, of another type or outside its
--- grammar is the fault. A new authority is added by the anchor.
+-- what the slots of the row's fields come to
 abbrev pub line_at : Row → Slots → Result Line LineFault
-line_at row.Add s = name Ca s (λ new. number Signer 0 s (λ signer. command anchor (commands.Add new signer)))
-line_at row.Delete s = name Ca s (λ ca. command ca commands.Delete)
-line_at row.ParentsAdd s = name Ca s (λ ca. name Parent s (λ parent. command ca (commands.AddParent parent)))
-line_at row.ChildrenAdd s = name Ca s (λ ca. name Child s (λ child. resources field.Resources s (λ grant. command ca (commands.AddChild child grant))))
-line_at row.ChildrenUpdate s = name Ca s (λ ca. name Child s (λ child. resources field.Resources s (λ grant. command ca (commands.UpdateChild child grant))))
-line_at row.ChildrenRemove s = name Ca s (λ ca. name Child s (λ child. command ca (commands.RemoveChild child)))
-line_at row.ChildrenSuspend s = name Ca s (λ ca. name Child s (λ child. command ca (commands.SuspendChild child)))
-line_at row.ChildrenUnsuspend s = name Ca s (λ ca. name Child s (λ child. command ca (commands.UnsuspendChild child)))
-line_at row.RoasUpdate s = name Ca s (λ ca. origins field.Add s (λ added. origins Remove s (λ removed. command ca (commands.UpdateRoas added removed))))
-line_at row.List s = Ok line.List
-line_at row.Show s = name Ca s (λ ca. Ok (line.Show ca))
-line_at row.RoasList s = name Ca s (λ ca. Ok (line.Roas ca))
-line_at row.HistoryCommands s = name Ca s (λ ca. Ok (line.History ca))
+line_at of s = (table of).line s
+
+-- the row has the field, or it is `command`
+abbrev pub takes : Row → Field → Bool
+takes of f = (place_of f == place_of field.Command) || is_among (fields_of of) f
+
+abbrev pub takes_some : Row → Option Field → Bool
+takes_some of None = false
+takes_some of (Some f) = takes of f
+
+-- the row has a member of that name
+abbrev pub is_member : Row → List ℕ → Bool
+is_member of name = takes_some of (field_named name)
+
+-- the first member in byte order that the row doesn't have
+abbrev pub first_other : Row → Members → Option (List ℕ)
+first_other of no_members = None
+first_other of (member name value more) = if is_member of name then first_other of more else Some name
 
 -- the line that the fields come to, where there is no other member
 abbrev pub only : Result Line LineFault → Option (List ℕ) → Result Line LineFault

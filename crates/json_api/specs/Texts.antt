@@ -20,7 +20,8 @@ use Rattle.json_api.specs.declared.texts.RoaWord.TheVariants as roa
 use Rattle.json_api.specs.declared.texts.StageWord.{StageWord}
 use Rattle.json_api.specs.declared.texts.StageWord.TheVariants as stage
 use Rattle.json_api.specs.declared.texts.Shown.{Shown}
-use Rattle.json_api.specs.Names.{name_of, command_of}
+use Rattle.json_api.specs.Names.{name_of}
+use Rattle.json_api.specs.Table.{command_of}
 
 -- texts with a comma between each two
 abbrev pub commas : List (List ℕ) → List ℕ

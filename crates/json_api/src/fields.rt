@@ -1,7 +1,8 @@
 //! The members that lines have, and the rows of the table of lines.
 
 ghost use Rattle.std.specs.Prelude.{◌≡◌};
-ghost use Rattle.json_api.specs.Names.{name_of, place_of, kind_of, fields, field_named, row_named, command_of, fields_of, is_among, takes, is_member};
+ghost use Rattle.json_api.specs.Names.{name_of, place_of, kind_of, field_named};
+ghost use Rattle.json_api.specs.Table.{row_named, command_of};
 
 /// A member that some line of the table has. They stand in byte order of their names.
 #[derive(Clone, Copy, Debug, PartialEq, Eq)]
@@ -165,47 +166,4 @@ impl Row {
             Row::HistoryCommands => "history commands",
         }
     }
-
-    /// The row's fields, in the order in which they are read.
-    fn fields(self) -> &'static [Field]
-        ensures { result.now ≡ fields_of self }
-    {
-        match self {
-            Row::Add => &[Field::Ca, Field::Signer],
-            Row::ParentsAdd => &[Field::Ca, Field::Parent],
-            Row::ChildrenAdd | Row::ChildrenUpdate => {
-                &[Field::Ca, Field::Child, Field::Resources]
-            }
-            Row::ChildrenRemove | Row::ChildrenSuspend | Row::ChildrenUnsuspend => {
-                &[Field::Ca, Field::Child]
-            }
-            Row::RoasUpdate => &[Field::Ca, Field::Add, Field::Remove],
-            Row::Delete | Row::Show | Row::RoasList | Row::HistoryCommands => &[Field::Ca],
-            Row::List => &[],
-        }
-    }
-
-    /// Whether `command` or a field of the row stands at that place.
-    pub(crate) fn takes(self, field: Field) -> bool
-        ensures { result ≡ takes self field }
-    {
-        field.place() == Field::Command.place() || is_among(self.fields(), field)
-    }
-
-    /// Whether the row has a member of that name.
-    pub(crate) fn has(self, name: &str) -> bool
-        ensures { result ≡ is_member self name.now }
-    {
-        match Field::named(name) {
-            Some(field) => self.takes(field),
-            None => false,
-        }
-    }
-}
-
-fn is_among(fields: &[Field], field: Field) -> bool
-    ensures { result ≡ is_among fields.now field }
-{
-    let place = field.place();
-    fields.iter().any(|other| other.place() == place)
 }

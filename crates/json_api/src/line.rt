@@ -6,14 +6,14 @@ ghost use Rattle.serde_json.specs.Read.{read};
 ghost use Rattle.serde_json.specs.View.{view};
 ghost use Rattle.json_api.specs.Names.{name_of};
 ghost use Rattle.json_api.specs.Slots.{slot_at};
-ghost use Rattle.json_api.specs.Table.{line_at, line_of, only};
+ghost use Rattle.json_api.specs.Table.{only};
 ghost use Rattle.json_api.specs.Line.{ReadsLine, ReadsValue};
 ghost use Rattle.json_api.specs.declared.line.LineFault.TheVariants.{Memory};
 
-use crate::fields::{Field, Row};
+use crate::fields::Field;
 use crate::slots::{Slot, Slots};
 use crate::tokens::read_slots;
-use crate::values::{first_other, slots_of};
+use crate::values::{first_left, slots_of};
 use authority_book::Command;
 use json::Scratch;
 use names::Name;
@@ -163,8 +163,8 @@ impl LineReader {
             return Err(LineFault::BadLine);
         };
         self.slots.clear();
-        if let Some(row) = read_plain(alloc, text, &mut self.scratch, &mut self.slots)? {
-            return row.line(alloc, &mut self.slots);
+        if let Some(line) = read_plain(alloc, text, &mut self.scratch, &mut self.slots)? {
+            return Ok(line);
         }
         let value = read_value(alloc, text)?;
         line_in(alloc, &value)
@@ -178,27 +178,32 @@ pub fn read_line(alloc: Global, line: &[u8]) -> Result<Line, LineFault>
     LineReader::new(alloc).read(alloc, line)
 }
 
-// The row of the line that the text is, where its tokens tell it and fill the slots. It is `None` for
-// any other text, and for some that are lines.
+// The line that the text is, or its fault, where its tokens tell it. It is `None` for any other text,
+// and for some that are lines.
 fn read_plain(
     alloc: Global,
     text: &str,
     scratch: &mut Scratch,
     slots: &mut Slots,
-) -> Result<Option<Row>, AllocError>
+) -> Result<Option<Line>, LineFault>
     requires absent { (f : Field) → slot_at slots.old f ≡ Slot.Absent }
-    ensures { IfOk result (λ found. IfSome found (λ row. (value : Data)
-        × (read text.now ≡ Some value)
-        × ((line : Result Line LineFault) → line ≡ line_at row (slot_at slots.new)
-        → ReadsValue value line))) }
+    ensures { MatchResult result
+        (λ found. IfSome found (λ line. (value : Data)
+        × (read text.now ≡ Some value) × ReadsValue value (Ok line)))
+        (λ fault. fault ≢ Memory → (value : Data)
+        × (read text.now ≡ Some value) × ReadsValue value (Err fault)) }
 {
     if !read_slots(alloc, text, scratch, slots)? {
         return Ok(None);
     }
-    match slots.row() {
-        Some(row) if slots.are_taken(row) => Ok(Some(row)),
-        _ => Ok(None),
+    let Some(row) = slots.row() else {
+        return Ok(None);
+    };
+    let line = row.line(alloc, slots)?;
+    if !slots.are_taken() {
+        return Ok(None);
     }
+    Ok(Some(line))
 }
 
 // The JSON value that the text is.
@@ -225,7 +230,7 @@ fn line_in(alloc: Global, value: &Value) -> Result<Line, LineFault>
         return Err(LineFault::UnknownCommand);
     };
     let found = row.line(alloc, &mut slots);
-    let other = first_other(alloc, members, row)?;
+    let other = first_left(alloc, members, &slots)?;
     only(found, other)
 }
 

@@ -1,8 +1,8 @@
-//! The rows of the table: what the fields of a line come to.
+//! The rows of the table: each takes its fields out of the slots, and makes a line of them.
 
-ghost use Rattle.std.specs.Prelude.{◌≡◌, ◌≢◌, Err, IsTrue, length};
-ghost use Rattle.json_api.specs.Table.{anchor, line_at};
-ghost use Rattle.json_api.specs.Slots.{slot_at};
+ghost use Rattle.std.specs.Prelude.{◌≡◌, ◌≢◌, Err, OnOk};
+ghost use Rattle.json_api.specs.Table.{anchor, fields_of, line_at};
+ghost use Rattle.json_api.specs.Slots.{slot_at, left_of};
 ghost use Rattle.json_api.specs.declared.line.LineFault.TheVariants.{Memory};
 
 use crate::fields::{Field, Row};
@@ -13,9 +13,10 @@ use names::Name;
 use std::alloc::Global;
 
 impl Row {
-    /// The line of that row, where no other member stands in it.
+    /// The line of that row, where no other member is left.
     pub(crate) fn line(self, alloc: Global, slots: &mut Slots) -> Result<Line, LineFault>
-        ensures { result ≢ Err Memory → result ≡ line_at self (slot_at slots.old) }
+        ensures line { result ≢ Err Memory → result ≡ line_at self (slot_at slots.old) }
+        ensures left { OnOk result (slots.new ≡ left_of (fields_of self) slots.old) }
     {
         match self {
             Row::Add => add(slots),
@@ -44,8 +45,9 @@ fn anchor() -> Name
     }
 }
 
-fn add(slots: &Slots) -> Result<Line, LineFault>
-    ensures { result ≡ line_at Row.Add (slot_at slots.now) }
+fn add(slots: &mut Slots) -> Result<Line, LineFault>
+    ensures line { result ≡ line_at Row.Add (slot_at slots.old) }
+    ensures left { OnOk result (slots.new ≡ left_of (fields_of Row.Add) slots.old) }
 {
     let name = slots.name(Field::Ca)?;
     let signer = slots.number_or(Field::Signer, 0)?;
@@ -56,16 +58,18 @@ fn add(slots: &Slots) -> Result<Line, LineFault>
     })
 }
 
-fn delete(slots: &Slots) -> Result<Line, LineFault>
-    ensures { result ≡ line_at Row.Delete (slot_at slots.now) }
+fn delete(slots: &mut Slots) -> Result<Line, LineFault>
+    ensures line { result ≡ line_at Row.Delete (slot_at slots.old) }
+    ensures left { OnOk result (slots.new ≡ left_of (fields_of Row.Delete) slots.old) }
 {
     let name = slots.name(Field::Ca)?;
     let command = Command::Delete;
     Ok(Line::Command { name, command })
 }
 
-fn add_parent(slots: &Slots) -> Result<Line, LineFault>
-    ensures { result ≡ line_at Row.ParentsAdd (slot_at slots.now) }
+fn add_parent(slots: &mut Slots) -> Result<Line, LineFault>
+    ensures line { result ≡ line_at Row.ParentsAdd (slot_at slots.old) }
+    ensures left { OnOk result (slots.new ≡ left_of (fields_of Row.ParentsAdd) slots.old) }
 {
     let name = slots.name(Field::Ca)?;
     let parent = slots.name(Field::Parent)?;
@@ -74,7 +78,8 @@ fn add_parent(slots: &Slots) -> Result<Line, LineFault>
 }
 
 fn add_child(slots: &mut Slots) -> Result<Line, LineFault>
-    ensures { result ≡ line_at Row.ChildrenAdd (slot_at slots.old) }
+    ensures line { result ≡ line_at Row.ChildrenAdd (slot_at slots.old) }
+    ensures left { OnOk result (slots.new ≡ left_of (fields_of Row.ChildrenAdd) slots.old) }
 {
     let name = slots.name(Field::Ca)?;
     let child = slots.name(Field::Child)?;
@@ -84,7 +89,8 @@ fn add_child(slots: &mut Slots) -> Result<Line, LineFault>
 }
 
 fn update_child(slots: &mut Slots) -> Result<Line, LineFault>
-    ensures { result ≡ line_at Row.ChildrenUpdate (slot_at slots.old) }
+    ensures line { result ≡ line_at Row.ChildrenUpdate (slot_at slots.old) }
+    ensures left { OnOk result (slots.new ≡ left_of (fields_of Row.ChildrenUpdate) slots.old) }
 {
     let name = slots.name(Field::Ca)?;
     let child = slots.name(Field::Child)?;
@@ -93,8 +99,9 @@ fn update_child(slots: &mut Slots) -> Result<Line, LineFault>
     Ok(Line::Command { name, command })
 }
 
-fn remove_child(slots: &Slots) -> Result<Line, LineFault>
-    ensures { result ≡ line_at Row.ChildrenRemove (slot_at slots.now) }
+fn remove_child(slots: &mut Slots) -> Result<Line, LineFault>
+    ensures line { result ≡ line_at Row.ChildrenRemove (slot_at slots.old) }
+    ensures left { OnOk result (slots.new ≡ left_of (fields_of Row.ChildrenRemove) slots.old) }
 {
     let name = slots.name(Field::Ca)?;
     let child = slots.name(Field::Child)?;
@@ -102,8 +109,9 @@ fn remove_child(slots: &Slots) -> Result<Line, LineFault>
     Ok(Line::Command { name, command })
 }
 
-fn suspend_child(slots: &Slots) -> Result<Line, LineFault>
-    ensures { result ≡ line_at Row.ChildrenSuspend (slot_at slots.now) }
+fn suspend_child(slots: &mut Slots) -> Result<Line, LineFault>
+    ensures line { result ≡ line_at Row.ChildrenSuspend (slot_at slots.old) }
+    ensures left { OnOk result (slots.new ≡ left_of (fields_of Row.ChildrenSuspend) slots.old) }
 {
     let name = slots.name(Field::Ca)?;
     let child = slots.name(Field::Child)?;
@@ -111,8 +119,9 @@ fn suspend_child(slots: &Slots) -> Result<Line, LineFault>
     Ok(Line::Command { name, command })
 }
 
-fn unsuspend_child(slots: &Slots) -> Result<Line, LineFault>
-    ensures { result ≡ line_at Row.ChildrenUnsuspend (slot_at slots.now) }
+fn unsuspend_child(slots: &mut Slots) -> Result<Line, LineFault>
+    ensures line { result ≡ line_at Row.ChildrenUnsuspend (slot_at slots.old) }
+    ensures left { OnOk result (slots.new ≡ left_of (fields_of Row.ChildrenUnsuspend) slots.old) }
 {
     let name = slots.name(Field::Ca)?;
     let child = slots.name(Field::Child)?;
@@ -121,7 +130,8 @@ fn unsuspend_child(slots: &Slots) -> Result<Line, LineFault>
 }
 
 fn update_roas(alloc: Global, slots: &mut Slots) -> Result<Line, LineFault>
-    ensures { result ≢ Err Memory → result ≡ line_at Row.RoasUpdate (slot_at slots.old) }
+    ensures line { result ≢ Err Memory → result ≡ line_at Row.RoasUpdate (slot_at slots.old) }
+    ensures left { OnOk result (slots.new ≡ left_of (fields_of Row.RoasUpdate) slots.old) }
 {
     let name = slots.name(Field::Ca)?;
     let added = slots.origins(alloc, Field::Add)?;
@@ -130,22 +140,25 @@ fn update_roas(alloc: Global, slots: &mut Slots) -> Result<Line, LineFault>
     Ok(Line::Command { name, command })
 }
 
-fn show(slots: &Slots) -> Result<Line, LineFault>
-    ensures { result ≡ line_at Row.Show (slot_at slots.now) }
+fn show(slots: &mut Slots) -> Result<Line, LineFault>
+    ensures line { result ≡ line_at Row.Show (slot_at slots.old) }
+    ensures left { OnOk result (slots.new ≡ left_of (fields_of Row.Show) slots.old) }
 {
     let name = slots.name(Field::Ca)?;
     Ok(Line::Show { name })
 }
 
-fn roas_list(slots: &Slots) -> Result<Line, LineFault>
-    ensures { result ≡ line_at Row.RoasList (slot_at slots.now) }
+fn roas_list(slots: &mut Slots) -> Result<Line, LineFault>
+    ensures line { result ≡ line_at Row.RoasList (slot_at slots.old) }
+    ensures left { OnOk result (slots.new ≡ left_of (fields_of Row.RoasList) slots.old) }
 {
     let name = slots.name(Field::Ca)?;
     Ok(Line::Roas { name })
 }
 
-fn history_commands(slots: &Slots) -> Result<Line, LineFault>
-    ensures { result ≡ line_at Row.HistoryCommands (slot_at slots.now) }
+fn history_commands(slots: &mut Slots) -> Result<Line, LineFault>
+    ensures line { result ≡ line_at Row.HistoryCommands (slot_at slots.old) }
+    ensures left { OnOk result (slots.new ≡ left_of (fields_of Row.HistoryCommands) slots.old) }
 {
     let name = slots.name(Field::Ca)?;
     Ok(Line::History { name })

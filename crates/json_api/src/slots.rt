@@ -1,12 +1,12 @@
 //! What a line's members hold, field by field.
 
-ghost use Rattle.std.specs.Prelude.{◌≡◌, ◌≢◌, [], ℕ, ◌<◌, MatchResult, Ok, Some, None, OnOk, slice_set, get_or, length, true, IsTrue};
-ghost use Rattle.json_api.specs.Names.{name_of, place_of};
-ghost use Rattle.json_api.specs.Table.{as_row, as_name, as_number, as_resources, as_origins, or_default};
-ghost use Rattle.json_api.specs.Slots.{slot_at, are_taken};
-ghost use Rattle.json_api.specs.declared.line.LineFault.TheVariants.{BadField};
+ghost use Rattle.std.specs.Prelude.{◌≡◌, ◌≢◌, [], ℕ, ◌<◌, Err, Some, None, slice_set, get_or, length};
+ghost use Rattle.json_api.specs.Names.{name_of, place_of, field_named};
+ghost use Rattle.json_api.specs.Rows.{as_row, held_or, of_field};
+ghost use Rattle.json_api.specs.Slots.{slot_at, is_taken, are_taken, is_taken_some};
+ghost use Rattle.json_api.specs.declared.line.LineFault.TheVariants.{BadField, Memory};
 
-use crate::fields::{FIELDS, Field, Row};
+use crate::fields::{FIELDS, Field, Kind, Row};
 use crate::line::{LineFault, MemberName};
 use authority_book::OriginList;
 use names::Name;
@@ -124,37 +124,35 @@ impl Slots {
         }
     }
 
-    /// The name that the field has.
-    pub(crate) fn name(&self, field: Field) -> Result<Name, LineFault>
-        ensures { MatchResult result
-            (λ name. as_name (slot_at self.now field) ≡ Some name)
-            (λ fault. (as_name (slot_at self.now field) ≡ None) × (fault ≡ BadField (name_of field))) }
+    /// Takes the name that the field has.
+    pub(crate) fn name(&mut self, field: Field) -> Result<Name, LineFault>
+        ensures value { result ≡ of_field field (held_or Kind.Name None (slot_at self.old field)) }
+        ensures left { self.new ≡ slice_set self.old (place_of field) Slot.Absent }
     {
-        match self.get(field) {
-            Slot::Name(name) => Ok(*name),
+        match self.take(field) {
+            Slot::Name(name) => Ok(name),
             _ => Err(bad_field(field)),
         }
     }
 
-    /// The number that the field has, or the default where it is left out.
-    pub(crate) fn number_or(&self, field: Field, default: u32) -> Result<u32, LineFault>
-        ensures { MatchResult result
-            (λ n. as_number (or_default (Slot.Number default) (slot_at self.now field)) ≡ Some n)
-            (λ fault. (as_number (or_default (Slot.Number default) (slot_at self.now field)) ≡ None)
-            × (fault ≡ BadField (name_of field))) }
+    /// Takes the number that the field has, or the default where it is left out.
+    pub(crate) fn number_or(&mut self, field: Field, default: u32) -> Result<u32, LineFault>
+        ensures value { result
+            ≡ of_field field (held_or Kind.Number (Some default) (slot_at self.old field)) }
+        ensures left { self.new ≡ slice_set self.old (place_of field) Slot.Absent }
     {
-        match self.get(field) {
+        match self.take(field) {
             Slot::Absent => Ok(default),
-            Slot::Number(n) => Ok(*n),
+            Slot::Number(n) => Ok(n),
             _ => Err(bad_field(field)),
         }
     }
 
     /// Takes the resources that the field has.
     pub(crate) fn resources(&mut self, field: Field) -> Result<Resources, LineFault>
-        ensures { MatchResult result
-            (λ held. as_resources (slot_at self.old field) ≡ Some held)
-            (λ fault. (as_resources (slot_at self.old field) ≡ None) × (fault ≡ BadField (name_of field))) }
+        ensures value { result
+            ≡ of_field field (held_or Kind.Resources None (slot_at self.old field)) }
+        ensures left { self.new ≡ slice_set self.old (place_of field) Slot.Absent }
     {
         match self.take(field) {
             Slot::Resources(held) => Ok(held),
@@ -164,11 +162,8 @@ impl Slots {
 
     /// Takes the origins that the field has, of which there are none where it is left out.
     pub(crate) fn origins(&mut self, alloc: Global, field: Field) -> Result<OriginList, LineFault>
-        ensures found { MatchResult result
-            (λ origins. as_origins (or_default (Slot.Origins []) (slot_at self.old field)) ≡ Some origins)
-            (λ fault. fault ≢ LineFault.Memory
-            → (as_origins (or_default (Slot.Origins []) (slot_at self.old field)) ≡ None)
-            × (fault ≡ BadField (name_of field))) }
+        ensures value { result ≢ Err Memory
+            → result ≡ of_field field (held_or Kind.Origins (Some []) (slot_at self.old field)) }
         ensures left { self.new ≡ slice_set self.old (place_of field) Slot.Absent }
     {
         match self.take(field) {
@@ -178,11 +173,28 @@ impl Slots {
         }
     }
 
-    /// Whether each member is one of the row's.
-    pub(crate) fn are_taken(&self, row: Row) -> bool
-        ensures { result ≡ are_taken row self.now }
+    // Whether the field is `command`, or nothing is left of it.
+    fn is_taken(&self, field: Field) -> bool
+        ensures { result ≡ is_taken self.now field }
     {
-        FIELDS.iter().all(|field| row.takes(*field) || matches!(self.get(*field), Slot::Absent))
+        field.place() == Field::Command.place() || matches!(self.get(field), Slot::Absent)
+    }
+
+    /// Whether no member is left but `command`.
+    pub(crate) fn are_taken(&self) -> bool
+        ensures { result ≡ are_taken self.now }
+    {
+        FIELDS.iter().all(|field| self.is_taken(*field))
+    }
+
+    /// Whether nothing is left of the member of that name.
+    pub(crate) fn is_name_taken(&self, name: &str) -> bool
+        ensures { result ≡ is_taken_some self.now (field_named name.now) }
+    {
+        match Field::named(name) {
+            Some(field) => self.is_taken(field),
+            None => false,
+        }
     }
 }
 

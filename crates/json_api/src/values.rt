@@ -10,8 +10,8 @@ ghost use Rattle.res_sets.specs.Sets.{RangeSet};
 ghost use Rattle.res_sets.specs.declared.holdings.Resources.{Resources};
 ghost use Rattle.origins.specs.declared.Origin.{Origin};
 ghost use Rattle.origins.specs.Origin.{SpellsOrigin};
-ghost use Rattle.json_api.specs.Names.{name_of, kind_of, row_named, first_other};
-ghost use Rattle.json_api.specs.Slots.{slot_at};
+ghost use Rattle.json_api.specs.Names.{name_of, kind_of};
+ghost use Rattle.json_api.specs.Slots.{slot_at, first_left};
 ghost use Rattle.json_api.specs.Line.{Tells, AreSlots, AreResources, IsSetText, is_set_name, all_names, IsOriginText, AreOriginTexts};
 
 use crate::fields::{Field, Kind, Row};
@@ -223,16 +223,16 @@ pub(crate) fn origin_of(text: &str) -> Option<Origin>
     }
 }
 
-/// The first member in byte order that the row doesn't have.
-pub(crate) fn first_other(
+/// The first member in byte order that is left in the slots, or that has none.
+pub(crate) fn first_left(
     alloc: Global,
     members: &Map<String, Value>,
-    row: Row,
+    left: &Slots,
 ) -> Result<Option<MemberName>, AllocError>
-    ensures { IfOk result (λ other. other ≡ first_other row (members_view members.now.entries)) }
+    ensures { IfOk result (λ other. other ≡ first_left left.now (members_view members.now.entries)) }
 {
     for (name, _) in members.iter() {
-        if !row.has(name) {
+        if !left.is_name_taken(name) {
             return Ok(Some(MemberName::copied(alloc, name)?));
         }
     }

@@ -1,6 +1,6 @@
 use Rattle.std.proofs.Common.{◌≡◌, Some}
 use Rattle.serde_json.specs.Data.{string}
-use Rattle.json_api.specs.Names.{row_named}
+use Rattle.json_api.specs.Table.{row_named}
 use Rattle.json_api.proofs.Passes.{text_read}
 use Rattle.json_api.proofs.tokens.take_row.Goals as goal
 
