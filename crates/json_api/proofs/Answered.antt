@@ -66,7 +66,7 @@ value_answers value ms slots left of result is are row taken says = record {
   are = are;
   says = says
       ∙ fault_first (line_at of (slot_at slots)) (first_left left ms) (first_other of ms) (λ meant fine.
-          ap (λ (rest : List Slot). first_left rest ms) (taken meant fine) ∙ first_left-other of ms slots (are_of_object value ms (slot_at slots) is are))
+      ap (λ (rest : List Slot). first_left rest ms) (taken meant fine) ∙ first_left-other of ms slots (are_of_object value ms (slot_at slots) is are))
       ∙ ap (λ (r : Option Row). of_row r (slot_at slots) ms) (sym row)
       ∙ ap (λ (o : Option Members). of_members o (slot_at slots)) (sym is);
 }

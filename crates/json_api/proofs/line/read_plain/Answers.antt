@@ -16,8 +16,8 @@ returns-in_err-line c =
     let fault = c.in_err-line.field-0.0 in
     let p = err_from_is_err_and c.from_residual-in_err-line.result c.from_residual-in_err-line.ensures.1 in
     rw (p.1, p.2) (λ fine.
-        let says : Err fault ≡ line_at c.in-Some.row (slot_at slots) = c.in_err-line.ensures.line (λ e. fine (cc)) in
-        (object found.0, found.1, row_refuses found.0 slots c.in-Some.row fault found.2 named says))
+    let says : Err fault ≡ line_at c.in-Some.row (slot_at slots) = c.in_err-line.ensures.line (λ e. fine (cc)) in
+    (object found.0, found.1, row_refuses found.0 slots c.in-Some.row fault found.2 named says))
 
 pub returns : goal.returns
 returns c =
