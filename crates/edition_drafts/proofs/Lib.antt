@@ -1,0 +1,5 @@
+pub mod Counting
+pub mod Found
+pub mod Numbers
+pub mod Sorting
+pub mod Steps

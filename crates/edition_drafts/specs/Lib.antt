@@ -1,0 +1,5 @@
+pub mod Drafts
+pub mod Views
+pub mod Drafting
+pub mod Serials
+pub mod UriOrder
