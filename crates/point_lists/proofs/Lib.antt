@@ -1,0 +1,10 @@
+pub mod Ordered
+pub mod Growing
+pub mod Found
+pub mod Uris
+pub mod Firsts
+pub mod Pointed
+pub mod Lists
+pub mod Named
+pub mod Merged
+pub mod Filed

@@ -1,0 +1,12 @@
+use Rattle.std.proofs.Common.{map, take}
+use Rattle.std.specs.List.{AllZip, zip}
+use Rattle.payloads.specs.ManifestFormats.{file_view}
+use Rattle.edition_publishers.specs.Certificates.{setting_of}
+use Rattle.edition_drafts.specs.Views.{draft_of}
+use Rattle.point_lists.proofs.Merged.{OfKey}
+use Rattle.point_lists.proofs.listing.files.Given as goal
+
+abbrev pub invariant-loop-manifest : goal.invariant-loop-manifest
+invariant-loop-manifest l =
+    AllZip (OfKey (setting_of l.at) l.touched (zip (map draft_of l.drafts) l.hashes))
+    (map (λ m. m.issuer.row.now) (take l.manifest-index l.manifests)) (map (map file_view) l.lists.items)
