@@ -1,5 +1,5 @@
 -- Files of a list, one more at a time, and by their names.
-use Rattle.std.proofs.Common.{◌≡◌, ℕ, ◌+◌, ◌-◌, ◌<◌, ◌≤◌, zero, suc, Bool, true, false, Option}
+use Rattle.std.proofs.Common.{◌≡◌, ℕ, ◌+◌, ◌<◌, zero, suc, true, false, Option}
 use Rattle.std.proofs.Common.{None, Some, Result, Ok, Err, List, [], ◌∷◌, ◌++◌, length, get_or}
 use Rattle.std.proofs.Common.{take, drop, map, refl, sym, ap, subst, ◌∙◌, arith}
 use denote.Ref.{Bor}
@@ -12,7 +12,6 @@ use Rattle.std.specs.Str.{bytes_eq}
 use Rattle.std.specs.Str.Pattern.{FindsTextPrefix}
 use Rattle.std.proofs.lemmas.List.{map-append, take_more, length-map, get_or-map}
 use Rattle.std.proofs.lemmas.List.Elements.{All-head, All-tail, filter_map-append}
-use Rattle.std.proofs.lemmas.List.Elements.{recursion_from_All, All-from_recursion}
 use Rattle.std.proofs.lemmas.List.Sorted.{All-permutation, IsPermutation-map}
 use Rattle.std.proofs.lemmas.Option.{slice_get-get_or, get_or_from_slice_get}
 use Rattle.std.proofs.lemmas.Slice.Zip.{get_or-zip, length-zip}
@@ -25,7 +24,7 @@ use Rattle.payloads.specs.declared.values.ListedFile.{ListedFile}
 use Rattle.edition_drafts.specs.Drafts.{Draft}
 use Rattle.edition_drafts.specs.Views.{draft_of}
 use Rattle.edition_drafts.specs.declared.draft.Draft as code
-use Rattle.point_lists.specs.Places.{items_at, AreInside}
+use Rattle.point_lists.specs.Places.{items_at}
 use Rattle.point_lists.specs.Files.{names_of, IsListable}
 use Rattle.point_lists.proofs.Ordered.{never}
 use Rattle.point_lists.proofs.Growing.{grown}

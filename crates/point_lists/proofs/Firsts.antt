@@ -1,11 +1,10 @@
 -- Of rows the first of each serial, as a function of the rows.
-use Rattle.std.proofs.Common.{◌≡◌, ℕ, ◌<◌, ◌≤◌, ◌==◌, nat_lt, ◌⊎◌, inl, inr, Bool, true, false}
-use Rattle.std.proofs.Common.{cond, ◌&&◌, Option, None, Some, List, [], ◌∷◌, map, find, refl, sym}
+use Rattle.std.proofs.Common.{◌≡◌, ℕ, ◌<◌, ◌==◌, nat_lt, inl, inr, Bool, true, false}
+use Rattle.std.proofs.Common.{cond, Option, Some, List, [], ◌∷◌, map, refl, sym}
 use Rattle.std.proofs.Common.{ap, subst, ◌∙◌, arith}
-use Rattle.std.specs.List.{All, AllZip, zip}
+use Rattle.std.specs.List.{All}
 use Rattle.std.specs.Cmp.{IsStrictWeakOrder}
 use Rattle.std.proofs.lemmas.Bool.{and_parts, and_from, eq-eqb, ne_eqb, ltb-true, ltb-false, eqb-true}
-use Rattle.std.proofs.lemmas.Bool.Decides.{nat_tests}
 use Rattle.std.proofs.lemmas.List.Elements.{All-head, All-tail}
 use Rattle.std.proofs.lemmas.List.MinMax.{IsStrictWeakOrder-by_number}
 use Rattle.der_forms.specs.Forms.{AreAll}
@@ -13,7 +12,7 @@ use Rattle.key_roll.specs.declared.rows.RevokedRow.{RevokedRow}
 use Rattle.crl_obj.specs.Values.{are_rising, rise_above}
 use Rattle.issue_values.specs.Bodies.{crl_entry}
 use Rattle.revoked_entries.specs.Firsts.{row_at, AreFirsts}
-use Rattle.point_lists.proofs.Ordered.{In, Below, Up, Steps, never, below-in, up-steps, unique, put}
+use Rattle.point_lists.proofs.Ordered.{In, Below, Up, Steps, below-in, up-steps, unique, put}
 use Rattle.point_lists.proofs.Ordered.{arranged, up-arranged}
 
 -- By serial.

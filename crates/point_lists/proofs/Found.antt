@@ -1,14 +1,13 @@
 -- What an index finds of a list.
 use Rattle.std.proofs.Common.{◌≡◌, ℕ, ◌+◌, ◌<◌, zero, suc, Bool, true, false, cond, ◌&&◌, Option}
-use Rattle.std.proofs.Common.{None, Some, List, [], ◌∷◌, ◌++◌, length, get_or, drop, map, filter}
+use Rattle.std.proofs.Common.{None, Some, List, [], ◌∷◌, length, map, filter}
 use Rattle.std.proofs.Common.{refl, sym, ap, subst, ◌∙◌, arith}
-use Rattle.std.specs.List.{slice_get, filter_map, All, cons_option}
+use Rattle.std.specs.List.{slice_get, cons_option}
 use Rattle.std.specs.Str.{bytes_eq}
-use Rattle.std.proofs.lemmas.List.{length-map}
-use Rattle.std.proofs.lemmas.List.Elements.{All-nil, All-cons, filter_agree}
+use Rattle.std.proofs.lemmas.List.Elements.{All-nil, All-cons}
 use Rattle.key_ids.specs.declared.identifier.KeyId.{KeyId}
 use Rattle.key_index.specs.declared.entries.Placed.{Placed}
-use Rattle.key_index.specs.Under.{places_under, is_under}
+use Rattle.key_index.specs.Under.{places_under}
 use Rattle.edition_keys.specs.Indexes.{placed_from, has_id, IsIndex}
 use Rattle.point_lists.specs.Places.{items_at, AreInside}
 

@@ -1,10 +1,7 @@
 -- Lists that grow, one more at a time.
-use Rattle.std.proofs.Common.{◌≡◌, ℕ, ◌+◌, ◌<◌, Option, List, [], ◌∷◌, ◌++◌, length, get_or, take}
-use Rattle.std.proofs.Common.{map, refl, sym, ap, subst, ◌∙◌}
+use Rattle.std.proofs.Common.{◌≡◌, ℕ, ◌+◌, ◌<◌, List, [], ◌∷◌, ◌++◌, length, get_or, take}
+use Rattle.std.proofs.Common.{map, sym, ap, ◌∙◌}
 use Rattle.std.proofs.lemmas.List.{take_more, map-append, append_assoc}
-use Rattle.key_ids.specs.declared.identifier.KeyId.{KeyId}
-use Rattle.key_index.specs.declared.entries.Placed.{Placed}
-use Rattle.edition_keys.specs.Indexes.{IsIndex}
 
 -- What is made of the items so far is appended, by what is made of one item more.
 pub grown : {A B : Type 0} (G : List A → List B) (g : A → List B)

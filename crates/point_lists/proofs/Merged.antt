@@ -1,7 +1,7 @@
 -- The files of a key.
-use Rattle.std.proofs.Common.{◌≡◌, ℕ, ◌+◌, ◌<◌, ◌⊎◌, inl, inr, Bool, true, false, cond, not, ◌&&◌}
+use Rattle.std.proofs.Common.{◌≡◌, ℕ, ◌+◌, ◌<◌, inl, inr, Bool, true, false, cond, not, ◌&&◌}
 use Rattle.std.proofs.Common.{◌||◌, Option, None, Some, List, [], ◌∷◌, ◌++◌, length, get_or, take}
-use Rattle.std.proofs.Common.{map, filter, refl, sym, ap, subst, ◌∙◌, arith}
+use Rattle.std.proofs.Common.{map, filter, refl, sym, ap, subst, ◌∙◌}
 use Rattle.std.specs.List.{All, AllByRecursion, AllZip, IsDistinct, list_any, zip}
 use Rattle.std.specs.List.Sorted.{IsStrictlySortedBy}
 use Rattle.std.specs.Ordering.{on, is_eq}
@@ -27,7 +27,7 @@ use Rattle.payloads.specs.declared.values.ListedFile.{ListedFile}
 use Rattle.issue_values.specs.Bodies.{AreListed}
 use Rattle.edition_keys.specs.Keys.{id_of}
 use Rattle.edition_keys.specs.Indexes.{has_id, IsIndex}
-use Rattle.edition_publishers.specs.Certificates.{Setting, is_key}
+use Rattle.edition_publishers.specs.Certificates.{Setting}
 use Rattle.edition_drafts.specs.Drafts.{Draft}
 use Rattle.point_lists.specs.Revoking.{is_touched}
 use Rattle.point_lists.specs.Touching.{has_uri, AreTouched}

@@ -1,5 +1,5 @@
 -- Names of files in a folder, and files by their names.
-use Rattle.std.proofs.Common.{◌≡◌, ℕ, ◌+◌, ◌<◌, zero, suc, ◌⊎◌, inl, inr, Bool, true, false, List}
+use Rattle.std.proofs.Common.{◌≡◌, ℕ, ◌+◌, ◌<◌, zero, suc, inl, inr, Bool, true, false, List}
 use Rattle.std.proofs.Common.{[], ◌∷◌, ◌++◌, length, get_or, map, refl, sym, ap, subst, ◌∙◌, arith}
 use Rattle.std.specs.List.{All, AllByRecursion, Contains, IsDistinct, slice_index_or}
 use Rattle.std.specs.List.Sorted.{IsPermutation, IsSortedBy}
@@ -15,14 +15,14 @@ use Rattle.std.proofs.lemmas.Cmp.{nat_list_cmp_total}
 use Rattle.std.proofs.lemmas.List.Elements.{All-head, All-tail}
 use Rattle.std.proofs.lemmas.List.MinMax.{ranks_by}
 use Rattle.std.proofs.lemmas.List.Sorted.{Contains-permutation, IsPermutation-map, IsPermutation-sym}
-use Rattle.std.proofs.lemmas.Map.Keys.{IsDistinct-head, IsDistinct-tail, IsDistinct-cons, IsDistinct-IsPermutation}
+use Rattle.std.proofs.lemmas.Map.Keys.{IsDistinct-head, IsDistinct-tail, IsDistinct-IsPermutation}
 use Rattle.std.proofs.lemmas.Map.Text.{is_eq-slice_cmp}
 use Rattle.std.proofs.lemmas.Slice.Eq.{bytes_eq-Decides, starts_is}
 use Rattle.payloads.specs.Order.{rises, rises_above}
 use Rattle.payloads.specs.ManifestFormats.{is_name_below}
 use Rattle.point_lists.specs.Files.{name_in, names_of, AreMerged, IsListable}
 use Rattle.point_lists.proofs.Ordered.{In, Up, Steps, never, up-steps, unique, arranged}
-use Rattle.point_lists.proofs.Ordered.{up-arranged, arranged-in, in-arranged, Apart, AllApart}
+use Rattle.point_lists.proofs.Ordered.{up-arranged, arranged-in, in-arranged, AllApart}
 
 abbrev pub File : Type 0
 File = List ℕ × List ℕ

@@ -1,30 +1,22 @@
 -- URIs that are sorted, and what is found among them.
 use Rattle.std.proofs.Common.{◌≡◌, ℕ, ◌<◌, ◌≤◌, ◌⊎◌, inl, inr, Bool, true, false, ◌||◌, List, []}
-use Rattle.std.proofs.Common.{◌∷◌, ◌++◌, length, get_or, map, Result, Ok, Err, refl, sym, ap, subst}
+use Rattle.std.proofs.Common.{◌∷◌, ◌++◌, length, get_or, map, Result, Ok, Err, refl, sym, ap}
 use Rattle.std.proofs.Common.{◌∙◌, arith}
-use denote.Param.Members.{Mut}
-use denote.Ref.{Bor}
-use Rattle.std.specs.Fn.{Called, ComparesAs}
 use Rattle.std.specs.List.{list_any, All}
 use Rattle.std.specs.List.Sorted.{IsPermutation, IsSearchInRange, IsBinarySearchResult, IsPartitionPoint}
-use Rattle.std.specs.Cmp.{IsStrictWeakOrder}
-use Rattle.std.specs.Ordering.{is_lt, is_eq}
+use Rattle.std.specs.Ordering.{is_eq}
 use Rattle.std.specs.Result.{is_ok}
 use Rattle.std.specs.Str.{bytes_eq}
-use Rattle.std.specs.declared.cmp.Ordering.{Ordering}
 use Rattle.std.specs.declared.cmp.Ordering.TheVariants.{Less, Equal, Greater}
 use Rattle.std.proofs.lemmas.Cmp.{nat_list_cmp_total}
-use Rattle.std.proofs.lemmas.Fn.{always_returns_same}
 use Rattle.std.proofs.lemmas.Bool.{cases_lt}
 use Rattle.std.proofs.lemmas.List.{map-append}
 use Rattle.std.proofs.lemmas.List.Folds.{list_any_at, list_any_none, list_any-append}
-use Rattle.std.proofs.lemmas.List.MinMax.{ranks_by}
 use Rattle.std.proofs.lemmas.List.Sorted.{searchable_from_sorted, list_any-IsPermutation}
 use Rattle.std.proofs.lemmas.Map.Text.{is_eq-slice_cmp}
 use Rattle.pub_set.specs.Objects.{uri_cmp}
 use Rattle.edition_publishers.specs.Certificates.{Setting}
 use Rattle.edition_drafts.specs.Drafts.{Draft}
-use Rattle.point_lists.specs.Revoking.{is_touched}
 use Rattle.point_lists.specs.Touching.{has_uri, AreByUri, AreTouched}
 
 -- ---- found by halves

@@ -9,7 +9,7 @@ use Rattle.key_roll.specs.declared.rows.RevokedRow.{RevokedRow}
 use Rattle.key_roll.specs.declared.issued.IssuedRow.{IssuedRow}
 use Rattle.edition_keys.specs.Keys.{id_of}
 use Rattle.edition_publishers.specs.Finding.{Keys}
-use Rattle.edition_publishers.specs.Certificates.{Setting, is_key, names_key}
+use Rattle.edition_publishers.specs.Certificates.{Setting, names_key}
 use Rattle.edition_drafts.specs.Drafts.{Draft}
 
 -- A URI that is put or withdrawn.

@@ -1,7 +1,6 @@
-use Rattle.std.proofs.Common.{◌≡◌, ◌<◌, ◌≤◌, ◌++◌, ℕ, List, length, get_or, map, take, refl, sym, ap, subst, ◌∙◌}
-use Rattle.std.specs.List.{All, AllZip, zip}
+use Rattle.std.proofs.Common.{◌≡◌, ◌++◌, List, length, map, sym, ap, subst, ◌∙◌}
+use Rattle.std.specs.List.{AllZip, zip}
 use Rattle.std.proofs.lemmas.List.{length-map, take_all}
-use Rattle.key_ids.specs.Places.{anchor_uri}
 use Rattle.payloads.specs.ManifestFormats.{file_view}
 use Rattle.edition_publishers.specs.Certificates.{setting_of}
 use Rattle.edition_drafts.specs.Views.{draft_of, manifest_of}

@@ -1,4 +1,4 @@
-use Rattle.std.proofs.Common.{◌≡◌, [], ◌++◌, List, map, ap, ◌∙◌}
+use Rattle.std.proofs.Common.{[], ◌++◌, List, map, ap, ◌∙◌}
 use Rattle.std.specs.List.{zip}
 use Rattle.std.specs.List.Sorted.{IsPermutation}
 use Rattle.der_forms.specs.Forms.{AreAll}

@@ -1,4 +1,4 @@
-use Rattle.std.proofs.Common.{◌≡◌, ◌<◌, List, Bool, false, length, map, refl, ap, ◌∙◌, arith, rules, vec_len}
+use Rattle.std.proofs.Common.{◌≡◌, ◌<◌, List, false, length, map, refl, ap, ◌∙◌, arith, rules, vec_len}
 use Rattle.std.proofs.lemmas.List.{length-map, take_all}
 use Rattle.std.proofs.lemmas.Simd.{splat_is_map}
 use Rattle.edition_drafts.specs.declared.draft.ManifestDraft.{ManifestDraft}
