@@ -18,17 +18,9 @@ test:
 	bash .ci/run
 
 bench:
-	python3 bench/lines
-	python3 bench/sets
-	python3 bench/der
-	python3 bench/commits
-	python3 bench/reopen
-	python3 bench/published
-	python3 bench/objects
-	python3 bench/rrdp
-	python3 bench/tree
-	python3 bench/audit
-	python3 bench/board
+	@status=0; for it in lines sets der commits reopen published objects rrdp tree audit board; do \
+	    echo "bench/$$it"; python3 "bench/$$it" || status=1; \
+	done; exit $$status
 
 seconds:
 	python3 bench/gate
