@@ -1,0 +1,58 @@
+-- Why one call stopped, and what signers keep.
+use Rattle.std.proofs.Common.{◌≡◌, ℕ, ◌<◌, List, [], ◌∷◌, length, refl, sym, ap, subst, ◌∙◌, inl, inr}
+use Rattle.signer_api.specs.State.{SignerState, CountsFault}
+use Rattle.signer_ring.specs.Ring.{Keeps, ChangesOne}
+use Rattle.ring_calls.specs.Calls.{Call, signer_of, after_call, IsStopped}
+use Rattle.ring_calls.specs.declared.fault.CallFault.{CallFault}
+use Rattle.ring_calls.specs.declared.fault.CallFault.TheVariants.{SignerFault, Memory}
+use Rattle.key_roll.specs.declared.rows.KeyRow.{KeyRow}
+use Rattle.object_signing.specs.Signed.{IsSigned, IsEnd}
+use Rattle.edition_keys.specs.declared.fault.MakeFault.{MakeFault}
+use Rattle.edition_keys.specs.declared.fault.MakeFault.TheVariants as faults
+use Rattle.edition_keys.specs.Faults.{fault_of}
+use Rattle.edition_signing.specs.Objects.{Answers}
+use Rattle.edition_signing.specs.Calls.{by_issuer, by_once}
+use Rattle.edition_signing.specs.Steps.{IsCalled, IsHalt}
+
+pub kept-all : (ring : List SignerState) → Keeps ring ring
+kept-all ring = record { count = refl; told = λ h. h; vouched = λ k d s h. h }
+
+pub kept-on : (old now after : List SignerState) → Keeps old now → Keeps now after → Keeps old after
+kept-on old now after a b = record {
+  count = b.count ∙ a.count;
+  told = λ h. b.told (a.told h);
+  vouched = λ k d s h. b.vouched k d s (a.vouched k d s h);
+}
+
+-- A signer that was there is there.
+pub there : (signer : ℕ) (old now : List SignerState) → Keeps old now → signer < length old → signer < length now
+there signer old now kept lt = subst (λ (n : ℕ). signer < n) (sym kept.count) lt
+
+-- ---- halts
+
+pub halt-of-end : (e : CallFault) (key : KeyRow) (bytes : List ℕ) (old new : List SignerState) → IsEnd key.signer key.key.bytes bytes old new e
+    → IsHalt (λ a. by_issuer key bytes a.last) old new (fault_of e)
+halt-of-end (SignerFault n) key bytes old new h =
+    (λ a. sym h.0, subst (λ (m : ℕ). ChangesOne m CountsFault old new) (sym h.0) h.1)
+halt-of-end Memory key bytes old new (inl same) = inl same
+halt-of-end Memory key bytes old new (inr (signature, call)) =
+    inr (record { once = []; content = []; last = signature }, call)
+
+pub halt-of-stop : (e : CallFault) (key : KeyRow) (bytes : List ℕ) (old new : List SignerState) → IsStopped key.signer old new e
+    → IsHalt (by_once key bytes) old new (fault_of e)
+halt-of-stop (SignerFault n) key bytes old new h =
+    (λ a. sym h.0, subst (λ (m : ℕ). ChangesOne m CountsFault old new) (sym h.0) h.1)
+halt-of-stop Memory key bytes old new h = inl h
+
+-- The same halt at calls that are the same.
+pub halt-as : (call other : Answers → Call) (old new : List SignerState) (fault : MakeFault) → ((a : Answers) → call a ≡ other a)
+    → IsHalt call old new fault → IsHalt other old new fault
+halt-as call other old new (faults.SignerFault n) e h = (λ a. ap signer_of (sym (e a)) ∙ h.0 a, h.1)
+halt-as call other old new (faults.KeyClash id) e h = absurd h
+halt-as call other old new faults.Memory e (inl same) = inl same
+halt-as call other old new faults.Memory e (inr (a, call-a)) = inr (a, call-a ∙ ap (after_call old) (e a))
+
+-- What one signature was, as a call.
+pub called-of : (key : KeyRow) (bytes signature : List ℕ) (old new : List SignerState) → IsSigned key.signer key.key.bytes bytes old new signature
+    → IsCalled old new (by_issuer key bytes signature)
+called-of key bytes signature old new h = record { signers = h.call; vouched = h.vouched }

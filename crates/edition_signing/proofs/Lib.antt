@@ -1,0 +1,10 @@
+pub mod Lists
+pub mod Going
+pub mod Halts
+pub mod Places
+pub mod Said
+pub mod Halves
+pub mod Finishing
+pub mod Routes
+pub mod Contents
+pub mod Ends

@@ -1,0 +1,4 @@
+mod Carried
+mod Following
+mod More
+mod Until

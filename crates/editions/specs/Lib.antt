@@ -1,0 +1,10 @@
+pub mod Edition
+pub mod Held
+pub mod Superseded
+pub mod Table
+pub mod Keys
+pub mod Wanted
+pub mod Objects
+pub mod Step
+pub mod Due
+pub mod Published
