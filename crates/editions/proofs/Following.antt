@@ -18,15 +18,15 @@ seam : (before : List Edition) (edition : Edition) (later : List Edition) →
 seam [] edition later = refl
 seam (first ∷ before) edition later = seam before edition later
 
-module _ (ground : Ground) where
-  serials_on : (before later : List Edition) → AreSteps ground (before ++ later) →
+module _ (footing : Ground) where
+  serials_on : (before later : List Edition) → AreSteps footing (before ++ later) →
       (state_after before).serial ≡ length before →
       (state_after (before ++ later)).serial ≡ length (before ++ later)
   serials_on before [] steps so_far = rw append-nil so_far
   serials_on before (edition ∷ later) steps so_far =
       let step = steps (length before) edition (seam before edition later) in
-      let here : IsStep ground step.0 before edition =
-      subst (λ taken. IsStep ground step.0 taken edition)
+      let here : IsStep footing step.0 before edition =
+      subst (λ taken. IsStep footing step.0 taken edition)
       (take-append_seam before (edition ∷ later)) step.1 in
       let next : (state_after (before ++ edition ∷ [])).serial ≡ length (before ++ edition ∷ []) =
       ap (λ (state : State). state.serial) (state_on first_state before (edition ∷ []))
@@ -34,9 +34,9 @@ module _ (ground : Ground) where
       subst (λ all. (state_after all).serial ≡ length all)
       (append_assoc before (edition ∷ []) later)
       (serials_on (before ++ edition ∷ []) later
-      (subst (AreSteps ground) (sym (append_assoc before (edition ∷ []) later)) steps) next)
+      (subst (AreSteps footing) (sym (append_assoc before (edition ∷ []) later)) steps) next)
 
-  pub serials_count : (editions : List Edition) → AreSteps ground editions →
+  pub serials_count : (editions : List Edition) → AreSteps footing editions →
       (state_after editions).serial ≡ length editions
   serials_count editions steps = serials_on [] editions steps refl
 
@@ -62,7 +62,7 @@ still [] edition place x there = absurd (none-some x there)
 still (first ∷ before) edition zero x there = there
 still (first ∷ before) edition (suc place) x there = still before edition place x there
 
-module _ (ground : Ground) (before : List Edition) (edition : Edition) where
+module _ (footing : Ground) (before : List Edition) (edition : Edition) where
   same_before : (place : ℕ) (x : Edition) → slice_get before place ≡ Some x →
       take place (before ++ edition ∷ []) ≡ take place before
   same_before place x there =
@@ -72,33 +72,33 @@ module _ (ground : Ground) (before : List Edition) (edition : Edition) where
   same_last : take (length before) (before ++ edition ∷ []) ≡ before
   same_last = take-append_seam before (edition ∷ [])
 
-  pub one_more : (clock : ℕ) → AreSteps ground before → IsStep ground clock before edition →
-      AreSteps ground (before ++ edition ∷ [])
+  pub one_more : (clock : ℕ) → AreSteps footing before → IsStep footing clock before edition →
+      AreSteps footing (before ++ edition ∷ [])
   one_more clock steps step = λ place x there. ⊎_elim
       (λ (old : slice_get before place ≡ Some x).
       let then = steps place x old in (
         then.0,
-        subst (λ (taken : List Edition). IsStep ground then.0 taken x)
+        subst (λ (taken : List Edition). IsStep footing then.0 taken x)
             (sym (same_before place x old)) then.1,
       ))
       (λ (new : (place ≡ length before) × (edition ≡ x)).
       let taken = ap (λ (n : ℕ). take n (before ++ edition ∷ [])) new.0 ∙ same_last in (
         clock,
-        subst (λ (all : List Edition). IsStep ground clock all x) (sym taken)
-            (subst (λ (one : Edition). IsStep ground clock before one) new.1 step),
+        subst (λ (all : List Edition). IsStep footing clock all x) (sym taken)
+            (subst (λ (one : Edition). IsStep footing clock before one) new.1 step),
       ))
       (placed before edition place x there)
 
-  pub one_less : AreSteps ground (before ++ edition ∷ []) → AreSteps ground before
+  pub one_less : AreSteps footing (before ++ edition ∷ []) → AreSteps footing before
   one_less steps = λ place x there.
       let now = steps place x (still before edition place x there) in (
         now.0,
-        subst (λ (taken : List Edition). IsStep ground now.0 taken x)
+        subst (λ (taken : List Edition). IsStep footing now.0 taken x)
             (same_before place x there) now.1,
       )
 
-  pub last_one : AreSteps ground (before ++ edition ∷ []) →
-      (clock : ℕ) × IsStep ground clock before edition
+  pub last_one : AreSteps footing (before ++ edition ∷ []) →
+      (clock : ℕ) × IsStep footing clock before edition
   last_one steps =
       let now = steps (length before) edition (seam before edition []) in
-      (now.0, subst (λ (taken : List Edition). IsStep ground now.0 taken edition) same_last now.1)
+      (now.0, subst (λ (taken : List Edition). IsStep footing now.0 taken edition) same_last now.1)

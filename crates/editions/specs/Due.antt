@@ -41,17 +41,17 @@ steps_next rows nexts =
 -- moment: an object, or a step of a key rollover.
 abbrev pub is_called_for :
     Ground → State → List ℕ → ℕ → List Resources → List IssuedRow → Bool
-is_called_for ground before cut moment sets issued =
+is_called_for footing before cut moment sets issued =
     (before.serial == 0) || grows before.cut cut || list_any (is_due moment) issued
-    || steps_next before.rows (next_keys (basis_at ground before cut moment sets))
+    || steps_next before.rows (next_keys (basis_at footing before cut moment sets))
 
 -- Whether an edition with that cut and moment is called for behind these, by the table of what they
 -- leave and by what the desks are certified for at the cut.
-pub record IsCalledFor (ground : Ground) (editions : List Edition) (cut : List ℕ) (moment : ℕ)
+pub record IsCalledFor (footing : Ground) (editions : List Edition) (cut : List ℕ) (moment : ℕ)
     (called : Bool) : Type 0 where
   pub sets : List Resources
-  pub certified : AreCertified (configs_at ground.lists cut) sets
+  pub certified : AreCertified (configs_at footing.lists cut) sets
   pub issued : List IssuedRow
   pub table : IsTable (set_after editions) issued
   pub answer :
-      is_called_for ground (state_after editions) cut moment sets issued ≡ called
+      is_called_for footing (state_after editions) cut moment sets issued ≡ called

@@ -32,27 +32,27 @@ yielded_for site names owed = record {
 
 -- How a relying party looks at the set of the edition, which has that anchor's key.
 abbrev pub looking : Ground → Edition → KeyRow → Setting
-looking ground edition anchor = record {
-  vouched = ground.vouched;
+looking footing edition anchor = record {
+  vouched = footing.vouched;
   anchor = anchor.key.bytes;
-  bases = ground.site;
+  bases = footing.site;
   moment = edition.moment;
 }
 
 -- The set is sound at the edition's moment under the key of the trust anchor, and yields the origins
 -- that are owed at the cut, each once.
-pub record IsPublished (ground : Ground) (edition : Edition) (set : Contents) : Type 0 where
+pub record IsPublished (footing : Ground) (edition : Edition) (set : Contents) : Type 0 where
   pub anchor : KeyRow
   pub current : row_of edition.rows 0 Current ≡ Some anchor
   pub objects : List Object
   pub ascending : IsAscending objects
   pub are : (uri : List ℕ) → content_at objects uri ≡ set uri
   pub visits : List Visit
-  pub sound : IsSoundBy (looking ground edition anchor) objects visits
+  pub sound : IsSoundBy (looking footing edition anchor) objects visits
   pub owed : List Owed
-  pub owes : AreOwed (configs_at ground.lists edition.cut) owed
+  pub owes : AreOwed (configs_at footing.lists edition.cut) owed
   pub yields : IsPermutation
-      (map (yielded_for ground.site (names_of (configs_at ground.lists edition.cut))) owed)
+      (map (yielded_for footing.site (names_of (configs_at footing.lists edition.cut))) owed)
       (yield visits)
   pub once : AllPairs (λ a b. a ≢ b) (yield visits)
 

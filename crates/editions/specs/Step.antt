@@ -99,9 +99,9 @@ counted standing keys entries key =
 
 -- What an edition with that cut and moment is made from, over what stood before it.
 abbrev pub basis_at : Ground → State → List ℕ → ℕ → List Resources → Basis
-basis_at ground before cut moment sets = record {
+basis_at footing before cut moment sets = record {
   rows = before.rows;
-  configs = configs_at ground.lists cut;
+  configs = configs_at footing.lists cut;
   sets = sets;
   moment = moment;
 }
@@ -109,11 +109,11 @@ basis_at ground before cut moment sets = record {
 -- What the edition is made from, and judged by.
 abbrev pub standing_at :
     Ground → State → Edition → List Resources → List Owed → List IssuedRow → Standing
-standing_at ground before edition sets owed issued = record {
-  basis = basis_at ground before edition.cut edition.moment sets;
+standing_at footing before edition sets owed issued = record {
+  basis = basis_at footing before edition.cut edition.moment sets;
   owed = owed;
   issued = issued;
-  site = ground.site;
+  site = footing.site;
 }
 
 -- The CRL of each key that gets a new one lists just what is superseded under it.
@@ -123,7 +123,7 @@ AreRevoked editions place standing keys entries =
     → AreSuperseded editions place (id_of key) (entries key)) keys
 
 -- All that the edition is made of, over what stood before it.
-pub record IsMadeOver (ground : Ground) (editions : List Edition) (edition : Edition)
+pub record IsMadeOver (footing : Ground) (editions : List Edition) (edition : Edition)
     (standing : Standing) : Type 0 where
   pub table : IsTable (set_after editions) standing.issued
   pub certified : AreCertified standing.basis.configs standing.basis.sets
@@ -133,7 +133,7 @@ pub record IsMadeOver (ground : Ground) (editions : List Edition) (edition : Edi
   pub entries : Entries
   pub rows : edition.rows ≡ map (counted standing keys entries) keys
   pub set : IsNewSet (record {
-    vouched = ground.vouched;
+    vouched = footing.vouched;
     standing = standing;
     keys = keys;
     entries = entries;
@@ -143,22 +143,22 @@ pub record IsMadeOver (ground : Ground) (editions : List Edition) (edition : Edi
   pub revoked : AreRevoked (editions ++ edition ∷ []) (length editions) standing keys entries
 
 -- The edition follows the others at that clock.
-pub record IsStep (ground : Ground) (clock : ℕ) (editions : List Edition) (edition : Edition)
+pub record IsStep (footing : Ground) (clock : ℕ) (editions : List Edition) (edition : Edition)
     : Type 0 where
   pub serial : edition.serial ≡ (state_after editions).serial + 1
   pub moment : edition.moment ≡ next_moment clock (state_after editions)
   pub dated : IsEditionMoment edition.moment
   pub counted : AreCounted edition
-  pub cut : IsCut ground.lists (state_after editions).cut edition.cut
+  pub cut : IsCut footing.lists (state_after editions).cut edition.cut
   pub sets : List Resources
   pub owed : List Owed
   pub issued : List IssuedRow
-  pub made : IsMadeOver ground editions edition
-      (standing_at ground (state_after editions) edition sets owed issued)
+  pub made : IsMadeOver footing editions edition
+      (standing_at footing (state_after editions) edition sets owed issued)
   pub changes :
       AreChanges (set_after editions) (set_after (editions ++ edition ∷ [])) edition.changes
 
 -- Each of the editions follows those before it, at some clock.
 abbrev pub AreSteps : Ground → List Edition → Type 0
-AreSteps ground editions = (place : ℕ) (edition : Edition) → slice_get editions place ≡ Some edition
-    → (clock : ℕ) × IsStep ground clock (take place editions) edition
+AreSteps footing editions = (place : ℕ) (edition : Edition) → slice_get editions place ≡ Some edition
+    → (clock : ℕ) × IsStep footing clock (take place editions) edition

@@ -22,23 +22,23 @@ pub fn editions_follow_one_another()
 
 /// Serials count editions, and moments rise.
 pub fn steps_count_up()
-    ensures serials { (ground : Ground) (editions : List Edition) → AreSteps ground editions
+    ensures serials { (footing : Ground) (editions : List Edition) → AreSteps footing editions
         → (state_after editions).serial ≡ length editions }
-    ensures moments { (ground : Ground) (editions : List Edition) (place : ℕ) (edition : Edition)
-        → AreSteps ground editions → slice_get editions place ≡ Some edition
+    ensures moments { (footing : Ground) (editions : List Edition) (place : ℕ) (edition : Edition)
+        → AreSteps footing editions → slice_get editions place ≡ Some edition
         → (state_after (take place editions)).moment < edition.moment }
 {}
 
 /// Editions each follow those before them where all but the last do, and the last follows the others.
 pub fn steps_come_one_by_one()
-    ensures another { (ground : Ground) (clock : ℕ) (editions : List Edition) (edition : Edition)
-        → AreSteps ground editions → IsStep ground clock editions edition
-        → AreSteps ground (editions ++ edition ∷ []) }
-    ensures others { (ground : Ground) (editions : List Edition) (edition : Edition)
-        → AreSteps ground (editions ++ edition ∷ []) → AreSteps ground editions }
-    ensures last { (ground : Ground) (editions : List Edition) (edition : Edition)
-        → AreSteps ground (editions ++ edition ∷ [])
-        → (clock : ℕ) × IsStep ground clock editions edition }
+    ensures another { (footing : Ground) (clock : ℕ) (editions : List Edition) (edition : Edition)
+        → AreSteps footing editions → IsStep footing clock editions edition
+        → AreSteps footing (editions ++ edition ∷ []) }
+    ensures others { (footing : Ground) (editions : List Edition) (edition : Edition)
+        → AreSteps footing (editions ++ edition ∷ []) → AreSteps footing editions }
+    ensures last { (footing : Ground) (editions : List Edition) (edition : Edition)
+        → AreSteps footing (editions ++ edition ∷ [])
+        → (clock : ℕ) × IsStep footing clock editions edition }
 {}
 
 /// An edition that follows others does so over more commands too, and with more that is vouched; so do

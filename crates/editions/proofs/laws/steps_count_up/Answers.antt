@@ -4,9 +4,9 @@ use Rattle.editions.proofs.Following.{serials_count, later_than}
 use Rattle.editions.proofs.laws.steps_count_up.Goals as goal
 
 pub returns-clause-serials : goal.returns-clause-serials
-returns-clause-serials c = λ ground editions steps. serials_count ground editions steps
+returns-clause-serials c = λ footing editions steps. serials_count footing editions steps
 
 pub returns-clause-moments : goal.returns-clause-moments
-returns-clause-moments c = λ ground editions place edition steps there.
+returns-clause-moments c = λ footing editions place edition steps there.
     let step = steps place edition there in
     rw (step.1.moment) (later_than step.0 (state_after (take place editions)))
