@@ -1,3 +1,4 @@
+pub mod AtOnce
 pub mod Decoded
 pub mod Exact
 pub mod FieldLaws

@@ -1,17 +1,18 @@
 //! The values in a text, each read up to the byte that ends it.
 
-ghost use Rattle.std.specs.Prelude.{IfOk, ◌≡◌, ◌+◌, length, Some, true};
+ghost use Rattle.std.specs.Prelude.{IfOk, IfSome, ◌≡◌, ◌+◌, length, Some, Ok, true};
 ghost use Rattle.std.specs.List.{list_all};
 ghost use Rattle.std.specs.Str.{IsUtf8};
 ghost use Rattle.rrdp_text.specs.Parts.{Gives};
 ghost use Rattle.rrdp_text.specs.Fields.{is_below, uri_above, hash, serial, session, content, is_digit};
 ghost use Rattle.rrdp_text.specs.Reading.{field};
-ghost use Rattle.rrdp_text.specs.Template.{quote, hash_in, content_in, opening_in};
+ghost use Rattle.rrdp_text.specs.Template.{quote, opens, hash_in, content_in, opening_in};
 
 use crate::fault::Stop;
 use crate::parts::{Alphabet, delimited, literal};
 use base64::DecodeAllocError;
 use base64::engine::general_purpose::STANDARD;
+use memchr::memchr;
 use std::alloc::Global;
 use uuid::Uuid;
 
@@ -125,16 +126,37 @@ pub(crate) fn opening<'a>(head: &[u8], bytes: &'a [u8]) -> Result<([u8; 16], u64
     Ok((session.into_bytes(), serial, rest))
 }
 
-#[tactic(auto, using(crate::proofs::Fronts::content_by), unfolding(crate::specs::Template::content_in))]
+/// The content that stands up to the next bracket, if that is Base64, and what is behind the bracket.
+fn content_at_once(alloc: Global, bytes: &[u8]) -> Option<(Vec<u8>, &[u8])>
+    ensures { IfSome result (λ p. field content opens bytes.now ≡ Ok (p.0.items, p.1.now)) }
+{
+    let end = memchr(b'<', bytes)?;
+    let content = STANDARD.decode(alloc, &bytes[..end]).ok()?;
+    Some((content, &bytes[end + 1..]))
+}
+
+#[tactic(auto, using(crate::proofs::Fronts::content_by))]
+/// The content up to its bracket, gone over byte by byte, so that a fault has its place.
+fn content_by_bytes(alloc: Global, bytes: &[u8]) -> Result<(Vec<u8>, &[u8]), Stop>
+    ensures { Gives (λ p. (p.0.items, p.1.now)) result (field content opens bytes.now) }
+{
+    let (text, rest) = delimited(Alphabet::Base64, b'<', bytes)?;
+    match STANDARD.decode(alloc, text) {
+        Ok(bytes) => Ok((bytes, rest)),
+        Err(DecodeAllocError::DecodeError(_)) => Err(stop_before(rest)),
+        Err(DecodeAllocError::OutOfMemory) => Err(Stop::Memory),
+    }
+}
+
+#[tactic(auto, unfolding(crate::specs::Template::content_in))]
 /// The bytes of an object, between their bracket and the end of the line.
 pub(crate) fn content(alloc: Global, bytes: &[u8]) -> Result<(Vec<u8>, &[u8]), Stop>
     ensures { Gives (λ p. (p.0.items, p.1.now)) result (content_in bytes.now) }
 {
     let rest = literal(bytes, b">")?;
-    let (text, rest) = delimited(Alphabet::Base64, b'<', rest)?;
-    match STANDARD.decode(alloc, text) {
-        Ok(bytes) => Ok((bytes, literal(rest, b"/publish>\n")?)),
-        Err(DecodeAllocError::DecodeError(_)) => Err(stop_before(rest)),
-        Err(DecodeAllocError::OutOfMemory) => Err(Stop::Memory),
-    }
+    let (content, rest) = match content_at_once(alloc, rest) {
+        Some(read) => read,
+        None => content_by_bytes(alloc, rest)?,
+    };
+    Ok((content, literal(rest, b"/publish>\n")?))
 }
