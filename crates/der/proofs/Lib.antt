@@ -1,3 +1,4 @@
 pub mod Appends
 pub mod Found
 pub mod Moves
+pub mod Turns

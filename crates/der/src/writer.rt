@@ -129,13 +129,36 @@ pub fn bits(_alloc: Global, out: &mut Vec<u8>, unused: u8, bytes: &[u8]) -> Resu
     or_undo(appended, out, len)
 }
 
+/// Brings the last bytes to the front, one after the other.
+fn turn_by_ones(bytes: &mut [u8], count: usize)
+    requires { count ≤ length bytes.old }
+    ensures { bytes.new ≡ drop (length bytes.old - count) bytes.old ++ take (length bytes.old - count) bytes.old }
+{
+    for _turn in 0..count {
+        bytes.rotate_right(1);
+    }
+}
+
+/// Brings the last bytes to the front. A rotation by more than one byte first fills a page on the stack,
+/// which costs more than some short moves.
+fn turn(bytes: &mut [u8], count: usize)
+    requires { count ≤ length bytes.old }
+    ensures { bytes.new ≡ drop (length bytes.old - count) bytes.old ++ take (length bytes.old - count) bytes.old }
+{
+    if bytes.len() < 2_048 {
+        turn_by_ones(bytes, count);
+    } else {
+        bytes.rotate_right(count);
+    }
+}
+
 /// Brings the last bytes to an earlier place.
 fn bring(bytes: &mut [u8], from: usize, count: usize)
     requires { from + count ≤ length bytes.old }
     ensures { bytes.new ≡ take from bytes.old
         ++ (drop (length bytes.old - count) bytes.old ++ drop from (take (length bytes.old - count) bytes.old)) }
 {
-    bytes[from..].rotate_right(count);
+    turn(&mut bytes[from..], count);
 }
 
 /// Appends a header, or nothing.
@@ -148,7 +171,7 @@ fn header(out: &mut Vec<u8>, tag: u8, len: usize) -> Result<(), AllocError>
     or_undo(pushed, out, before)
 }
 
-/// Makes an element of the bytes from that place on, which are shifted once.
+/// Makes an element of the bytes from that place on, in place.
 pub fn enclose(_alloc: Global, out: &mut Vec<u8>, from: usize, tag: u8) -> Result<(), AllocError>
     requires { from ≤ length out.old.items }
     ensures ok { OnOk result (out.new.items ≡ take from out.old.items ++ spelled tag (drop from out.old.items)) }
