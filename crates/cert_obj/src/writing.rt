@@ -26,6 +26,9 @@ use object_parts::{
 use signer_api::Signature;
 use std::alloc::{AllocError, Global};
 
+/// Room for what is signed of a certificate with few resources, so that it is written in one place.
+const ROOM: usize = 1_536;
+
 /// Appends the places and the resources of an authority.
 #[tactic(auto, using(std::proofs::Common::append_assoc), unfolding(crate::specs::Formats::published))]
 fn push_published(alloc: Global, out: &mut Vec<u8>, cert: &Cert) -> Result<(), AllocError>
@@ -228,7 +231,7 @@ impl Cert {
         requires { IsCert (cert_value self.now) }
         ensures { IfOk result (λ bytes. bytes.items ≡ signed_bytes (cert_value self.now)) }
     {
-        let mut out = Vec::new(alloc);
+        let mut out = Vec::with_capacity(alloc, ROOM)?;
         push_content(alloc, &mut out, self)?;
         der::enclose(alloc, &mut out, 0, SEQUENCE)?;
         Ok(out)

@@ -18,6 +18,12 @@ use sha2::{Digest as Hasher, Sha256};
 use signer_api::Signature;
 use std::alloc::{AllocError, Global};
 
+/// Room for the attributes.
+const ATTRIBUTES_ROOM: usize = 128;
+
+/// Room for what stands around a content and its certificate.
+const AROUND: usize = 560;
+
 /// Appends the kind of the content as an attribute.
 #[tactic(auto, using(std::proofs::Common::append_assoc))]
 fn push_content_type(alloc: Global, out: &mut Vec<u8>, kind: ObjectKind) -> Result<(), AllocError>
@@ -87,7 +93,7 @@ pub fn attributes(
     requires { IsMoment moment }
     ensures { IfOk result (λ bytes. bytes.items ≡ signed_attributes kind content.now moment) }
 {
-    let mut out = Vec::new(alloc);
+    let mut out = Vec::with_capacity(alloc, ATTRIBUTES_ROOM)?;
     push_attributes(alloc, &mut out, kind, &Sha256::digest(content), moment)?;
     der::enclose(alloc, &mut out, 0, SET)?;
     Ok(out)
@@ -259,7 +265,8 @@ pub fn write(
         signer: signer.bytes,
         signature: signature.bytes,
     };
-    let mut out = Vec::new(alloc);
+    let inside = content.len().saturating_add(certificate.len());
+    let mut out = Vec::with_capacity(alloc, inside.saturating_add(AROUND))?;
     push_identifier(alloc, &mut out, &SIGNED_DATA)?;
     let from = out.len();
     push_signed_data(alloc, &mut out, content, certificate, &said)?;

@@ -19,6 +19,9 @@ use der_forms::tags::{
 };
 use std::alloc::{AllocError, Global};
 
+/// Room for a signature with its algorithm, and for the header around all.
+const SIGNATURE_ROOM: usize = 288;
+
 /// Appends a time: a UTCTime through 2049, and a GeneralizedTime from 2050 on.
 pub fn push_time(alloc: Global, out: &mut Vec<u8>, seconds: u64) -> Result<(), AllocError>
     requires { IsMoment seconds }
@@ -203,7 +206,7 @@ pub fn write_signed(
     ensures { IfOk result (λ out. out.items
         ≡ spelled tag.sequence (whole.now ++ signature_form.spelling signature.now)) }
 {
-    let mut out = Vec::new(alloc);
+    let mut out = Vec::with_capacity(alloc, whole.len().saturating_add(SIGNATURE_ROOM))?;
     out.extend_from_slice(whole)?;
     push_signature_algorithm(alloc, &mut out)?;
     push_octet_bits(alloc, &mut out, signature)?;
