@@ -149,6 +149,16 @@ fn changes_of(
     Ok(changes)
 }
 
+/// The manifests behind the others, in room for just so many: an object is large beside its bytes.
+fn joined(objects: Vec<Object>, listed: Vec<Object>) -> Result<Vec<Object>, AllocError>
+    ensures { IfOk result (λ all. all.items ≡ objects.items ++ listed.items) }
+{
+    let (mut all, mut listed) = (objects, listed);
+    all.reserve_exact(listed.len())?;
+    all.append(&mut listed)?;
+    Ok(all)
+}
+
 /// What an edition publishes: its changes, and the rows of what it puts.
 pub fn publish(
     alloc: Global,
@@ -178,9 +188,8 @@ pub fn publish(
         → All (λ x. Any (IsIssued (setting_of at.now) course x) p.issued) (made_of course)) }
 {
     let mut rows = rows_of(alloc, at.work.moment, numbered, &objects, &listed)?;
-    let (mut objects, mut listed) = (objects, listed);
-    objects.append(&mut listed)?;
-    let mut changes = changes_of(alloc, at, &rows, objects)?;
+    let all = joined(objects, listed)?;
+    let mut changes = changes_of(alloc, at, &rows, all)?;
     changes.sort_by(|a, b| compare(a.uri(), b.uri()))?;
     rows.sort_by(|a, b| compare(&a.uri, &b.uri))?;
     Ok(Published {

@@ -13,16 +13,16 @@ use Rattle.edition_outcome.proofs.publishing.publish.Goals as goal
 pub changes_of-requires-clause-each : goal.changes_of-requires-clause-each
 changes_of-requires-clause-each c =
     many c.args.at.now.work.now.moment c.args.numbered.now c.args.objects.items c.args.listed.items
-    c.deref.result.now c.deref-2.result.now c.append.new.self.items c.in_ok-rows.rows.items c.deref-3.result.now
-    c.deref.ensures.value c.deref-2.ensures.value c.in_ok-rows.ensures c.in_ok-append.ensures.items c.deref-3.ensures.value
+    c.deref.result.now c.deref-2.result.now c.in_ok-all.all.items c.in_ok-rows.rows.items c.deref-3.result.now
+    c.deref.ensures.value c.deref-2.ensures.value c.in_ok-rows.ensures c.in_ok-all.ensures c.deref-3.ensures.value
     c.requires.whole
 
 pub returns-clause-rising : goal.returns-clause-rising
 returns-clause-rising c =
     let h = stage (setting_of c.args.at.now) c.args.numbered.now c.args.objects.items c.args.listed.items
-    c.deref.result.now c.deref-2.result.now c.append.new.self.items c.in_ok-rows.rows.items c.deref-3.result.now
+    c.deref.result.now c.deref-2.result.now c.in_ok-all.all.items c.in_ok-rows.rows.items c.deref-3.result.now
     c.in_ok-changes.changes.items c.deref.ensures.value c.deref-2.ensures.value c.in_ok-rows.ensures
-    c.in_ok-append.ensures.items c.deref-3.ensures.value c.in_ok-changes.ensures c.requires.whole c.requires.once in
+    c.in_ok-all.ensures c.deref-3.ensures.value c.in_ok-changes.ensures c.requires.whole c.requires.once in
     stage-rising (setting_of c.args.at.now) c.args.numbered.now c.args.objects.items c.args.listed.items
     c.in_ok-rows.rows.items c.in_ok-changes.changes.items c.new.result h
     (subst (IsPermutation c.in_ok-changes.changes.items) (sym c.new.ensures) c.in_ok-sort_by.ensures.permutation)
@@ -33,9 +33,9 @@ returns-clause-rising c =
 pub returns-clause-changes : goal.returns-clause-changes
 returns-clause-changes c = λ course of uri.
     let h = stage (setting_of c.args.at.now) c.args.numbered.now c.args.objects.items c.args.listed.items
-    c.deref.result.now c.deref-2.result.now c.append.new.self.items c.in_ok-rows.rows.items c.deref-3.result.now
+    c.deref.result.now c.deref-2.result.now c.in_ok-all.all.items c.in_ok-rows.rows.items c.deref-3.result.now
     c.in_ok-changes.changes.items c.deref.ensures.value c.deref-2.ensures.value c.in_ok-rows.ensures
-    c.in_ok-append.ensures.items c.deref-3.ensures.value c.in_ok-changes.ensures c.requires.whole c.requires.once in
+    c.in_ok-all.ensures c.deref-3.ensures.value c.in_ok-changes.ensures c.requires.whole c.requires.once in
     stage-wanted (setting_of c.args.at.now) c.args.numbered.now c.args.objects.items c.args.listed.items
     c.in_ok-rows.rows.items c.in_ok-changes.changes.items c.new.result course uri h
     (subst (IsPermutation c.in_ok-changes.changes.items) (sym c.new.ensures) c.in_ok-sort_by.ensures.permutation) of
@@ -43,9 +43,9 @@ returns-clause-changes c = λ course of uri.
 pub returns-clause-listed : goal.returns-clause-listed
 returns-clause-listed c =
     let h = stage (setting_of c.args.at.now) c.args.numbered.now c.args.objects.items c.args.listed.items
-    c.deref.result.now c.deref-2.result.now c.append.new.self.items c.in_ok-rows.rows.items c.deref-3.result.now
+    c.deref.result.now c.deref-2.result.now c.in_ok-all.all.items c.in_ok-rows.rows.items c.deref-3.result.now
     c.in_ok-changes.changes.items c.deref.ensures.value c.deref-2.ensures.value c.in_ok-rows.ensures
-    c.in_ok-append.ensures.items c.deref-3.ensures.value c.in_ok-changes.ensures c.requires.whole c.requires.once in
+    c.in_ok-all.ensures c.deref-3.ensures.value c.in_ok-changes.ensures c.requires.whole c.requires.once in
     stage-listed (setting_of c.args.at.now) c.args.numbered.now c.args.objects.items c.args.listed.items
     c.in_ok-rows.rows.items c.new-2.result c.in_ok-changes.changes.items h
     (subst (IsPermutation c.in_ok-rows.rows.items) (sym c.new-2.ensures) c.in_ok-sort_by-2.ensures.permutation)
@@ -56,9 +56,9 @@ returns-clause-listed c =
 pub returns-clause-count : goal.returns-clause-count
 returns-clause-count c = λ course of.
     let h = stage (setting_of c.args.at.now) c.args.numbered.now c.args.objects.items c.args.listed.items
-    c.deref.result.now c.deref-2.result.now c.append.new.self.items c.in_ok-rows.rows.items c.deref-3.result.now
+    c.deref.result.now c.deref-2.result.now c.in_ok-all.all.items c.in_ok-rows.rows.items c.deref-3.result.now
     c.in_ok-changes.changes.items c.deref.ensures.value c.deref-2.ensures.value c.in_ok-rows.ensures
-    c.in_ok-append.ensures.items c.deref-3.ensures.value c.in_ok-changes.ensures c.requires.whole c.requires.once in
+    c.in_ok-all.ensures c.deref-3.ensures.value c.in_ok-changes.ensures c.requires.whole c.requires.once in
     stage-count (setting_of c.args.at.now) c.args.numbered.now c.args.objects.items c.args.listed.items
     c.in_ok-rows.rows.items c.new-2.result c.in_ok-changes.changes.items course h
     (subst (IsPermutation c.in_ok-rows.rows.items) (sym c.new-2.ensures) c.in_ok-sort_by-2.ensures.permutation) of
@@ -66,9 +66,9 @@ returns-clause-count c = λ course of.
 pub returns-clause-issued : goal.returns-clause-issued
 returns-clause-issued c = λ course of.
     let h = stage (setting_of c.args.at.now) c.args.numbered.now c.args.objects.items c.args.listed.items
-    c.deref.result.now c.deref-2.result.now c.append.new.self.items c.in_ok-rows.rows.items c.deref-3.result.now
+    c.deref.result.now c.deref-2.result.now c.in_ok-all.all.items c.in_ok-rows.rows.items c.deref-3.result.now
     c.in_ok-changes.changes.items c.deref.ensures.value c.deref-2.ensures.value c.in_ok-rows.ensures
-    c.in_ok-append.ensures.items c.deref-3.ensures.value c.in_ok-changes.ensures c.requires.whole c.requires.once in
+    c.in_ok-all.ensures c.deref-3.ensures.value c.in_ok-changes.ensures c.requires.whole c.requires.once in
     stage-issued (setting_of c.args.at.now) c.args.numbered.now c.args.objects.items c.args.listed.items
     c.in_ok-rows.rows.items c.new-2.result c.in_ok-changes.changes.items course h
     (subst (IsPermutation c.in_ok-rows.rows.items) (sym c.new-2.ensures) c.in_ok-sort_by-2.ensures.permutation) of
