@@ -2,9 +2,10 @@
 
 ghost use Rattle.std.specs.Prelude.{◌≡◌, ◌<◌, length, All, IfOk, OnOk};
 
-use crate::fields::{fixed, parts};
+use crate::fields::parts;
 use crate::lists::{ids, key_rows, revoked as revoked_rows, roles};
 use anyhow::{Result, bail};
+use case_parts::fixed_of;
 use edition_keys::{MakeFault, kept_rows, make_keys};
 use items::Items;
 use key_roll::{NewKey, Role, Work};
@@ -16,7 +17,7 @@ use std::alloc::Global;
 
 /// A signer that made so many keys before.
 fn signer_of(alloc: Global, start: &str, before: &str) -> Result<Rehearsal> {
-    let mut signer = Rehearsal::new(fixed(alloc, start)?);
+    let mut signer = Rehearsal::new(fixed_of(alloc, start)?);
     for _ in 0..before.parse::<u64>()? {
         let _once = signer.sign_once(alloc, &Digest { bytes: [0; 32] })?;
     }
@@ -49,7 +50,7 @@ fn new_keys(alloc: Global, desks: &str) -> Result<Vec<NewKey>>
 }
 
 /// Whether the ring has one signer.
-pub fn has_one(ring: &Ring<Rehearsal>) -> Result<()>
+fn has_one(ring: &Ring<Rehearsal>) -> Result<()>
     ensures { OnOk result (length ring.now ≡ 1) }
 {
     if ring.len() != 1 {

@@ -1,11 +1,10 @@
-//! Cases of what an edition's objects are made of. Each line of standard input is one: its name, what is tried, and
-//! its fields, with tabs between them; a list's items have `|` between them, an item's fields `;`.
+//! Cases of the keys of an edition and of the entries of its CRLs. Each line of standard input is one: its name, what
+//! is tried, and its fields, with tabs between them; a list's items have `|` between them, an item's fields `;`.
 #![tactic(auto)]
 
 mod fields;
 mod keys;
 mod lists;
-mod objects;
 
 use anyhow::{Result, bail};
 use std::alloc::Global;
@@ -15,9 +14,6 @@ fn answer(alloc: Global, fields: &[&str]) -> Result<String> {
         [_, "keys", start, before, desks, rows] => keys::made(alloc, start, before, desks, rows),
         [_, "rows", roles, dropped, rows] => keys::kept(alloc, roles, dropped, rows),
         [_, "revoked", entries] => keys::revoked(alloc, entries),
-        [_, "anchor", start, moment, name, held] => {
-            objects::anchor(alloc, start, moment, name, held)
-        }
         _ => bail!("no such case"),
     }
 }

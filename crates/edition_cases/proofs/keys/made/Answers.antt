@@ -1,4 +1,4 @@
-use Rattle.std.proofs.Common.{◌<◌, ◌∙◌, ℕ, List, subst, sym}
+use Rattle.std.proofs.Common.{◌<◌, ℕ, List, subst, sym}
 use Rattle.std.specs.List.{All}
 use Rattle.key_roll.specs.declared.work.NewKey.{NewKey}
 use Rattle.edition_cases.proofs.keys.made.Goals as goal

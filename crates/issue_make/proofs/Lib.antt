@@ -1,0 +1,15 @@
+pub mod Assembled
+pub mod Coming
+pub mod ComesOut
+pub mod Coursed
+pub mod Found
+pub mod KeyRows
+pub mod Listable
+pub mod MakeStops
+pub mod Names
+pub mod Parts
+pub mod Planned
+pub mod Premises
+pub mod Signable
+pub mod Signed
+pub mod Stops

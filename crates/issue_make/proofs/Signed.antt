@@ -1,0 +1,99 @@
+-- A plan's lists as the signing sees them.
+use Rattle.std.proofs.Common.{◌≡◌, ℕ, List, [], ◌∷◌, length, map, refl, sym, ap, subst, ◌∙◌, arith}
+use Rattle.std.specs.List.{All, zip}
+use Rattle.std.proofs.lemmas.List.{length-map}
+use Rattle.issue_values.specs.Publishing.{publishing}
+use Rattle.payloads.specs.declared.values.ListedFile.{ListedFile}
+use Rattle.payloads.specs.ManifestFormats.{file_view}
+use Rattle.key_roll.specs.declared.rows.KeyRow.{KeyRow}
+use Rattle.edition_publishers.specs.Finding.{Keys}
+use Rattle.edition_publishers.specs.Certificates.{Setting, setting_of}
+use Rattle.edition_drafts.specs.Drafts as words
+use Rattle.edition_drafts.specs.Views.{draft_of, IsPlaced, IsSubjectPlaced}
+use Rattle.edition_drafts.specs.Serials.{given_serial}
+use Rattle.edition_drafts.specs.declared.draft.Draft as code
+use Rattle.edition_drafts.specs.declared.draft.ManifestDraft as manifests
+use Rattle.point_lists.specs.Tables.{IsTable}
+use Rattle.edition_signing.specs.Objects.{Entries, Files}
+use Rattle.signer_api.specs.State.{SignerState}
+use Rattle.point_lists.specs.Files.{AreMerged, kept_files, made_files}
+use Rattle.edition_signing.specs.Objects.{Signed}
+use Rattle.edition_signing.specs.Basis.{Basis, IsBasis, AreDrafts, AreManifests}
+use Rattle.edition_signing.specs.Made.{Way, AreMade}
+use Rattle.edition_signing.specs.declared.object.Object.{Object}
+use Rattle.edition_signing.specs.declared.edition.Edition.{Edition}
+use Rattle.issue_make.specs.Plans.{IsPlan}
+use Rattle.issue_make.specs.Signing.{basis_of}
+use Rattle.issue_make.specs.declared.plans.Plan.{Plan}
+use Rattle.issue_make.proofs.Parts.{all-of-map}
+
+pub is-basis : (edition : Edition) (keys : Keys) (rows : List KeyRow) (entries : Entries) (files : Files) (plan : Plan)
+    → edition.publishers.now ≡ plan.publishers.items → edition.revoked.now ≡ plan.revoked.items
+    → IsPlan (setting_of edition.setting.now) keys rows plan → plan.revoked.items ≡ map entries rows
+    → IsBasis edition (basis_of (setting_of edition.setting.now) keys rows entries files)
+is-basis edition keys rows entries files plan published revoked p is =
+    record { publishers = ap (map publishing) published ∙ p.publishers; entries = revoked ∙ is }
+
+pub are-drafts : (s : Setting) (keys : Keys) (rows : List KeyRow) (entries : Entries) (files : Files) (plan : Plan)
+    (ds : List code.Draft) (given : List ℕ)
+    → ds ≡ plan.drafts.items → given ≡ plan.serials.given.items → IsPlan s keys rows plan
+    → AreDrafts (basis_of s keys rows entries files) ds given
+are-drafts s keys rows entries files plan ds given e f p = record {
+  issuers = subst (λ (l : List code.Draft). All (λ d. IsPlaced rows d.issuer) l) (sym e) p.issuers;
+  subjects = subst (λ (l : List code.Draft). All (λ d. IsSubjectPlaced rows d.kind) l) (sym e) p.subjects;
+  serials = f ∙ (p.given ∙ ap (map (λ (d : code.Draft). given_serial (words.drafts s keys) (draft_of d))) (sym e));
+}
+
+twice : (files : Files) (ms : List manifests.ManifestDraft) → map files (map (λ m. m.issuer.row.now) ms) ≡ map (λ m. files m.issuer.row.now) ms
+twice files [] = refl
+twice files (m ∷ ms) = ap (λ (l : List (List (List ℕ × List ℕ))). files m.issuer.row.now ∷ l) (twice files ms)
+
+pub are-manifests : (s : Setting) (keys : Keys) (rows : List KeyRow) (entries : Entries) (plan : Plan)
+    (R : KeyRow → List (List ℕ × List ℕ) → Type 0) (ms listed : List manifests.ManifestDraft) (next : List ℕ) (lists : List (List ListedFile))
+    → ms ≡ plan.manifests.items → listed ≡ plan.manifests.items → next ≡ plan.serials.next.items → IsPlan s keys rows plan
+    → (table : IsTable R (map (λ m. m.issuer.row.now) listed) (map (map file_view) lists))
+    → AreManifests (basis_of s keys rows entries table.of) ms next lists
+are-manifests s keys rows entries plan R ms listed next lists e h f p table = record {
+  issuers = subst (λ (l : List manifests.ManifestDraft). All (λ d. IsPlaced rows d.issuer) l) (sym e) p.manifest_issuers;
+  serials = f ∙ p.next;
+  files = table.is ∙ (twice table.of listed ∙ ap (map (λ (m : manifests.ManifestDraft). table.of m.issuer.row.now)) (h ∙ sym e));
+}
+
+pub as-many : (files : Files) (ms : List manifests.ManifestDraft) (lists : List (List ListedFile))
+    → map (map file_view) lists ≡ map files (map (λ m. m.issuer.row.now) ms) → length lists ≡ length ms
+as-many files ms lists is =
+    let one : length (map (map file_view) lists) ≡ length lists = length-map lists (map file_view) in
+    let two : length (map files (map (λ (m : manifests.ManifestDraft). m.issuer.row.now) ms)) ≡ length (map (λ (m : manifests.ManifestDraft). m.issuer.row.now) ms) =
+    length-map (map (λ (m : manifests.ManifestDraft). m.issuer.row.now) ms) files in
+    let three : length (map (λ (m : manifests.ManifestDraft). m.issuer.row.now) ms) ≡ length ms = length-map ms (λ (m : manifests.ManifestDraft). m.issuer.row.now) in
+    let same = ap length is in
+    omega arith
+
+-- As many objects as drafts.
+pub as-many-made : (s : Setting) (b : Basis) (way : Way) (drafts : List words.Draft) (old new : List SignerState)
+    (objects : List Object) (made : List Signed) → AreMade s b way drafts old new objects made → length objects ≡ length drafts
+as-many-made s b way drafts old new objects made are =
+    let one : length (map (λ (o : Object). o.bytes) objects) ≡ length objects = length-map objects (λ (o : Object). o.bytes) in
+    let two : length (map way.bytes made) ≡ length made = length-map made way.bytes in
+    let three : length (map (λ (x : Signed). x.draft) made) ≡ length made = length-map made (λ (x : Signed). x.draft) in
+    let same : length (map (λ (o : Object). o.bytes) objects) ≡ length (map way.bytes made) = ap length are.bytes in
+    let each : length (map (λ (x : Signed). x.draft) made) ≡ length drafts = ap length are.each in
+    omega arith
+
+-- The files of manifests, from a table of them.
+pub lists-of : (s : Setting) (all : List words.Draft) (ds seen : List code.Draft) (ms listed : List manifests.ManifestDraft)
+    (hashes told : List (List ℕ)) (lists : List (List (List ℕ × List ℕ)))
+    → seen ≡ ds → listed ≡ ms → told ≡ hashes
+    → (table : IsTable (λ key list. AreMerged (kept_files s all key) (made_files s key (zip (map draft_of seen) told)) list)
+    (map (λ m. m.issuer.row.now) listed) lists)
+    → All (λ m. AreMerged (kept_files s all m.issuer.row.now) (made_files s m.issuer.row.now (zip (map draft_of ds) hashes))
+    (table.of m.issuer.row.now)) ms
+lists-of s all ds seen ms listed hashes told lists e f h table =
+    subst (λ (l : List (List ℕ)). All (λ m. AreMerged (kept_files s all m.issuer.row.now)
+    (made_files s m.issuer.row.now (zip (map draft_of ds) l)) (table.of m.issuer.row.now)) ms) h
+    (subst (λ (l : List code.Draft). All (λ m. AreMerged (kept_files s all m.issuer.row.now)
+    (made_files s m.issuer.row.now (zip (map draft_of l) told)) (table.of m.issuer.row.now)) ms) e
+    (subst (λ (l : List manifests.ManifestDraft). All (λ m. AreMerged (kept_files s all m.issuer.row.now)
+    (made_files s m.issuer.row.now (zip (map draft_of seen) told)) (table.of m.issuer.row.now)) l) f
+    (all-of-map (λ (key : KeyRow). AreMerged (kept_files s all key) (made_files s key (zip (map draft_of seen) told)) (table.of key))
+    (λ (m : manifests.ManifestDraft). m.issuer.row.now) listed table.each)))

@@ -1,0 +1,53 @@
+-- The objects of an edition before they are signed.
+use Rattle.std.specs.Prelude.{◌≡◌, ◌≢◌, ◌<◌, ◌≤◌, ◌^◌, List, ◌++◌, map, length, All, AllPairs}
+use Rattle.issue_values.specs.Publishing.{publishing}
+use Rattle.issue_values.specs.Bodies.{AreRevoked}
+use Rattle.key_roll.specs.declared.rows.KeyRow.{KeyRow}
+use Rattle.edition_keys.specs.Keys.{id_of}
+use Rattle.edition_publishers.specs.Finding.{Keys, Finds}
+use Rattle.edition_publishers.specs.Certificates.{Setting, publishing_of}
+use Rattle.edition_publishers.specs.declared.finder.KeyFinder.{KeyFinder}
+use Rattle.edition_drafts.specs.Drafts.{Draft, AreOrdered, serial_behind}
+use Rattle.edition_drafts.specs.Drafts as words
+use Rattle.edition_drafts.specs.Views.{draft_of, manifest_of, IsPlaced, IsSubjectPlaced}
+use Rattle.edition_drafts.specs.Serials.{given_serial}
+use Rattle.revoked_entries.specs.Firsts.{AreFirsts}
+use Rattle.point_lists.specs.Revoking.{has_point, candidates}
+use Rattle.point_lists.specs.Touching.{AreTouched}
+use Rattle.point_lists.specs.Tables.{IsTable}
+use Rattle.issue_make.specs.declared.plans.Plan.{Plan}
+
+-- All that is put.
+abbrev pub puts : Setting → Keys → List Draft
+puts s keys = words.drafts s keys ++ words.manifests s keys
+
+-- What the planning asks of the rows of the edition's keys.
+pub record CanPlan (s : Setting) (keys : Keys) (rows : List KeyRow) (finder : KeyFinder)
+    : Type 0 where
+  pub names : All (λ row. row.desk < length s.names) rows
+  pub finds : Finds keys finder
+  pub once : AllPairs (λ a b. a ≢ b) (map (λ d. d.uri) (puts s keys))
+  pub apart : AllPairs (λ a b. id_of a ≢ id_of b) rows
+  pub serials : All (λ row. row.next_serial < 2 ^ 62) rows
+  pub moment : 946_684_800 ≤ s.work.moment
+  pub revoked : All (λ row. AreRevoked s.work.moment row.revoked) rows
+
+-- It is the plan of that work over those rows.
+pub record IsPlan (s : Setting) (keys : Keys) (rows : List KeyRow) (plan : Plan) : Type 0 where
+  pub publishers : map publishing plan.publishers.items ≡ map (publishing_of s keys) rows
+  pub drafts : AreOrdered (words.drafts s keys) (map draft_of plan.drafts.items)
+  pub issuers : All (λ d. IsPlaced rows d.issuer) plan.drafts.items
+  pub subjects : All (λ d. IsSubjectPlaced rows d.kind) plan.drafts.items
+  pub manifests : AreOrdered (words.manifests s keys) (map manifest_of plan.manifests.items)
+  pub manifest_issuers : All (λ d. IsPlaced rows d.issuer) plan.manifests.items
+  pub touched : AreTouched s (puts s keys) plan.touched
+  pub listed : AreTouched s
+      (map draft_of plan.drafts.items ++ map manifest_of plan.manifests.items) plan.touched
+  pub points : plan.points.items ≡ map (has_point s keys) rows
+  pub entries :
+      IsTable (λ key entries. AreFirsts (candidates s keys (puts s keys) key) entries) rows
+      plan.revoked.items
+  pub revoked : All (AreRevoked s.work.moment) plan.revoked.items
+  pub given : plan.serials.given.items
+      ≡ map (λ d. given_serial (words.drafts s keys) (draft_of d)) plan.drafts.items
+  pub next : plan.serials.next.items ≡ map (serial_behind (words.drafts s keys)) rows

@@ -1,0 +1,2 @@
+pub mod AnchorFits
+pub mod Distinct
