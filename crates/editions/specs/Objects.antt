@@ -1,13 +1,11 @@
 -- The objects of an edition: what each says, and who signed it.
-use Rattle.std.specs.Prelude.{◌≡◌, ⊤, ℕ, Bool, true, false, not, ◌&&◌, List, map, filter}
+use Rattle.std.specs.Prelude.{◌≡◌, ⊤, ℕ, Bool, true, false, List, map, filter}
 use Rattle.std.specs.Prelude.{Option, None, Some, option_map, IsSome, ◌↔◌, All, Any, IsPermutation}
 use Rattle.std.specs.List.{filter_map}
-use Rattle.std.specs.Str.{bytes_eq}
 use Rattle.sha1.specs.Sha1.{sha1}
 use Rattle.sha2.specs.Sha256.{sha256}
 use Rattle.origins.specs.declared.Origin.{Origin}
 use Rattle.res_sets.specs.declared.holdings.Resources.{Resources}
-use Rattle.key_ids.specs.Places.{folder_of, anchor_uri}
 use Rattle.key_roll.specs.declared.rows.KeyRow.{KeyRow}
 use Rattle.cert_obj.specs.Values.{CertValue, SignedCert}
 use Rattle.crl_obj.specs.Values.{SignedCrl}
@@ -20,13 +18,12 @@ use Rattle.issue_values.specs.Bodies.{roa_of, crl_value_of, manifest_value_of}
 use Rattle.issue_plan.specs.Keys.{kept}
 use Rattle.issue_plan.specs.Wanted.{Standing, point_of}
 use Rattle.edition_keys.specs.Keys.{id_of}
-use Rattle.edition_publishers.specs.Certificates.{is_key, name_at}
 use Rattle.edition_drafts.specs.Drafts.{Draft, Kind}
 use Rattle.edition_drafts.specs.Drafts.{certificate_draft, roa_draft, crl_draft, manifest_draft, drafts}
 use Rattle.edition_drafts.specs.Drafts.Kind.{Certificate, Roa, Crl, Manifest}
 use Rattle.edition_signing.specs.Objects.{Entries, number_of}
 use Rattle.edition_signing.specs.Objects as values
-use Rattle.point_lists.specs.Files.{name_in}
+use Rattle.point_lists.specs.Files.{name_in, folder_at, is_made_under}
 use Rattle.editions.specs.Wanted.{there, whole, all_certificates, all_roas, all_objects, new_objects}
 use Rattle.editions.specs.Wanted.{keeps_certificate, keeps_roa, keeps_point}
 
@@ -89,24 +86,17 @@ pub record IsRoa (m : Making) (d : Draft) (origin : Origin) (bytes : List ℕ) :
       (values.roa_certificate (whole m.standing m.keys) (there m.keys)
       (new_objects m.standing m.keys) d origin roa.certificate.cert.key) (roa_of origin) roa
 
--- Whether the object is another file of the key. The trust anchor's own certificate is none.
-abbrev pub is_file_of : Standing → KeyRow → Draft → Bool
-is_file_of standing key d =
-    is_key d.issuer key && not (bytes_eq d.uri (anchor_uri standing.site))
-
 -- An object that stands in the set: its name in the folder, and its hash.
 abbrev pub file_of : Contents → List ℕ → Draft → Option (List ℕ × List ℕ)
 file_of new folder d = option_map (λ bytes. (name_in folder d.uri, sha256 bytes)) (new d.uri)
 
-abbrev pub folder_at : Making → KeyRow → List ℕ
-folder_at m key =
-    folder_of m.standing.site (name_at (whole m.standing m.keys).names key.desk)
-
--- By rising name, all other files of the key (RFC 9286 section 4.2.1).
+-- By rising name, all other files of the key, of which the trust anchor's own certificate is none
+-- (RFC 9286 section 4.2.1).
 pub record AreFiles (m : Making) (key : KeyRow) (files : List (List ℕ × List ℕ)) : Type 0 where
   pub all : IsPermutation
-      (filter_map (file_of m.new (folder_at m key))
-      (filter (is_file_of m.standing key) (drafts (whole m.standing m.keys) (there m.keys))))
+      (filter_map (file_of m.new (folder_at (whole m.standing m.keys) key))
+      (filter (is_made_under (whole m.standing m.keys) key)
+      (drafts (whole m.standing m.keys) (there m.keys))))
       files
   pub rising : rises is_name_below (map (λ file. file.0) files) ≡ true
 

@@ -1,0 +1,3 @@
+pub mod ByRows
+pub mod Planned
+pub mod Vouched
