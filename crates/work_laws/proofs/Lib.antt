@@ -1,0 +1,9 @@
+pub mod Accepted
+pub mod Among
+pub mod Certs
+pub mod Desks
+pub mod Held
+pub mod NextKeys
+pub mod Places
+pub mod Rest
+pub mod There
