@@ -23,3 +23,6 @@ mod Planned
 mod Entries
 mod Rows
 mod MadeObjects
+mod Permuted
+mod MadeManifests
+mod Dated

@@ -35,16 +35,16 @@ use Rattle.edition_laws.proofs.Reading.{signed_as, listed_as, certificate-back, 
 
 module _ (vouched : Vouched) (standing : Standing) (work : Work) (course : Course)
     (old new : Contents) (plan : AreOfPlan standing work course.keys) where
-  abbrev s : Setting
+  abbrev pub s : Setting
   s = made_from standing work
 
-  abbrev w : Setting
+  abbrev pub w : Setting
   w = whole standing plan.keys
 
-  abbrev all : List Draft
+  abbrev pub all : List Draft
   all = all_of s course
 
-  abbrev m : Making
+  abbrev pub m : Making
   m = record {
     vouched = vouched;
     standing = standing;
@@ -54,10 +54,10 @@ module _ (vouched : Vouched) (standing : Standing) (work : Work) (course : Cours
     new = new;
   }
 
-  all-same : all ≡ new_objects standing plan.keys
+  pub all-same : all ≡ new_objects standing plan.keys
   all-same = plan.drafts ∙ sym (all-new standing plan.keys)
 
-  published : (row : KeyRow)
+  pub published : (row : KeyRow)
       → publishing_of s course.keys row ≡ publishing_of w (there plan.keys) row
   published row =
       let of : Option (List ℕ) → Publishing = λ o. record {
@@ -109,10 +109,10 @@ module _ (vouched : Vouched) (standing : Standing) (work : Work) (course : Cours
 
   -- ---- objects
 
-  abbrev bytes_as : Signed → Kind → List ℕ
+  abbrev pub bytes_as : Signed → Kind → List ℕ
   bytes_as x kind = bytes_by s course.keys all course.entries x.draft kind x.answers
 
-  bytes-are : (x : Signed) (kind : Kind) → x.draft.kind ≡ kind → kind ≢ Manifest
+  pub bytes-are : (x : Signed) (kind : Kind) → x.draft.kind ≡ kind → kind ≢ Manifest
       → final_bytes s course x x.draft.kind ≡ bytes_as x kind
   bytes-are x kind is other =
       ap (final_bytes s course x) is ∙ (by kind other ∙ ap (bytes_as x) is)

@@ -1,6 +1,6 @@
 //! Laws of editions that follow one another.
 
-ghost use Rattle.std.specs.Prelude.{◌≡◌, ℕ, List, None, Some, [], ◌∷◌, ◌++◌, Contains, All, AllPairs, map, ◌≢◌};
+ghost use Rattle.std.specs.Prelude.{◌≡◌, ◌<◌, ℕ, List, None, Some, [], ◌∷◌, ◌++◌, Contains, All, AllPairs, map, ◌≢◌};
 ghost use Rattle.key_roll.specs.declared.rows.KeyRow.{KeyRow};
 ghost use Rattle.cert_obj.specs.Values.{SignedCert};
 ghost use Rattle.crl_obj.specs.Values.{SignedCrl};
@@ -14,18 +14,23 @@ ghost use Rattle.edition_outcome.specs.Outcome.{
   Course,
   AreKeys,
   IsCourse,
+  all_of,
   made_of,
+  puts_of,
   final_bytes,
   wanted_at,
   IsSpelled,
   is_before,
   row_after,
 };
+ghost use Rattle.edition_drafts.specs.Drafts.{Draft};
 ghost use Rattle.edition_drafts.specs.Drafts.Kind.{Manifest};
+ghost use Rattle.edition_signing.specs.Calls.{content_calls, last_calls};
+ghost use Rattle.point_lists.specs.Files.{kept_files};
 ghost use Rattle.der_forms.specs.Place.{IsInput};
 ghost use Rattle.rp_rules.specs.Certificates.{Vouched};
-ghost use Rattle.editions.specs.Objects.{IsObject};
-ghost use Rattle.edition_laws.specs.Vouched.{AreVouched};
+ghost use Rattle.editions.specs.Objects.{Making, moment_of, IsObject};
+ghost use Rattle.edition_laws.specs.Vouched.{IsVouchedBy, AreVouched};
 ghost use Rattle.edition_publishers.specs.Finding.{Keys, all_keys};
 ghost use Rattle.std.specs.List.Sorted.{IsSortedBy};
 ghost use Rattle.std.specs.Prelude.{IsPermutation};
@@ -35,7 +40,7 @@ ghost use Rattle.issue_plan.specs.Wanted.{Standing};
 ghost use Rattle.issue_plan.specs.Work.{IsWork};
 ghost use Rattle.edition_laws.specs.Planned.{made_from, AreOfPlan};
 ghost use Rattle.edition_keys.specs.Keys.{id_of};
-ghost use Rattle.editions.specs.Edition.{Edition, set_after, AreChanges};
+ghost use Rattle.editions.specs.Edition.{Edition, state_after, set_after, AreChanges};
 ghost use Rattle.editions.specs.Table.{IsTable};
 ghost use Rattle.editions.specs.Held.{HaveOwnSerials};
 ghost use Rattle.editions.specs.Superseded.{IsCrlOf};
@@ -141,6 +146,44 @@ pub fn makings_objects_are_new_ones()
           new = new;
         }) x.draft x.draft.kind (final_bytes (made_from standing work) course x x.draft.kind))
         course.objects }
+{}
+
+/// All that is made for the work of a plan reads as an edition's objects, manifests among it, where nothing of before
+/// stays, all but manifests stands, and all signatures are vouched.
+pub fn all_that_is_made_is_new()
+    ensures { (vouched : Vouched) (standing : Standing) (work : Work) (course : Course)
+        (old new : Contents) (plan : AreOfPlan standing work course.keys)
+        → IsCourse (made_from standing work) standing.basis.rows course
+        → ((key : KeyRow) → kept_files (made_from standing work)
+        (puts_of (made_from standing work) course) key ≡ [])
+        → All (λ x. new x.draft.uri
+        ≡ Some (final_bytes (made_from standing work) course x x.draft.kind)) course.objects
+        → All (λ x. IsInput (final_bytes (made_from standing work) course x x.draft.kind))
+        (made_of course)
+        → All (λ x. IsSpelled (made_from standing work) course x.draft x.draft.kind x.answers)
+        (made_of course)
+        → AreVouched vouched (made_from standing work) course
+        → All (IsVouchedBy vouched)
+        (content_calls (made_from standing work) course.files course.listed)
+        → All (IsVouchedBy vouched) (last_calls (made_from standing work) course.keys
+        (all_of (made_from standing work) course) course.listed)
+        → All (λ x. IsObject (record {
+          vouched = vouched;
+          standing = standing;
+          keys = plan.keys;
+          entries = course.entries;
+          old = old;
+          new = new;
+        }) x.draft x.draft.kind (final_bytes (made_from standing work) course x x.draft.kind))
+        (made_of course) }
+{}
+
+/// What an edition makes has its moment, so that it isn't what stood after those before it.
+pub fn what_is_made_did_not_stand()
+    ensures { (footing : Ground) (editions : List Edition) (m : Making) (d : Draft)
+        (bytes uri : List ℕ) → AreSteps footing editions
+        → (state_after editions).moment < moment_of m → IsObject m d d.kind bytes
+        → set_after editions uri ≢ Some bytes }
 {}
 
 /// What the making of an edition puts, each thing at a URI of its own, stands after its changes.

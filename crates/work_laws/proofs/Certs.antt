@@ -31,7 +31,7 @@ use Rattle.edition_drafts.specs.Drafts.Kind.{Certificate, Roa, Crl, Manifest}
 use Rattle.edition_outcome.specs.Outcome.{AreKeys}
 use Rattle.issue_plan.specs.declared.keys.NextKey.{NextKey}
 use Rattle.issue_plan.specs.Keys as plan
-use Rattle.issue_plan.specs.Keys.{next_keys, is_role, row_of, kept, turned, made, keys_after, asked_at, keys_of, keys_at, keys_of_first, holds_nothing}
+use Rattle.issue_plan.specs.Keys.{next_keys, is_role, row_of, kept, turned, made, keys_after, asked_at, keys_of, keys_at, keys_of_first}
 use Rattle.issue_plan.specs.Wanted as wanted
 use Rattle.issue_plan.specs.Wanted.{Standing, fits, current_of, current_at, parents_desk, issuer_of, certificate, certificate_of, wanted_certificates}
 use Rattle.issue_plan.specs.Work.{IsWork}
@@ -39,7 +39,7 @@ use Rattle.issue_make.specs.Plans.{puts}
 use Rattle.issue_make.specs.Work.{IsThere, IsCertified}
 use Rattle.work_laws.specs.Planned.{AreApart, AreNamed}
 use Rattle.work_laws.proofs.Among.{In, in-map, in-front, in-behind, in-parts, in-all, map-in, filter-in, in-filter, in-filter-map, all-given, found-in, some-found, any-in}
-use Rattle.work_laws.proofs.NextKeys.{IsDesk, IsOf, row-fits, all-keys}
+use Rattle.work_laws.proofs.NextKeys.{IsDesk, IsOf, row-fits, key-desk}
 use Rattle.work_laws.proofs.There.{Names, all-named, IsNext, same-id, are-there, certs-next, roas-next, points-next}
 use Rattle.work_laws.proofs.Desks.{one-id, same-desk}
 use Rattle.work_laws.proofs.Held.{is-below}
@@ -47,7 +47,7 @@ use Rattle.work_laws.proofs.Held.{is-below}
 -- ---- the current key of a desk
 
 -- A current key of that desk.
-abbrev IsCurrent : ℕ → NextKey → Type 0
+abbrev pub IsCurrent : ℕ → NextKey → Type 0
 IsCurrent desk k = (k.desk ≡ desk) × (is_role k.role Current ≡ true)
 
 row-role : (rows : List KeyRow) (desk : ℕ) → IfSome (row_of rows desk Current) (λ row. is_role row.role Current ≡ true)
@@ -92,7 +92,7 @@ desk-of : (rows : List KeyRow) (desk : ℕ) (o : Option KeyRow) → IfSome o (Is
 desk-of rows desk None h = tt
 desk-of rows desk (Some row) h = h.1
 
-current-in : (basis : plan.Basis) (desk : ℕ) (name : NameRow) → IsDesk basis desk name
+pub current-in : (basis : plan.Basis) (desk : ℕ) (name : NameRow) → IsDesk basis desk name
     → (k : NextKey) × In k (next_keys basis) × IsCurrent desk k
 current-in basis desk name is =
     let new = row_of basis.rows desk New in
@@ -112,30 +112,22 @@ current-in basis desk name is =
 
 -- ---- the certificate of a key
 
-not-zero : (n : ℕ) → n ≢ 0 → eqb n 0 ≡ false
+pub not-zero : (n : ℕ) → n ≢ 0 → eqb n 0 ≡ false
 not-zero n other = by (eqb n 0) refl
   where
     by : (b : Bool) → eqb n 0 ≡ b → b ≡ false
     by false e = refl
     by true e = absurd (other (eqb-true n 0 e))
 
-map-some : {X Y : Type 0} (f : X → Y) (o : Option X) → is_some o ≡ true → is_some (option_map f o) ≡ true
+pub map-some : {X Y : Type 0} (f : X → Y) (o : Option X) → is_some o ≡ true → is_some (option_map f o) ≡ true
 map-some f None e = e
 map-some f (Some x) e = refl
 
 module _ (standing : Standing) (s : Setting) (work : IsWork standing (next_keys standing.basis) s.work) (named : AreNamed standing.basis) where
-  key-desk : (k : NextKey) → In k (next_keys standing.basis) → (name : NameRow) × IsDesk standing.basis k.desk name
-  key-desk k at =
-      in-all (λ (key : NextKey). (name : NameRow) × IsDesk standing.basis key.desk name) k (next_keys standing.basis)
-      (all-keys standing.basis (λ (key : NextKey). (name : NameRow) × IsDesk standing.basis key.desk name)
-      (λ desk name is role since done. (name, is))
-      (λ desk name is row of. (name, subst (λ (d : ℕ). IsDesk standing.basis d name) (sym of.1) is))
-      (λ desk name is row of role since done. (name, subst (λ (d : ℕ). IsDesk standing.basis d name) (sym of.1) is))) at
-
   issuer-some : (k : NextKey) → In k (next_keys standing.basis) → k.desk ≢ 0
       → is_some (issuer_of standing.basis.configs (next_keys standing.basis) k) ≡ true
   issuer-some k at other =
-      let d = key-desk k at in
+      let d = key-desk standing.basis k at in
       let below = is-below standing.basis k.desk d.0 d.1.set named other d.1.named d.1.has d.1.some in
       let w = current-in standing.basis below.place below.name
       (record { named = below.named; set = below.set; has = below.has_set; some = below.some }) in
@@ -156,7 +148,7 @@ module _ (standing : Standing) (s : Setting) (work : IsWork standing (next_keys 
           → (cert : CertWork) × In cert s.work.certs × (cert.subject ≡ k.name)
       by None e some = absurd (false≢true some)
       by (Some issuer) e some =
-          let d = key-desk k at in
+          let d = key-desk standing.basis k at in
           let cert : CertWork = record { subject = k.name; issuer = issuer; held = d.1.set } in
           let gives : certificate_of standing.basis.configs standing.basis.sets (next_keys standing.basis) k ≡ Some cert =
           ap (λ (o : Option KeyName). certificate k.name o (slice_get standing.basis.sets k.desk)) e

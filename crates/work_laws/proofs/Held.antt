@@ -3,7 +3,7 @@ use Rattle.std.proofs.Common.{◌≡◌, ◌≢◌, ℕ, ◌<◌, zero, suc, Boo
 use Rattle.std.specs.Prelude.{nat_lt}
 use Rattle.std.specs.List.{slice_get}
 use Rattle.std.proofs.lemmas.Bool.{false≢true, and_parts}
-use Rattle.std.proofs.lemmas.Option.{slice_get_within, get_or_from_slice_get, slice_get-get_or}
+use Rattle.std.proofs.lemmas.Option.{same_Some, slice_get_within, get_or_from_slice_get, slice_get-get_or}
 use Rattle.res_sets.specs.declared.numbers.Family.{Family}
 use Rattle.res_sets.specs.declared.holdings.Resources.{Resources}
 use Rattle.res_sets.specs.Numbers.{family_end}
@@ -95,6 +95,20 @@ has-parent configs above f x child (Some c) h = on c.deleted h
     on true h = absurd (false≢true h)
     on false h = to c.parent refl h
 
+-- ---- no parent of its own
+
+-- What comes down to an authority comes of another one: to one that is its own parent nothing comes.
+own-none : (configs : List Settings) (name : List ℕ) (f : Family) (x : ℕ) → is_anchor name ≡ false
+    → parent_of (config_of configs name) ≡ Some name → (n : ℕ) → certified configs n name f x ≡ true → ⊥
+own-none configs name f x other own zero h =
+    false≢true (ap (λ (b : Bool). b && nat_lt x (family_end f)) (sym other) ∙ h)
+own-none configs name f x other own (suc n) h =
+    let passed : passed_on (certified configs n) (grant_of configs name) f x ≡ true =
+    subst (λ (b : Bool). cond b (nat_lt x (family_end f)) (passed_on (certified configs n) (grant_of configs name) f x) ≡ true) other h in
+    let w = has-parent configs (certified configs n) f x name (config_of configs name) passed in
+    let same : w.parent ≡ name = same_Some w.parent name (sym w.named ∙ own) in
+    own-none configs name f x other own n (subst (λ (p : List ℕ). certified configs n p f x ≡ true) same w.from.held)
+
 -- ---- the parent's desk
 
 -- An authority's parent is at a desk, and holds something.
@@ -106,6 +120,10 @@ pub record IsBelow (basis : Basis) (desk : ℕ) : Type 0 where
   pub set : Resources
   pub has_set : slice_get basis.sets place ≡ Some set
   pub some : holds_nothing set ≡ false
+  pub parent : List ℕ
+  pub called : parent_of (slice_get basis.configs desk) ≡ Some parent
+  pub says : name.name ≡ parent
+  pub other : place ≢ desk
 
 pub is-below : (basis : Basis) (desk : ℕ) (name : NameRow) (set : Resources) → AreNamed basis → desk ≢ 0
     → slice_get (names_of basis.configs) desk ≡ Some name → slice_get basis.sets desk ≡ Some set → holds_nothing set ≡ false
@@ -140,4 +158,15 @@ is-below basis desk name set are other named sized some =
       set = get_or basis.sets p set;
       has_set = slice_get-get_or basis.sets p set low;
       some = holds-some (get_or basis.sets p set) w.0 w.1 all;
+      parent = h.parent;
+      called = h.named;
+      says = at.1;
+      other = λ same.
+          let mine : name.name ≡ h.parent =
+          sym (ap (λ (r : NameRow). r.name) there)
+          ∙ (ap (λ (k : ℕ). (get_or names k name).name) (sym same) ∙ at.1) in
+          let own_parent : parent_of (config_of basis.configs name.name) ≡ Some name.name =
+          ap (λ (o : Option ℕ). parent_of (at_place basis.configs o)) (placed names desk name are.tree.apart named)
+          ∙ (h.named ∙ ap (λ (l : List ℕ). Some l) (sym mine)) in
+          own-none basis.configs name.name w.0 w.1 (no-anchor names desk name are.tree named other) own_parent (suc 63) held;
     }

@@ -1,5 +1,5 @@
 -- The keys of the next edition: each is a live one or one that is to be made, of a desk that has a name.
-use Rattle.std.proofs.Common.{◌≡◌, ℕ, ◌+◌, zero, suc, Bool, true, false, cond, eqb, ◌&&◌, Option, None, Some, List, [], ◌∷◌, length, refl}
+use Rattle.std.proofs.Common.{◌≡◌, ℕ, ◌+◌, zero, suc, Bool, true, false, cond, eqb, ◌&&◌, Option, None, Some, List, [], ◌∷◌, length, refl, sym, subst}
 use Rattle.std.specs.List.{All, slice_get}
 use Rattle.std.specs.Option.{IfSome}
 use Rattle.std.proofs.lemmas.Bool.{and_parts, eqb-true}
@@ -13,7 +13,7 @@ use Rattle.key_roll.specs.declared.rows.Role.TheVariants.{New, Current, Old}
 use Rattle.key_roll.specs.Stages.{is_begun, is_activated}
 use Rattle.issue_plan.specs.declared.keys.NextKey.{NextKey}
 use Rattle.issue_plan.specs.Keys.{Basis, is_role, row_of, kept, turned, made, keys_after, asked_at, keys_of, keys_at, keys_of_first, next_keys, holds_nothing}
-use Rattle.work_laws.proofs.Among.{In, found-in}
+use Rattle.work_laws.proofs.Among.{In, in-all, found-in}
 
 -- A desk that has a name and holds something.
 pub record IsDesk (basis : Basis) (desk : ℕ) (name : NameRow) : Type 0 where
@@ -88,3 +88,12 @@ module _ (basis : Basis) (P : NextKey → Type 0)
   -- What holds of each that is made and of each live one that goes on holds of all.
   pub all-keys : All P (next_keys basis)
   all-keys = of-first (length (names_of basis.configs))
+
+-- Each is of a desk that has a name and holds something.
+pub key-desk : (basis : Basis) (k : NextKey) → In k (next_keys basis) → (name : NameRow) × IsDesk basis k.desk name
+key-desk basis k at =
+    in-all (λ (key : NextKey). (name : NameRow) × IsDesk basis key.desk name) k (next_keys basis)
+    (all-keys basis (λ (key : NextKey). (name : NameRow) × IsDesk basis key.desk name)
+    (λ desk name is role since done. (name, is))
+    (λ desk name is row of. (name, subst (λ (d : ℕ). IsDesk basis d name) (sym of.1) is))
+    (λ desk name is row of role since done. (name, subst (λ (d : ℕ). IsDesk basis d name) (sym of.1) is))) at

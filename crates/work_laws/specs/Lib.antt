@@ -1,2 +1,4 @@
+pub mod Clear
+pub mod Following
 pub mod Names
 pub mod Planned

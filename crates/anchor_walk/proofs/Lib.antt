@@ -1,0 +1,26 @@
+pub mod Anchor
+mod Checks
+mod Elements
+mod Lists
+mod Permuted
+mod Endings
+mod Rising
+mod Canonical
+mod Holding
+mod Visits
+mod Routes
+mod Walked
+mod Alone
+mod First
+mod Rows
+mod OneKey
+mod Point
+mod Serials
+mod Drafts
+mod Owed
+mod Places
+mod Listed
+mod Stands
+mod Anchored
+mod Assembled
+mod Final

@@ -1,0 +1,342 @@
+-- What is made is as an edition wants it: each manifest lists what stands under its key.
+use Rattle.std.proofs.Common.{◌≡◌, ◌≢◌, ℕ, Bool, true, false, cond, Option, None, Some, List, [], ◌∷◌, ◌++◌, map, get_or, refl, sym, ap, subst, ◌∙◌, inl, inr}
+use Rattle.std.specs.Prelude.{All, Contains, IsPermutation, filter, option_map, option_and_then}
+use Rattle.std.specs.List.{filter_map, cons_option}
+use Rattle.std.proofs.lemmas.Bool.{false≢true}
+use Rattle.std.proofs.lemmas.List.Elements.{All-contains, Contains-get_or, Contains-append_left, Contains-append_right, Contains-append_cases}
+use Rattle.std.proofs.lemmas.List.Sorted.{IsPermutation-sym, IsPermutation-trans, Contains-permutation}
+use Rattle.sha2.specs.Sha256.{sha256}
+use Rattle.der_forms.specs.Place.{IsInput}
+use Rattle.key_roll.specs.declared.rows.KeyRow.{KeyRow}
+use Rattle.key_roll.specs.declared.work.Work.{Work}
+use Rattle.key_roll.specs.declared.work.CertWork.{CertWork}
+use Rattle.cert_obj.specs.Values.{CertValue}
+use Rattle.pub_set.specs.Changes.{Contents}
+use Rattle.ring_calls.specs.Calls.{Call}
+use Rattle.cms_obj.specs.declared.values.ObjectKind.TheVariants as ObjectKinds
+use Rattle.rp_rules.specs.Certificates.{Vouched}
+use Rattle.issue_values.specs.Publishing.{Publishing}
+use Rattle.issue_values.specs.Certificates as values
+use Rattle.issue_values.specs.Bodies.{manifest_value_of}
+use Rattle.issue_plan.specs.Wanted.{Standing}
+use Rattle.edition_publishers.specs.Finding.{Keys, key_named}
+use Rattle.edition_publishers.specs.Certificates.{Setting, publishing_of, made_uri}
+use Rattle.edition_drafts.specs.Drafts.{Draft, Kind, serial_behind, drafts, manifests, certificate_draft, roa_draft, crl_draft, manifest_draft}
+use Rattle.edition_drafts.specs.Drafts.Kind.{Certificate, Roa, Crl, Manifest}
+use Rattle.edition_signing.specs.Objects.{Signed, manifest_certificate, manifest_content, manifest_bytes, number_of, attributes}
+use Rattle.edition_signing.specs.Calls.{content_calls, last_calls, by_once, by_issuer}
+use Rattle.cert_obj.specs.Formats as certificates
+use Rattle.point_lists.specs.Files.{AreMerged, kept_files, made_files, made_file, folder_at, is_made_under, name_in}
+use Rattle.edition_outcome.specs.Outcome.{Course, IsCourse, all_of, made_of, hashed, puts_of, final_bytes, IsSpelled}
+use Rattle.editions.specs.Wanted.{there, whole, new_objects}
+use Rattle.editions.specs.Objects.{Making, IsObject, AreFiles, file_of}
+use Rattle.edition_laws.specs.Planned.{made_from, AreOfPlan}
+use Rattle.edition_laws.specs.Vouched.{IsVouchedBy, AreVouched}
+use Rattle.edition_laws.proofs.Elements.{here, into-map, from-filter_map}
+use Rattle.edition_laws.proofs.Elements.{there as there-of}
+use Rattle.edition_laws.proofs.Reading.{manifest-back}
+use Rattle.edition_laws.proofs.Permuted.{File, files-moved, passed-on}
+use Rattle.edition_laws.proofs.MadeObjects.{s, w, all, m, all-same, published, bytes-are, objects-made}
+
+-- ---- which drafts are of manifests
+
+abbrev is_manifest : Kind → Bool
+is_manifest (Certificate subject held) = false
+is_manifest (Roa origin) = false
+is_manifest Crl = false
+is_manifest Manifest = true
+
+-- Of what may be drafted.
+abbrev Tells : Bool → Option Draft → Type 0
+Tells b None = Unit {0}
+Tells b (Some d) = is_manifest d.kind ≡ b
+
+tells-some : (b : Bool) (o : Option Draft) (d : Draft) → Tells b o → o ≡ Some d
+    → is_manifest d.kind ≡ b
+tells-some b o d tells e = subst (Tells b) e tells
+
+tells-mapped : (b : Bool) (make : KeyRow → Draft) → ((key : KeyRow) → is_manifest (make key).kind ≡ b)
+    → (o : Option KeyRow) → Tells b (option_map make o)
+tells-mapped b make each None = tt
+tells-mapped b make each (Some key) = each key
+
+tells-certificate : (s : Setting) (cert : CertWork) (issuer subject : Option KeyRow)
+    → Tells false (option_and_then (λ i. option_map (λ k. record {
+      uri = made_uri s.site s.names i k;
+      issuer = i;
+      kind = Certificate k cert.held;
+    }) subject) issuer)
+tells-certificate s cert None subject = tt
+tells-certificate s cert (Some issuer) None = tt
+tells-certificate s cert (Some issuer) (Some subject) = refl
+
+pub draft-kind : (s : Setting) (keys : Keys) (d : Draft) → Contains (drafts s keys) d
+    → is_manifest d.kind ≡ false
+draft-kind s keys d c = elim (Contains-append_cases
+    (filter_map (certificate_draft s keys) s.work.certs
+    ++ filter_map (roa_draft s keys) s.work.roas)
+    (filter_map (crl_draft s keys) s.work.points) d c) [
+      | inr crl ↦
+          let from = from-filter_map (crl_draft s keys) s.work.points d crl in
+          tells-some false (crl_draft s keys from.0) d
+          (tells-mapped false _ (λ key. refl) (key_named keys from.0.key)) from.2
+      | inl more ↦ elim (Contains-append_cases
+          (filter_map (certificate_draft s keys) s.work.certs)
+          (filter_map (roa_draft s keys) s.work.roas) d more) [
+            | inl cert ↦
+                let from = from-filter_map (certificate_draft s keys) s.work.certs d cert in
+                tells-some false (certificate_draft s keys from.0) d
+                (tells-certificate s from.0 (key_named keys from.0.issuer)
+                (key_named keys from.0.subject)) from.2
+            | inr roa ↦
+                let from = from-filter_map (roa_draft s keys) s.work.roas d roa in
+                tells-some false (roa_draft s keys from.0) d
+                (tells-mapped false _ (λ key. refl) (key_named keys from.0.issuer)) from.2
+          ]
+    ]
+
+pub manifest-kind : (s : Setting) (keys : Keys) (d : Draft) → Contains (manifests s keys) d
+    → is_manifest d.kind ≡ true
+manifest-kind s keys d c =
+    let from = from-filter_map (manifest_draft s keys) s.work.points d c in
+    tells-some true (manifest_draft s keys from.0) d
+    (tells-mapped true _ (λ key. refl) (key_named keys from.0.key)) from.2
+
+no-manifest : (kind : Kind) → is_manifest kind ≡ false → kind ≢ Manifest
+no-manifest kind isnt is = false≢true (sym isnt ∙ ap is_manifest is)
+
+the-manifest : (kind : Kind) → is_manifest kind ≡ true → kind ≡ Manifest
+the-manifest (Certificate subject held) is = absurd (false≢true is)
+the-manifest (Roa origin) is = absurd (false≢true is)
+the-manifest Crl is = absurd (false≢true is)
+the-manifest Manifest is = refl
+
+-- ---- files
+
+-- The files of drafts, of which each is told.
+files-of : (p : Draft → Bool) (f : Draft → Option File) (g : Signed → Draft × List ℕ) (h : Draft × List ℕ → File)
+    → ((x : Signed) → (g x).0 ≡ x.draft) → (xs : List Signed)
+    → ((x : Signed) → Contains xs x → f x.draft ≡ Some (h (g x)))
+    → filter_map (λ d. cond (p d) (f d) None) (map (λ x. x.draft) xs)
+    ≡ map h (filter (λ y. p y.0) (map g xs))
+files-of p f g h own [] each = refl
+files-of p f g h own (x ∷ xs) each =
+    let rest = files-of p f g h own xs (λ y c. each y (there-of x xs y c)) in
+    by (p x.draft) (p (g x).0) (ap p (sym (own x))) rest
+  where
+    by : (b t : Bool) → b ≡ t
+        → filter_map (λ d. cond (p d) (f d) None) (map (λ y. y.draft) xs)
+        ≡ map h (filter (λ y. p y.0) (map g xs))
+        → cons_option (cond b (f x.draft) None)
+        (filter_map (λ d. cond (p d) (f d) None) (map (λ y. y.draft) xs))
+        ≡ map h (cond t (g x ∷ filter (λ y. p y.0) (map g xs)) (filter (λ y. p y.0) (map g xs)))
+    by true true same rest =
+        ap (λ (o : Option File). cons_option o
+        (filter_map (λ d. cond (p d) (f d) None) (map (λ y. y.draft) xs))) (each x (here x xs))
+        ∙ ap (λ (l : List File). h (g x) ∷ l) rest
+    by true false same rest = absurd (false≢true (sym same))
+    by false true same rest = absurd (false≢true same)
+    by false false same rest = rest
+
+module _ (vouched : Vouched) (standing : Standing) (work : Work) (course : Course)
+    (old new : Contents) (plan : AreOfPlan standing work course.keys)
+    (is_course : IsCourse (made_from standing work) standing.basis.rows course)
+    (none : (key : KeyRow) → kept_files (made_from standing work)
+    (puts_of (made_from standing work) course) key ≡ [])
+    (stand : All (λ x. new x.draft.uri
+    ≡ Some (final_bytes (made_from standing work) course x x.draft.kind)) course.objects) where
+  abbrev set : Setting
+  set = s vouched standing work course old new plan
+
+  abbrev wanted : Setting
+  wanted = w vouched standing work course old new plan
+
+  abbrev making : Making
+  making = m vouched standing work course old new plan
+
+  abbrev every : List Draft
+  every = all vouched standing work course old new plan
+
+  -- ---- what an object is
+
+  object-kind : (x : Signed) → Contains course.objects x → is_manifest x.draft.kind ≡ false
+  object-kind x c =
+      draft-kind set course.keys x.draft
+      (Contains-permutation (map (λ (y : Signed). y.draft) course.objects) every x.draft
+      (IsPermutation-sym every (map (λ (y : Signed). y.draft) course.objects)
+      is_course.objects.permutation)
+      (into-map (λ (y : Signed). y.draft) course.objects x c))
+
+  listed-kind : (x : Signed) → Contains course.listed x → is_manifest x.draft.kind ≡ true
+  listed-kind x c =
+      manifest-kind set course.keys x.draft
+      (Contains-permutation (map (λ (y : Signed). y.draft) course.listed)
+      (manifests set course.keys) x.draft
+      (IsPermutation-sym (manifests set course.keys) (map (λ (y : Signed). y.draft) course.listed)
+      is_course.listed.permutation)
+      (into-map (λ (y : Signed). y.draft) course.listed x c))
+
+  -- ---- the files of a key
+
+  abbrev own-file : List ℕ → Signed → File
+  own-file folder x = made_file folder (hashed set course x)
+
+  stands-file : (key : KeyRow) (x : Signed) → Contains course.objects x
+      → file_of new (folder_at wanted key) x.draft ≡ Some (own-file (folder_at set key) x)
+  stands-file key x c =
+      let held = All-contains (λ (y : Signed). new y.draft.uri
+      ≡ Some (final_bytes set course y y.draft.kind)) course.objects x stand c in
+      let bytes = bytes-are vouched standing work course old new plan x x.draft.kind refl
+      (no-manifest x.draft.kind (object-kind x c)) in
+      let of : List ℕ → File = λ b. (name_in (folder_at set key) x.draft.uri, sha256 b) in
+      ap (option_map of) held ∙ ap (λ (b : List ℕ). Some (of b)) bytes
+
+  files-same : (key : KeyRow)
+      → filter_map (λ d. cond (is_made_under wanted key d) (file_of new (folder_at wanted key) d) None)
+      (map (λ x. x.draft) course.objects)
+      ≡ made_files set key (map (hashed set course) course.objects)
+  files-same key =
+      files-of (is_made_under wanted key) (file_of new (folder_at wanted key)) (hashed set course)
+      (made_file (folder_at set key)) (λ x. refl) course.objects (stands-file key)
+
+  are-files : (key : KeyRow) (files : List File)
+      → AreMerged (kept_files set (puts_of set course) key)
+      (made_files set key (map (hashed set course) course.objects)) files
+      → AreFiles making key files
+  are-files key files merged =
+      let f : Draft → Option File = λ d.
+      cond (is_made_under wanted key d) (file_of new (folder_at wanted key) d) None in
+      let moved : IsPermutation (filter_map f every)
+      (filter_map f (map (λ (x : Signed). x.draft) course.objects)) =
+      files-moved f every (map (λ (x : Signed). x.draft) course.objects)
+      is_course.objects.permutation in
+      let whole : IsPermutation (made_files set key (map (hashed set course) course.objects)) files =
+      subst (λ (l : List File). IsPermutation
+      (l ++ made_files set key (map (hashed set course) course.objects)) files) (none key)
+      merged.permutation in
+      let first : filter_map (file_of new (folder_at wanted key))
+      (filter (is_made_under wanted key) (drafts wanted (there plan.keys))) ≡ filter_map f every =
+      passed-on (is_made_under wanted key) (file_of new (folder_at wanted key))
+      (drafts wanted (there plan.keys))
+      ∙ ap (filter_map f) (sym plan.drafts) in
+      record {
+        all = subst (λ (l : List File). IsPermutation l files) (sym first)
+            (IsPermutation-trans (filter_map f every)
+            (made_files set key (map (hashed set course) course.objects)) files
+            (subst (IsPermutation (filter_map f every)) (files-same key) moved) whole);
+        rising = merged.rising;
+      }
+
+  -- ---- the value of its certificate
+
+  manifest-same : (d : Draft) (once : List ℕ)
+      → manifest_certificate set course.keys every d once
+      ≡ manifest_certificate wanted (there plan.keys) (new_objects standing plan.keys) d once
+  manifest-same d once =
+      let of : ℕ → Publishing → ℕ → CertValue = λ n i k.
+      values.manifest_certificate standing.site n i once k in
+      ap (λ (n : ℕ). of n (publishing_of set course.keys d.issuer) (serial_behind every d.issuer))
+      plan.moment
+      ∙ (ap (λ (p : Publishing). of standing.basis.moment p (serial_behind every d.issuer))
+      (published vouched standing work course old new plan d.issuer)
+      ∙ ap (λ (l : List Draft). of standing.basis.moment
+      (publishing_of wanted (there plan.keys) d.issuer) (serial_behind l d.issuer))
+      (all-same vouched standing work course old new plan))
+
+  -- ---- the object
+
+  abbrev content-call : Signed → Call
+  content-call x = by_once x.draft.issuer
+      (attributes set ObjectKinds.Manifest (manifest_content set course.files x.draft.issuer)) x.answers
+
+  abbrev last-call : Signed → Call
+  last-call x = by_issuer x.draft.issuer
+      (certificates.signed_bytes (manifest_certificate set course.keys every x.draft x.answers.once))
+      x.answers.last
+
+  abbrev bytes-as : Signed → List ℕ
+  bytes-as x = manifest_bytes set course.keys every course.files x
+
+  manifest-by : (x : Signed) → Contains course.listed x → IsInput (bytes-as x)
+      → IsSpelled set course x.draft Manifest x.answers
+      → IsVouchedBy vouched (content-call x) → IsVouchedBy vouched (last-call x)
+      → IsObject making x.draft Manifest (bytes-as x)
+  manifest-by x c input spelled content last =
+      let key : KeyRow = x.draft.issuer in
+      let cert : CertValue = manifest_certificate set course.keys every x.draft x.answers.once in
+      record {
+        manifest = _;
+        read = manifest-back (manifest_value_of work.moment (number_of key) (course.files key)) cert
+            x.answers.last x.answers.once x.answers.content refl input spelled.1 spelled.0;
+        files = course.files key;
+        listed = are-files key (course.files key)
+            (All-contains (λ (y : Signed). AreMerged
+            (kept_files set (puts_of set course) y.draft.issuer)
+            (made_files set y.draft.issuer (map (hashed set course) course.objects))
+            (course.files y.draft.issuer)) course.listed x is_course.files c);
+        signed = record {
+          body = ap (λ (n : ℕ). manifest_value_of n (number_of key) (course.files key)) plan.moment;
+          certificate = record {
+            says = manifest-same x.draft x.answers.once;
+            vouched = last;
+          };
+          signer = refl;
+          moment = plan.moment;
+          vouched = content;
+        };
+      }
+
+  module _ (inputs : All (λ x. IsInput
+      (final_bytes (made_from standing work) course x x.draft.kind)) (made_of course))
+      (spelled : All (λ x. IsSpelled (made_from standing work) course x.draft x.draft.kind x.answers)
+      (made_of course))
+      (are : AreVouched vouched (made_from standing work) course)
+      (contents : All (IsVouchedBy vouched)
+      (content_calls (made_from standing work) course.files course.listed))
+      (lasts : All (IsVouchedBy vouched)
+      (last_calls (made_from standing work) course.keys (all_of (made_from standing work) course)
+      course.listed)) where
+    one-manifest : (x : Signed) → Contains course.listed x
+        → IsObject making x.draft x.draft.kind (final_bytes set course x x.draft.kind)
+    one-manifest x c =
+        let inside = Contains-append_right course.objects course.listed x c in
+        let is : x.draft.kind ≡ Manifest = the-manifest x.draft.kind (listed-kind x c) in
+        let input : IsInput (final_bytes set course x Manifest) =
+        subst (λ (k : Kind). IsInput (final_bytes set course x k)) is
+        (All-contains (λ (y : Signed). IsInput (final_bytes set course y y.draft.kind))
+        (made_of course) x inputs inside) in
+        let good : IsSpelled set course x.draft Manifest x.answers =
+        subst (λ (k : Kind). IsSpelled set course x.draft k x.answers) is
+        (All-contains (λ (y : Signed). IsSpelled set course y.draft y.draft.kind y.answers)
+        (made_of course) x spelled inside) in
+        subst (λ (k : Kind). IsObject making x.draft k (final_bytes set course x k)) (sym is)
+        (manifest-by x c input good
+        (All-contains (IsVouchedBy vouched) _ (content-call x) contents
+        (into-map content-call course.listed x c))
+        (All-contains (IsVouchedBy vouched) _ (last-call x) lasts
+        (into-map last-call course.listed x c)))
+
+    front : (P : Signed → Type 0) → All P (made_of course) → All P course.objects
+    front P whole = λ k d inside. All-contains P (made_of course) (get_or course.objects k d) whole
+        (Contains-append_left course.objects course.listed (get_or course.objects k d)
+        (Contains-get_or course.objects k d inside))
+
+    one-object : (x : Signed) → Contains course.objects x
+        → IsObject making x.draft x.draft.kind (final_bytes set course x x.draft.kind)
+    one-object x c =
+        All-contains (λ (y : Signed). y.draft.kind ≢ Manifest
+        → IsObject making y.draft y.draft.kind (final_bytes set course y y.draft.kind)) course.objects
+        x (objects-made vouched standing work course old new plan (front (λ y.
+        IsInput (final_bytes set course y y.draft.kind)) inputs) (front (λ y.
+        IsSpelled set course y.draft y.draft.kind y.answers) spelled) are) c
+        (no-manifest x.draft.kind (object-kind x c))
+
+    pub all-made : All (λ x. IsObject making x.draft x.draft.kind
+        (final_bytes (made_from standing work) course x x.draft.kind)) (made_of course)
+    all-made = λ k d inside.
+        let x : Signed = get_or (made_of course) k d in
+        elim (Contains-append_cases course.objects course.listed x
+        (Contains-get_or (made_of course) k d inside)) [
+          | inl object ↦ one-object x object
+          | inr listed ↦ one-manifest x listed
+        ]

@@ -1,0 +1,7 @@
+mod Lists
+mod Known
+mod Puts
+mod Places
+mod Counted
+mod Following
+mod Tables
