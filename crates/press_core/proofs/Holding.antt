@@ -1,0 +1,74 @@
+-- Signers keep their keys, whatever calls they made and faults they counted.
+use Rattle.std.proofs.Common.{◌≡◌, ◌≢◌, ℕ, zero, suc, List, [], ◌∷◌, ◌++◌, Option, Some, None, option_map, refl, sym, ap, subst, ◌∙◌, inl, inr, ◌⊎◌}
+use Rattle.std.specs.Prelude.{slice_get, slice_set}
+use Rattle.std.specs.Option.{option_map_or}
+use Rattle.std.proofs.lemmas.Bool.{cases_eq}
+use Rattle.std.proofs.lemmas.Option.{same_Some}
+use Rattle.std.proofs.lemmas.List.Elements.{Contains-append_left}
+use Rattle.signer_api.specs.State.{SignerState, CountsFault}
+use Rattle.signer_ring.specs.Ring.{ChangesOne}
+use Rattle.ring_calls.specs.Calls.{Call, signer_of, change, after_call, after_calls}
+use Rattle.ring_calls.specs.Calls.Call.{Makes, Signs}
+use Rattle.press_core.specs.Signers.{IsAmong, HoldKeys}
+
+set-same : (xs : List SignerState) (i : ℕ) (x y : SignerState) → slice_get xs i ≡ Some x → slice_get (slice_set xs i y) i ≡ Some y
+set-same [] i x y is = absurd cc
+set-same (z ∷ xs) zero x y is = refl
+set-same (z ∷ xs) (suc i) x y is = set-same xs i x y is
+
+set-other : (xs : List SignerState) (i j : ℕ) (y : SignerState) → i ≢ j → slice_get (slice_set xs j y) i ≡ slice_get xs i
+set-other [] i j y apart = refl
+set-other (z ∷ xs) zero zero y apart = absurd (apart refl)
+set-other (z ∷ xs) zero (suc j) y apart = refl
+set-other (z ∷ xs) (suc i) zero y apart = refl
+set-other (z ∷ xs) (suc i) (suc j) y apart = set-other xs i j y (λ e. apart (ap suc e))
+
+-- ---- one signer
+
+-- What a signer comes to holds what it held.
+abbrev HoldsOn : SignerState → SignerState → Type 0
+HoldsOn before after = (key : List ℕ) → IsAmong before.keys key → IsAmong after.keys key
+
+among-more : (told : Option (List (List ℕ))) (one key : List ℕ) → IsAmong told key → IsAmong (option_map (λ keys. keys ++ one ∷ []) told) key
+among-more None one key held = held
+among-more (Some keys) one key held = Contains-append_left keys (one ∷ []) key held
+
+call-holds : (call : Call) (signer : SignerState) → HoldsOn signer (change call signer)
+call-holds (Makes n one) signer key held = among-more signer.keys one key held
+call-holds (Signs n one) signer key held = held
+
+fault-holds : (old new : SignerState) → CountsFault old new → HoldsOn old new
+fault-holds old new counted key held = subst (λ (s : SignerState). IsAmong s.keys key) (sym counted.others) held
+
+-- ---- all of them
+
+pub hold-same : (ring : List SignerState) → HoldKeys ring ring
+hold-same ring number before key there held = (before, there, held)
+
+pub hold-further : (old between new : List SignerState) → HoldKeys old between → HoldKeys between new → HoldKeys old new
+hold-further old between new first second number before key there held =
+    let then_ = first number before key there held in
+    second number then_.0 key then_.1 then_.2
+
+hold-set : (ring : List SignerState) (n : ℕ) (was after : SignerState) → slice_get ring n ≡ Some was → HoldsOn was after → HoldKeys ring (slice_set ring n after)
+hold-set ring n was after is holds number before key there held = by (cases_eq number n)
+  where
+    by : (number ≡ n) ⊎ (number ≢ n) → (now : SignerState) × (slice_get (slice_set ring n after) number ≡ Some now) × IsAmong now.keys key
+    by (inl e) =
+        let same : before ≡ was = same_Some before was (sym there ∙ (ap (slice_get ring) e ∙ is)) in
+        (after, ap (λ (m : ℕ). slice_get (slice_set ring n after) m) e ∙ set-same ring n was after is, holds key (subst (λ (s : SignerState). IsAmong s.keys key) same held))
+    by (inr apart) = (before, set-other ring number n after apart ∙ there, held)
+
+hold-call : (ring : List SignerState) (call : Call) (o : Option SignerState) → slice_get ring (signer_of call) ≡ o → HoldKeys ring (option_map_or (λ signer. slice_set ring (signer_of call) (change call signer)) o ring)
+hold-call ring call None is = hold-same ring
+hold-call ring call (Some signer) is = hold-set ring (signer_of call) signer (change call signer) is (call-holds call signer)
+
+pub hold-calls : (ring : List SignerState) (calls : List Call) → HoldKeys ring (after_calls ring calls)
+hold-calls ring [] = hold-same ring
+hold-calls ring (call ∷ calls) =
+    hold-further ring (after_call ring call) (after_calls (after_call ring call) calls)
+    (hold-call ring call (slice_get ring (signer_of call)) refl) (hold-calls (after_call ring call) calls)
+
+pub hold-fault : (signer : ℕ) (old new : List SignerState) → ChangesOne signer CountsFault old new → HoldKeys old new
+hold-fault signer old new one =
+    subst (HoldKeys old) (sym one.is) (hold-set old signer one.before one.after one.was (fault-holds one.before one.after one.changes))

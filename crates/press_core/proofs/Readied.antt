@@ -1,0 +1,240 @@
+-- From an edition that is ready to one that is prepared.
+use Rattle.std.proofs.Common.{◌≡◌, ℕ, ◌<◌, ◌≤◌, ◌^◌, Bool, true, List, length, refl, sym, ap, subst, ◌∙◌, arith, inl, inr, map, [], ◌∷◌, ◌++◌}
+use Rattle.std.specs.Prelude.{All, Result, Ok, Err, IfOk, IfErr}
+use Rattle.signer_api.specs.State.{SignerState}
+use Rattle.names.specs.Name.{IsName}
+use Rattle.authority_book.specs.Origins.{IsAscending}
+use Rattle.authority_book.specs.Settings.{Settings, ConfigValue}
+use Rattle.authority_book.specs.declared.rows.NameRow.{NameRow}
+use Rattle.entitle.specs.Certified.{names_of, settings_of, AreCertified}
+use Rattle.key_ids.specs.Places.{Bases}
+use Rattle.key_roll.specs.declared.rows.KeyRow.{KeyRow}
+use Rattle.key_roll.specs.declared.issued.IssuedRow.{IssuedRow}
+use Rattle.key_roll.specs.declared.work.Work.{Work}
+use Rattle.pub_set.specs.declared.steps.Change.{Change}
+use Rattle.pub_set.specs.Changes.{IsApplied}
+use Rattle.issue_plan.specs.Keys.{Basis, next_keys}
+use Rattle.issue_plan.specs.Work.{IsPlan}
+use Rattle.edition_keys.specs.declared.fault.MakeFault.{MakeFault}
+use Rattle.edition_keys.specs.declared.fault.MakeFault.TheVariants.{SignerFault, KeyClash, Memory}
+use Rattle.edition_keys.specs.Making.{making as making_of}
+use Rattle.edition_publishers.specs.Certificates.{Setting}
+use Rattle.edition_outcome.specs.declared.outcome.Made.{Made}
+use Rattle.issue_make.specs.Work as making
+use Rattle.ring_calls.specs.Calls.{after_calls}
+use Rattle.issue_make.specs.Made.{IsMade, IsStop, calls_of}
+use Rattle.editions.specs.Edition.{cut_at}
+use Rattle.press_state.specs.declared.stock.Parts.{Parts}
+use Rattle.press_state.specs.Stock.{StockValue, value_of, IsKept, AreLive}
+use Rattle.press_state.specs.Moments.{moment_behind}
+use Rattle.press_state.specs.Calling.{is_called_for, LeadsTo}
+use Rattle.press_state.specs.Standing.{IsTableAfter}
+use Rattle.press_state.specs.Ended.{ended_keys}
+use Rattle.work_laws.specs.Following.{AreTyped, CanFollow, setting_over}
+use Rattle.work_laws.specs.Clear.{IsClear}
+use Rattle.edition_steps.specs.PlannedAndMade.{CanBeRead}
+use Rattle.press_core.specs.declared.setup.Setup.{Setup}
+use Rattle.press_core.specs.Start.{Start}
+use Rattle.press_core.specs.Next.{PreparedValue}
+use Rattle.press_core.specs.Planned.{IsInRange, IsCalled, IsPlanned, IsPrepared, basis_for, setting_for}
+use Rattle.press_core.specs.Signers.{HoldKeys, AreCalled}
+use Rattle.press_core.proofs.Holding.{hold-calls, hold-fault, hold-further}
+use Rattle.press_core.specs.Faults.{IsPressFault}
+use Rattle.press_core.specs.Ready.{basis_over, CanStart, IsSetUp, IsReady, IsMadeReady, CanStand, IsNextOf, fault_of}
+
+-- ---- what it is made from
+
+bases-same : (start : Start) (setup : Setup) → IsSetUp start setup → basis_over start.at setup ≡ basis_for start setup.tree.sets.items
+bases-same start setup is =
+    λ i. record { rows = start.at.rows; configs = is.configs i; sets = setup.tree.sets.items; moment = is.moment i }
+
+-- The work leads from the live keys to the next ones.
+pub leads : (at : StockValue) (setup : Setup) (site : Bases) (work : Work) → IsPlan (basis_over at setup) at.issued site work → LeadsTo at.rows (next_keys (basis_over at setup)) work
+leads at setup site work plan = record { new_keys = plan.2.new_keys; roles = plan.2.roles; dropped = plan.2.dropped }
+
+pub called-of : (start : Start) (setup : Setup) (work : Work) (called : Bool) → IsSetUp start setup
+    → AreCertified (settings_of setup.configs.items) setup.tree.sets.items → IsPlan (basis_over start.at setup) start.at.issued start.site work
+    → called ≡ is_called_for start.at setup.cut.items work.moment (next_keys (basis_over start.at setup)) → IsCalled start setup.tree.sets.items called
+called-of start setup work called is certified plan answer =
+    let moment : work.moment ≡ moment_behind start.clock start.at.moment = plan.2.moment ∙ is.moment in
+    let basis = bases-same start setup is in
+    let cut = is.cut in
+    record {
+      certified = subst (λ (c : List Settings). AreCertified c setup.tree.sets.items) is.configs certified;
+      answer = sym (answer ∙ λ i. is_called_for start.at (cut i) (moment i) (next_keys (basis i)));
+    }
+
+-- ---- its making
+
+pub can-follow : (start : Start) (setup : Setup) (work : Work) → IsReady start setup work → AreTyped (basis_over start.at setup)
+    → CanFollow start.at start.site (length start.ring) (basis_over start.at setup)
+can-follow start setup work ready typed = record {
+  rows = refl;
+  counters = ready.in_range.counted;
+  cut = setup.cut.items;
+  configs = ready.set_up.config_desks;
+  taken = ready.set_up.taken;
+  certified = subst (λ (c : List Settings). AreCertified c setup.tree.sets.items) (sym ready.set_up.configs) ready.called.certified;
+  typed = typed;
+  moment = ready.set_up.dated;
+  later = let less = ready.set_up.later in omega (arith, less);
+  live_signers = ready.able.live_signers;
+  name_signers = subst (λ (c : List Settings). All (λ (name : NameRow). name.signer < length start.ring) (names_of c)) (sym ready.set_up.configs) ready.able.name_signers;
+  clear = ready.able.clear;
+}
+
+-- The setting of the calls, of the laws, and of the press.
+pub settings-same : (start : Start) (setup : Setup) (work : Work) (names : List NameRow) (parts : Parts) → IsReady start setup work
+    → names ≡ names_of (settings_of setup.configs.items) → value_of parts ≡ start.at
+    → making.setting_of work names parts.issued start.site ≡ setting_for start work
+settings-same start setup work names parts ready named same =
+    let names_same = named ∙ ap names_of ready.set_up.configs in
+    let issued = ap (λ (v : StockValue). v.issued) same in
+    λ i. record { work = work; names = names_same i; issued = issued i; site = start.site }
+
+pub law-setting : (start : Start) (setup : Setup) (work : Work) → IsReady start setup work
+    → setting_over (basis_over start.at setup) start.at.issued start.site work ≡ setting_for start work
+law-setting start setup work ready =
+    let names_same = ap names_of ready.set_up.configs in
+    λ i. record { work = work; names = names_same i; issued = start.at.issued; site = start.site }
+
+-- The laws of the layer below.
+pub record WorkLaws : Type 0 where
+  pub work : (at : StockValue) (site : Bases) (signers : ℕ) (basis : Basis) (work : Work) → IsKept at → CanFollow at site signers basis
+      → IsPlan basis at.issued site work → making.IsWork (setting_over basis at.issued site work) at.rows signers
+  pub live : (at : StockValue) (site : Bases) (signers : ℕ) (basis : Basis) (work : Work) (old new : List SignerState) (made : Made) → IsKept at
+      → CanFollow at site signers basis → IsPlan basis at.issued site work → IsMade (setting_over basis at.issued site work) at.rows old new made
+      → AreLive basis.moment made.rows
+  pub signers : (at : StockValue) (site : Bases) (signers : ℕ) (basis : Basis) (work : Work) (old new : List SignerState) (made : Made) → IsKept at
+      → CanFollow at site signers basis → IsPlan basis at.issued site work → IsMade (setting_over basis at.issued site work) at.rows old new made
+      → All (λ row. row.signer < signers) made.rows
+  pub clear : (at : StockValue) (site : Bases) (signers : ℕ) (basis : Basis) (work : Work) (old new : List SignerState) (made : Made) (table : List IssuedRow)
+      → IsKept at → CanFollow at site signers basis → IsPlan basis at.issued site work → IsMade (setting_over basis at.issued site work) at.rows old new made
+      → IsTableAfter at.issued made.changes made.issued table → IsClear site made.rows table
+
+pub is-able : WorkLaws → (start : Start) (setup : Setup) (work : Work) → IsReady start setup work → AreTyped (basis_over start.at setup)
+    → making.IsWork (setting_for start work) start.at.rows (length start.ring)
+is-able laws start setup work ready typed =
+    subst (λ (s : Setting). making.IsWork s start.at.rows (length start.ring)) (law-setting start setup work ready)
+    (laws.work start.at start.site (length start.ring) (basis_over start.at setup) work ready.able.kept (can-follow start setup work ready typed) ready.plan)
+
+pub made-ready : WorkLaws → (start : Start) (setup : Setup) (work : Work) (ring : List SignerState) (made : Made) → IsReady start setup work
+    → AreTyped (basis_over start.at setup) → IsMade (setting_for start work) start.at.rows start.ring ring made → IsMadeReady start setup work ring made
+made-ready laws start setup work ring made ready typed is =
+    let basis = basis_over start.at setup in
+    let follow = can-follow start setup work ready typed in
+    let kept = ready.able.kept in
+    let n = length start.ring in
+    let law_is = subst (λ (s : Setting). IsMade s start.at.rows start.ring ring made) (sym (law-setting start setup work ready)) is in
+    record {
+      able = is-able laws start setup work ready typed;
+      is_made = is;
+      live = laws.live start.at start.site n basis work start.ring ring made kept follow ready.plan law_is;
+      signers = laws.signers start.at start.site n basis work start.ring ring made kept follow ready.plan law_is;
+      clear = λ table after. laws.clear start.at start.site n basis work start.ring ring made table kept follow ready.plan law_is after;
+    }
+
+-- What the types say of names and origins.
+pub typed-of : (at : StockValue) (setup : Setup) (names : List NameRow) (configs : List ConfigValue) → names ≡ names_of (settings_of setup.configs.items)
+    → configs ≡ setup.configs.items → All (λ row. IsName row.name) names → All (λ config. IsAscending config.origins) (settings_of configs) → AreTyped (basis_over at setup)
+typed-of at setup names configs named same plain ascend = record {
+  names = subst (All (λ (row : NameRow). IsName row.name)) named plain;
+  origins = subst (All (λ (config : Settings). IsAscending config.origins)) (ap settings_of same) ascend;
+}
+
+pub is-ready : (start : Start) (setup : Setup) (work : Work) → CanStart start → IsInRange start.at start.clock → IsSetUp start setup
+    → AreCertified (settings_of setup.configs.items) setup.tree.sets.items → IsPlan (basis_over start.at setup) start.at.issued start.site work
+    → true ≡ is_called_for start.at setup.cut.items work.moment (next_keys (basis_over start.at setup)) → IsReady start setup work
+is-ready start setup work able in_range is certified plan called = record {
+  able = able;
+  set_up = is;
+  in_range = in_range;
+  called = called-of start setup work true is certified plan called;
+  plan = plan;
+}
+
+-- ---- the signers' keys
+
+pub stop-holds : (s : Setting) (live : List KeyRow) (old new : List SignerState) (fault : MakeFault) → IsStop s live old new fault → HoldKeys old new
+stop-holds s live old new (SignerFault signer) stop =
+    hold-further old (after_calls old stop.calls) new (hold-calls old stop.calls) (hold-fault signer (after_calls old stop.calls) new stop.fault)
+stop-holds s live old new (KeyClash id) stop = subst (HoldKeys old) (sym stop.signers) (hold-calls old (map making_of (stop.before ++ stop.last ∷ [])))
+stop-holds s live old new Memory stop = elim stop [
+  | inl short ↦ subst (HoldKeys old) (sym short.signers) (hold-calls old (map making_of short.made))
+  | inr begun ↦ subst (HoldKeys old) (sym begun.2) (hold-calls old begun.0)
+]
+
+pub answer-holds : (s : Setting) (live : List KeyRow) (old new : List SignerState) (answer : Result Made MakeFault) → IfOk answer (IsMade s live old new)
+    → IfErr answer (IsStop s live old new) → HoldKeys old new
+answer-holds s live old new (Ok made) is stop = subst (HoldKeys old) (sym is.signers) (hold-calls old (calls_of s is.course))
+answer-holds s live old new (Err fault) is stop = stop-holds s live old new fault stop
+
+-- ---- refusals
+
+pub planned-of : (start : Start) (setup : Setup) (work : Work) → IsReady start setup work → IsPlanned start work
+planned-of start setup work ready = record {
+  in_range = ready.in_range;
+  sets = setup.tree.sets.items;
+  called = ready.called;
+  plan = subst (λ (b : Basis). IsPlan b start.at.issued start.site work) (bases-same start setup ready.set_up) ready.plan;
+}
+
+pub refused-of : (start : Start) (setup : Setup) (work : Work) (ring : List SignerState) (fault : MakeFault) → IsReady start setup work
+    → IsStop (setting_for start work) start.at.rows start.ring ring fault → IsPressFault start ring (fault_of fault start.clock)
+refused-of start setup work ring (SignerFault signer) ready stop = (record { work = work; planned = planned-of start setup work ready; fault = stop }, refl)
+refused-of start setup work ring (KeyClash id) ready stop = (record { work = work; planned = planned-of start setup work ready; clash = stop }, refl)
+refused-of start setup work ring Memory ready stop = elim stop [
+  | inl short ↦ (map making_of short.made, short.signers)
+  | inr begun ↦ (begun.0, begun.2)
+]
+
+-- What was made was made by calls.
+pub called-by : (start : Start) (setup : Setup) (work : Work) (ring : List SignerState) (made : Made) → IsMadeReady start setup work ring made → AreCalled start.ring ring
+called-by start setup work ring made is = (calls_of (setting_for start work) is.is_made.course, is.is_made.signers)
+
+-- ---- what stands then
+
+pub can-stand : (start : Start) (setup : Setup) (work : Work) (ring : List SignerState) (made : Made) → IsReady start setup work
+    → IsMadeReady start setup work ring made → CanStand start.at setup made
+can-stand start setup work ring made ready is = record {
+  serial = ready.in_range.counted.serial;
+  cut = ready.set_up.cut_desks;
+  configs = ready.set_up.config_desks;
+  taken = ready.set_up.taken;
+  certified = subst (λ (c : List Settings). AreCertified c setup.tree.sets.items) (sym ready.set_up.configs) ready.called.certified;
+  live = is.live;
+  changes = is.is_made.rising;
+  issued = is.is_made.listed;
+}
+
+pub prepared-of : (start : Start) (setup : Setup) (work : Work) (ring : List SignerState) (made : Made) (prepared : PreparedValue) → IsReady start setup work
+    → IsMadeReady start setup work ring made → All CanBeRead made.changes → length made.issued < 2 ^ 62 → IsNextOf start.at setup made prepared
+    → IsPrepared start ring prepared
+prepared-of start setup work ring made prepared ready is readable few next = record {
+  moment = next.moment ∙ ready.set_up.moment;
+  cut = next.cut ∙ ready.set_up.cut;
+  configs = next.configs ∙ ready.set_up.configs;
+  made = record {
+    work = work;
+    planned = planned-of start setup work ready;
+    able = is.able;
+    made = made;
+    is_made = is.is_made;
+    readable = readable;
+    few = few;
+    rows = next.rows;
+    changes = next.changes;
+    table = next.table;
+  };
+  next = record {
+    serial = next.serial;
+    moment = subst (λ (n : ℕ). start.at.moment < n) (sym next.moment) ready.set_up.later;
+    cut = subst (λ (c : List ℕ). (desk : ℕ) → cut_at start.at.cut desk ≤ cut_at c desk) (sym next.cut) ready.set_up.grown;
+    set = subst (λ (changes : List Change). IsApplied start.at.set changes prepared.next.set) (sym next.changes) next.set;
+    ended = next.ended ∙ ap (ended_keys start.at.rows) (sym next.rows);
+    clear = subst (λ (rows : List KeyRow). IsClear start.site rows prepared.next.issued) (sym next.rows) (is.clear prepared.next.issued next.table);
+    kept = next.kept;
+    ascending = next.ascending;
+  };
+  signers = subst (All (λ (row : KeyRow). row.signer < length start.ring)) (sym next.rows) is.signers;
+}

@@ -1,0 +1,86 @@
+-- What a press sets out to make, and what comes of it.
+use Rattle.std.specs.Prelude.{◌≡◌, ◌<◌, ◌^◌, ℕ, Bool, true, false, List, All, length}
+use Rattle.signer_api.specs.State.{SignerState}
+use Rattle.res_sets.specs.declared.holdings.Resources.{Resources}
+use Rattle.entitle.specs.Certified.{names_of, AreCertified}
+use Rattle.key_roll.specs.declared.work.Work.{Work}
+use Rattle.issue_plan.specs.Keys.{Basis, next_keys}
+use Rattle.issue_plan.specs.Work.{IsPlan}
+use Rattle.edition_publishers.specs.Certificates.{Setting}
+use Rattle.edition_outcome.specs.declared.outcome.Made.{Made}
+use Rattle.issue_make.specs.Work as making
+use Rattle.issue_make.specs.Made.{IsMade}
+use Rattle.press_state.specs.Stock.{StockValue}
+use Rattle.press_state.specs.Moments.{moment_behind, is_out_of_range, AreBelowEnd}
+use Rattle.press_state.specs.Gathering.{configs_with, cut_with}
+use Rattle.press_state.specs.Calling.{is_called_for}
+use Rattle.press_state.specs.Standing.{IsTableAfter}
+use Rattle.edition_steps.specs.PlannedAndMade.{CanBeRead}
+use Rattle.press_core.specs.Start.{Start}
+use Rattle.press_core.specs.Next.{PreparedValue, IsNext}
+
+-- What the next edition is made from, where that is certified.
+abbrev pub basis_for : Start → List Resources → Basis
+basis_for start sets = record {
+  rows = start.at.rows;
+  configs = configs_with start.at.configs start.gathered;
+  sets = sets;
+  moment = moment_behind start.clock start.at.moment;
+}
+
+-- ---- whether it is made
+
+-- It can be dated, and counted.
+pub record IsInRange (at : StockValue) (clock : ℕ) : Type 0 where
+  pub dated : is_out_of_range clock at.moment ≡ false
+  pub counted : AreBelowEnd at.serial at.rows
+
+-- By what is certified at the cut with all that was gathered an edition is called for, or it isn't.
+pub record IsCalled (start : Start) (sets : List Resources) (called : Bool) : Type 0 where
+  pub certified : AreCertified (configs_with start.at.configs start.gathered) sets
+  pub answer : is_called_for start.at (cut_with start.at.cut start.gathered)
+      (moment_behind start.clock start.at.moment) (next_keys (basis_for start sets)) ≡ called
+
+-- ---- what is made
+
+-- An edition is in range and called for, and this is its plan.
+pub record IsPlanned (start : Start) (work : Work) : Type 0 where
+  pub in_range : IsInRange start.at start.clock
+  pub sets : List Resources
+  pub called : IsCalled start sets true
+  pub plan : IsPlan (basis_for start sets) start.at.issued start.site work
+
+-- The making of that work.
+abbrev pub setting_for : Start → Work → Setting
+setting_for start work = record {
+  work = work;
+  names = names_of (configs_with start.at.configs start.gathered);
+  issued = start.at.issued;
+  site = start.site;
+}
+
+-- The signers made what was planned, and nothing else; and what is prepared is what it came to.
+pub record IsMadeOf (start : Start) (ring : List SignerState) (prepared : PreparedValue)
+    : Type 0 where
+  pub work : Work
+  pub planned : IsPlanned start work
+  pub able : making.IsWork (setting_for start work) start.at.rows (length start.ring)
+  pub made : Made
+  pub is_made : IsMade (setting_for start work) start.at.rows start.ring ring made
+  -- each object that is put can be read, and they are fewer than counters can count
+  pub readable : All CanBeRead made.changes
+  pub few : length made.issued < 2 ^ 62
+  pub rows : prepared.next.rows ≡ made.rows
+  pub changes : prepared.changes ≡ made.changes
+  pub table : IsTableAfter start.at.issued made.changes made.issued prepared.next.issued
+
+-- The edition is at the clock's moment or just behind the last one, and takes in all that was
+-- gathered. It is made of its plan, and follows what stands; and the signers of its keys are there.
+pub record IsPrepared (start : Start) (ring : List SignerState) (prepared : PreparedValue)
+    : Type 0 where
+  pub moment : prepared.next.moment ≡ moment_behind start.clock start.at.moment
+  pub cut : prepared.next.cut ≡ cut_with start.at.cut start.gathered
+  pub configs : prepared.next.configs ≡ configs_with start.at.configs start.gathered
+  pub made : IsMadeOf start ring prepared
+  pub next : IsNext start.site start.at prepared
+  pub signers : All (λ row. row.signer < length start.ring) prepared.next.rows

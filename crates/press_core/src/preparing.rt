@@ -1,0 +1,54 @@
+//! The next edition.
+
+ghost use Rattle.std.specs.Prelude.{◌<◌, All, IfOk, IfErr, length};
+ghost use Rattle.signer_ring.specs.Ring.{Keeps};
+ghost use Rattle.entitle.specs.Certified.{names_of};
+ghost use Rattle.press_state.specs.Gathering.{configs_with, AreGathered, AreAccepted};
+ghost use Rattle.work_laws.specs.Clear.{IsClear};
+ghost use Rattle.press_core.specs.Start.{started};
+ghost use Rattle.press_core.specs.Planned.{IsPrepared};
+ghost use Rattle.press_core.specs.Faults.{IsPressFault};
+ghost use Rattle.press_core.specs.Signers.{HoldKeys};
+
+use crate::fault::{Met, PressFault};
+use crate::making::make_edition;
+use crate::prepared::Prepared;
+use crate::setup::{moment_of, plan_of, set_up};
+use key_ids::Site;
+use press_state::{Gathered, Stock};
+use signer_api::Signer;
+use signer_ring::Ring;
+use std::alloc::Global;
+
+/// Prepares the next edition over what stands, by those signers.
+pub fn prepare_over<S: Signer>(
+    alloc: Global,
+    site: &Site,
+    at: &Stock,
+    ring: &mut Ring<S>,
+    now: u64,
+    gathered: Vec<Gathered>,
+) -> Result<Prepared, PressFault>
+    requires clear { IsClear site.now at.now.rows at.now.issued }
+    requires gathered { AreGathered at.now.cut gathered.items }
+    requires accepted { AreAccepted at.now.configs gathered.items }
+    requires live_signers { All (λ row. row.signer < length ring.old) at.now.rows }
+    requires name_signers { All (λ name. name.signer < length ring.old)
+        (names_of (configs_with at.now.configs gathered.items)) }
+    ensures prepared { IfOk result (IsPrepared (started site.now at.now ring.old now gathered.items) ring.new) }
+    ensures refused { IfErr result (IsPressFault (started site.now at.now ring.old now gathered.items) ring.new) }
+    ensures signers { Keeps ring.old ring.new }
+    ensures keys { HoldKeys ring.old ring.new }
+{
+    let parts = at.parts();
+    let moment = moment_of(at, now)?;
+    let setup = set_up(alloc, at, moment, gathered)?;
+    let work = plan_of(alloc, site, at, &setup)?;
+    if !at.is_called_for(setup.cut.as_slice(), &work) {
+        return Err(PressFault::Nothing {
+            serial: parts.serial,
+            met: Met::new(24, now),
+        });
+    }
+    make_edition(alloc, site, at, setup, &work, ring, now)
+}
