@@ -47,6 +47,8 @@ fn said(alloc: Global, line: &Line) -> Result<String> {
             text.push_str(name.as_str())?;
             push_command(alloc, &mut text, command)?;
         }
+        Line::Publish => text.push_str("publish")?,
+        Line::Serial => text.push_str("serial")?,
         Line::List => text.push_str("list")?,
         Line::Show { name } => write!(text, "show {}", name.as_str())?,
         Line::Roas { name } => write!(text, "roas {}", name.as_str())?,

@@ -6,6 +6,7 @@
 #![tactic(auto)]
 
 mod lines;
+mod publications;
 mod replies;
 mod shown;
 mod texts;

@@ -1,6 +1,6 @@
 //! Replies.
 
-use crate::{first_field, shown};
+use crate::{first_field, publications};
 use anyhow::{Context, Result, bail};
 use authority_book::Refusal;
 use json_api::{MEMORY_REPLY, Refused, accepted_into, refused_into, verdict_into};
@@ -27,7 +27,7 @@ pub fn answer(alloc: Global, call: &str, arguments: &str) -> Result<String> {
         "unknown command" => refused(alloc, &Refused::UnknownCommand),
         "memory" => memory(alloc),
         "verdict" => verdict(alloc, arguments),
-        _ => shown::answer(alloc, call, arguments),
+        _ => publications::answer(alloc, call, arguments),
     }
 }
 
@@ -57,7 +57,7 @@ fn memory(alloc: Global) -> Result<String> {
     Ok(written)
 }
 
-fn refused(alloc: Global, refused: &Refused) -> Result<String> {
+pub fn refused(alloc: Global, refused: &Refused) -> Result<String> {
     let mut out = Vec::with_capacity(alloc, 200)?;
     refused_into(&mut out, refused);
     text_of(out)

@@ -1,11 +1,13 @@
 -- Bytes that stand for themselves in a quoted text.
-use Rattle.std.proofs.Common.{ℕ, suc, ◌≡◌, ◌≢◌, ◌≤◌, ◌<◌, ◌^◌, List, [], ◌∷◌, ◌++◌, Bool, true, false, true≢false, ◌&&◌, refl, sym, ◌∙◌, arith, ap, codes, decimal, append_assoc}
+use Rattle.std.proofs.Common.{ℕ, suc, ◌≡◌, ◌≢◌, ◌≤◌, ◌<◌, ◌^◌, ◌/◌, ◌%◌, slice_index, Some, List, [], ◌∷◌, ◌++◌, Bool, true, false, true≢false, ◌&&◌, refl, sym, ◌∙◌, arith, ap, codes, decimal, append_assoc}
 use Rattle.std.proofs.lemmas.Bool.Decides.{nat_tests}
 use Rattle.std.specs.List.{AllPass, list_all}
 use Rattle.std.specs.Char.{is_ascii_alphabetic}
 use Rattle.std.specs.Str.Parse.{AllDigits}
 use Rattle.std.proofs.lemmas.Fmt.{decimal_is_IsNumeral}
 use Rattle.std.proofs.lemmas.Str.Parse.{digit_at}
+use Rattle.hex.specs.Hex.{IsBytes, encode_lower, encode_with, hex_digit_value, lower_digits}
+use Rattle.hex.proofs.HexLemmas.{IsDigits-lower_digits}
 use Rattle.json.specs.Print.{escape_byte, escape}
 use Rattle.json.proofs.Printed.Strings.{escape_byte_plain}
 use Rattle.names.specs.Name.{is_name_byte}
@@ -54,6 +56,21 @@ escape-digits (d ∷ ds) h =
 
 pub escape-decimal : (n : ℕ) → n < 2 ^ 64 → escape (decimal n) ≡ decimal n
 escape-decimal n fits = escape-digits (decimal n) (decimal_is_IsNumeral n fits).0.1
+
+-- nor do those of hex texts
+hex-digit : (c d : ℕ) → hex_digit_value c ≡ Some d → escape_byte c ≡ c ∷ []
+hex-digit c d h = escape_byte_plain c (λ e. grind (arith, nat_tests)) (λ e. grind (arith, nat_tests)) (grind (arith, nat_tests))
+
+pub escape-hex : (bytes : List ℕ) → IsBytes bytes → escape (encode_lower bytes) ≡ encode_lower bytes
+unfolding encode_with
+escape-hex [] fits = refl
+escape-hex (b ∷ bytes) fits =
+    let small : b < 256 = fits 0 in
+    let high = IsDigits-lower_digits (b / 16) (omega (arith, small)) in
+    let low = IsDigits-lower_digits (b % 16) (omega (arith, small)) in
+    let first = hex-digit (slice_index lower_digits (b / 16)) (b / 16) high in
+    let second = hex-digit (slice_index lower_digits (b % 16)) (b % 16) low in
+    rw (first, second) (ap (λ t. slice_index lower_digits (b / 16) ∷ slice_index lower_digits (b % 16) ∷ t) (escape-hex bytes (λ k. fits (suc k))))
 
 -- letters need no escape
 letter : (c : ℕ) → is_ascii_alphabetic c ≡ true → escape_byte c ≡ c ∷ []

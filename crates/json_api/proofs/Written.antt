@@ -24,3 +24,16 @@ appended-members ts a xs ys zs b = simp append_assoc
 pub print-string : (t : List ℕ) → print (Token.string t ∷ []) ≡ quoted t
 unfolding print_from
 print-string t = append-nil (quoted t)
+
+-- the pieces of the replies to a publication and to `serial`, one after another
+pub pieces-published : (old moment objects origins serial : List ℕ)
+    → old ++ codes "{\"moment\":" ++ moment ++ codes ",\"objects\":" ++ objects ++ codes ",\"origins\":" ++ origins
+    ++ codes ",\"reply\":\"published\",\"serial\":" ++ serial ++ codes "}"
+    ≡ old ++ (codes "{\"moment\":" ++ moment ++ codes ",\"objects\":" ++ objects ++ codes ",\"origins\":" ++ origins
+    ++ codes ",\"reply\":\"published\",\"serial\":" ++ serial ++ codes "}")
+pieces-published old moment objects origins serial = simp append_assoc
+
+pub pieces-serial : (old serial : List ℕ)
+    → old ++ codes "{\"reply\":\"serial\",\"serial\":" ++ serial ++ codes "}"
+    ≡ old ++ (codes "{\"reply\":\"serial\",\"serial\":" ++ serial ++ codes "}")
+pieces-serial old serial = simp append_assoc

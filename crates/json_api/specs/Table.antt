@@ -39,6 +39,10 @@ table row.ChildrenUnsuspend = entry (codes "children unsuspend") (required Ca �
     (λ ca child. line.Command ca (commands.UnsuspendChild child))
 table row.RoasUpdate = entry (codes "roas update") (required Ca ∷ optional field.Add [] ∷ optional Remove [] ∷ [])
     (λ ca added removed. line.Command ca (commands.UpdateRoas added removed))
+table row.Publish = entry (codes "publish") []
+    line.Publish
+table row.Serial = entry (codes "serial") []
+    line.Serial
 table row.List = entry (codes "list") []
     line.List
 table row.Show = entry (codes "show") (required Ca ∷ [])
@@ -51,7 +55,7 @@ table row.HistoryCommands = entry (codes "history commands") (required Ca ∷ []
 abbrev pub rows : List Row
 rows =
     row.Add ∷ row.Delete ∷ row.ParentsAdd ∷ row.ChildrenAdd ∷ row.ChildrenUpdate ∷ row.ChildrenRemove ∷ row.ChildrenSuspend
-    ∷ row.ChildrenUnsuspend ∷ row.RoasUpdate ∷ row.List ∷ row.Show ∷ row.RoasList ∷ row.HistoryCommands ∷ []
+    ∷ row.ChildrenUnsuspend ∷ row.RoasUpdate ∷ row.Publish ∷ row.Serial ∷ row.List ∷ row.Show ∷ row.RoasList ∷ row.HistoryCommands ∷ []
 
 -- ---- what the table says of a row
 

@@ -30,6 +30,10 @@ pub const MAX_LINE_LEN: usize = 1_048_576;
 pub enum Line {
     /// A command to the authority of this name.
     Command { name: Name, command: Command },
+    /// What was accepted is to be published.
+    Publish,
+    /// The serial of the last publication is asked for.
+    Serial,
     /// All authorities are asked for.
     List,
     /// An authority's state is asked for.

@@ -2,6 +2,7 @@
 
 ghost use Rattle.std.specs.Prelude.{◌≡◌, ◌+◌, ◌≤◌, ◌<◌, ◌^◌, ◌++◌, [], true, length, codes, decimal, vec_len, vec_capacity, string_bytes, IfOk, OnOk, OnErr};
 ghost use Rattle.std.specs.List.{list_all};
+ghost use Rattle.hex.specs.Hex.{encode_lower};
 ghost use Rattle.json.specs.Print.{escape};
 ghost use Rattle.std.specs.Char.{is_ascii_alphabetic};
 ghost use Rattle.authority_book.specs.Refusals.{code_of, name_of};
@@ -11,6 +12,7 @@ ghost use Rattle.json_api.specs.Refused.{detail_text, refused_spelling, verdict_
 use crate::line::LineFault;
 use crate::reply::{append, refusal_bytes};
 use authority_book::Refusal;
+use key_ids::KeyId;
 use names::Name;
 use std::alloc::{AllocError, Global};
 
@@ -31,6 +33,16 @@ pub enum Refused {
     JournalFull { held: u64, needed: u64 },
     /// The device of that number failed.
     DiskFault { device: u32 },
+    /// Nothing is to be published: all stands since that serial.
+    Nothing { serial: u64 },
+    /// The clock, or the moment that it comes to, is out of range.
+    ClockRange { now: u64 },
+    /// The serial or the next one, or a number of a key, is at its end.
+    SerialEnd { value: u64 },
+    /// The signer of that number failed.
+    SignerFault { signer: u32 },
+    /// A key that was made has the identifier of another one.
+    KeyClash { id: KeyId },
     BadLine,
     UnknownCommand,
     Memory,
@@ -39,10 +51,11 @@ pub enum Refused {
 // What a refusal is about.
 #[derive(Clone, Copy)]
 pub(crate) enum Detail {
-    Nothing,
+    Empty,
     Number(u64),
     Numbers(u64, u64),
     Name(Name),
+    Key(KeyId),
 }
 
 /// Appends the refusal, in the room that is there.
@@ -56,16 +69,23 @@ pub fn refused_into(out: &mut Vec<u8>, refused: &Refused)
         Refused::NoSuchAuthority { name } => {
             refusal_into(out, 20, Detail::Name(name), "NoSuchAuthority")
         }
-        Refused::Shut => refusal_into(out, 21, Detail::Nothing, "Shut"),
+        Refused::Shut => refusal_into(out, 21, Detail::Empty, "Shut"),
         Refused::JournalFull { held, needed } => {
             refusal_into(out, 22, Detail::Numbers(held, needed), "JournalFull")
         }
         Refused::DiskFault { device } => {
             refusal_into(out, 23, Detail::Number(u64::from(device)), "DiskFault")
         }
-        Refused::BadLine => refusal_into(out, 31, Detail::Nothing, "BadLine"),
-        Refused::UnknownCommand => refusal_into(out, 32, Detail::Nothing, "UnknownCommand"),
-        Refused::Memory => refusal_into(out, 40, Detail::Nothing, "Memory"),
+        Refused::Nothing { serial } => refusal_into(out, 24, Detail::Number(serial), "Nothing"),
+        Refused::ClockRange { now } => refusal_into(out, 25, Detail::Number(now), "ClockRange"),
+        Refused::SerialEnd { value } => refusal_into(out, 26, Detail::Number(value), "SerialEnd"),
+        Refused::SignerFault { signer } => {
+            refusal_into(out, 27, Detail::Number(u64::from(signer)), "SignerFault")
+        }
+        Refused::KeyClash { id } => refusal_into(out, 28, Detail::Key(id), "KeyClash"),
+        Refused::BadLine => refusal_into(out, 31, Detail::Empty, "BadLine"),
+        Refused::UnknownCommand => refusal_into(out, 32, Detail::Empty, "UnknownCommand"),
+        Refused::Memory => refusal_into(out, 40, Detail::Empty, "Memory"),
     }
 }
 
@@ -96,10 +116,11 @@ fn detail_into(out: &mut Vec<u8>, detail: Detail)
     ensures capacity { vec_capacity out.old ≤ vec_capacity out.new }
 {
     match detail {
-        Detail::Nothing => {}
+        Detail::Empty => {}
         Detail::Number(n) => number_into(out, n),
         Detail::Numbers(first, second) => numbers_into(out, first, second),
         Detail::Name(name) => name_into(out, &name),
+        Detail::Key(id) => key_into(out, &id),
     }
 }
 
@@ -138,6 +159,23 @@ fn name_into(out: &mut Vec<u8>, name: &Name)
     append(out, name.as_bytes());
 }
 
+// The hex digits of a key's identifier.
+fn key_into(out: &mut Vec<u8>, id: &KeyId)
+    requires room { vec_len out.old + 40 ≤ vec_capacity out.old }
+    ensures text { out.new.items ≡ out.old.items ++ encode_lower id.now.bytes }
+    ensures plain { escape (encode_lower id.now.bytes) ≡ encode_lower id.now.bytes }
+    ensures short { vec_len out.new ≤ vec_len out.old + 40 }
+    ensures capacity { vec_capacity out.old ≤ vec_capacity out.new }
+{
+    digits_are_plain(&id.bytes);
+    append(out, &id.hex());
+}
+
+// A law, with nothing to run: hex digits need no escape.
+fn digits_are_plain(bytes: &[u8])
+    ensures { escape (encode_lower bytes.now) ≡ encode_lower bytes.now }
+{}
+
 /// Appends the reply to a command that the verdict refused, whole or not at all.
 pub fn verdict_into(alloc: Global, out: &mut Vec<u8>, refusal: &Refusal) -> Result<(), AllocError>
     ensures ok { OnOk result (out.new.items ≡ out.old.items ++ verdict_spelling refusal.now) }
@@ -152,7 +190,7 @@ pub fn verdict_into(alloc: Global, out: &mut Vec<u8>, refusal: &Refusal) -> Resu
             return append_refusal(alloc, out, refusal.code(), &text, refusal.name());
         }
         Refusal::TooManyOrigins { after } => Detail::Number(*after),
-        _ => Detail::Nothing,
+        _ => Detail::Empty,
     };
     out.reserve(REFUSAL_ROOM)?;
     refusal_into(out, refusal.code(), detail, refusal.name());

@@ -1,12 +1,24 @@
 //! The replies, each one object of compact JSON with its members in byte order.
 
-ghost use Rattle.std.specs.Prelude.{◌≡◌, ◌+◌, ◌≤◌, ◌++◌, length, vec_len, vec_capacity, IfOk, OnOk};
-ghost use Rattle.json_api.specs.Reply.{accepted_spelling, refusal_spelling};
+ghost use Rattle.std.specs.Prelude.{◌≡◌, ◌+◌, ◌≤◌, ◌++◌, decimal, length, vec_len, vec_capacity, IfOk, OnOk};
+ghost use Rattle.json_api.specs.Reply.{accepted_spelling, published_spelling, serial_spelling, refusal_spelling};
 ghost use Rattle.json_api.specs.Tokens.{text_member, number_member, refusal_tokens};
 
 use json::Writer;
 use names::Name;
 use std::alloc::{AllocError, Global};
+
+/// What a publication comes to.
+#[derive(Clone, Copy, Debug, PartialEq, Eq)]
+pub struct Published {
+    pub serial: u64,
+    /// Seconds since 1970.
+    pub moment: u64,
+    /// How many objects stand published.
+    pub objects: u64,
+    /// How many origins they tell of.
+    pub origins: u64,
+}
 
 // Room for most replies.
 const REPLY_ROOM: usize = 128;
@@ -70,6 +82,47 @@ pub fn accepted_into(out: &mut Vec<u8>, name: &Name, count: u64)
     append(out, b"\",\"count\":");
     append(out, digits.format(count).as_bytes());
     append(out, b",\"reply\":\"accepted\"}");
+}
+
+/// Appends the reply to a publication, in the room that is there.
+pub fn published_into(out: &mut Vec<u8>, published: &Published)
+    requires { vec_len out.old + 200 ≤ vec_capacity out.old }
+    ensures text { out.new.items ≡ out.old.items ++ published_spelling published.now }
+    ensures short { vec_len out.new ≤ vec_len out.old + 200 }
+    ensures capacity { vec_capacity out.old ≤ vec_capacity out.new }
+{
+    append(out, b"{\"moment\":");
+    append_number(out, published.moment);
+    append(out, b",\"objects\":");
+    append_number(out, published.objects);
+    append(out, b",\"origins\":");
+    append_number(out, published.origins);
+    append(out, b",\"reply\":\"published\",\"serial\":");
+    append_number(out, published.serial);
+    append(out, b"}");
+}
+
+/// Appends the reply to `serial`, in the room that is there.
+pub fn serial_into(out: &mut Vec<u8>, serial: u64)
+    requires { vec_len out.old + 200 ≤ vec_capacity out.old }
+    ensures text { out.new.items ≡ out.old.items ++ serial_spelling serial }
+    ensures short { vec_len out.new ≤ vec_len out.old + 200 }
+    ensures capacity { vec_capacity out.old ≤ vec_capacity out.new }
+{
+    append(out, b"{\"reply\":\"serial\",\"serial\":");
+    append_number(out, serial);
+    append(out, b"}");
+}
+
+// Appends a number within the room that is there.
+pub(crate) fn append_number(out: &mut Vec<u8>, n: u64)
+    requires { vec_len out.old + 20 ≤ vec_capacity out.old }
+    ensures items { out.new.items ≡ out.old.items ++ decimal n }
+    ensures short { vec_len out.new ≤ vec_len out.old + 20 }
+    ensures capacity { vec_capacity out.old ≤ vec_capacity out.new }
+{
+    let mut digits = itoa::Buffer::new();
+    append(out, digits.format(n).as_bytes());
 }
 
 // Appends within the room that is there.

@@ -28,6 +28,8 @@ impl Row {
             Row::ChildrenSuspend => suspend_child(slots),
             Row::ChildrenUnsuspend => unsuspend_child(slots),
             Row::RoasUpdate => update_roas(alloc, slots),
+            Row::Publish => Ok(Line::Publish),
+            Row::Serial => Ok(Line::Serial),
             Row::List => Ok(Line::List),
             Row::Show => show(slots),
             Row::RoasList => roas_list(slots),
