@@ -1,11 +1,13 @@
--- What lines are answered, from what the desks' calls do.
+-- What lines are answered, from what the office's calls do.
 use Rattle.std.proofs.Common.{◌≡◌, ℕ, ◌⊎◌, ◌<◌, Bool, true, false, List, [], ◌∷◌, ◌++◌, length, refl, sym, ◌∙◌, ap, subst, inl, inr, arith}
 use Rattle.std.specs.declared.alloc.Global.{Global}
 use Rattle.std.specs.Prelude.{Result, Ok, Err, IfOk, Vec, Option, None, Some, slice_set}
 use Rattle.disk_api.specs.declared.disk.Disk.{Ghosts as DiskGhosts}
 use Rattle.authority_book.specs.declared.commands.Command.{Command}
 use Rattle.authority_book.specs.declared.refusals.Refusal.{Refusal}
-use Rattle.desk_core.specs.View.{View}
+use Rattle.rp_rules.specs.Certificates.{Vouched}
+use Rattle.press_state.specs.declared.stock.Published.{Published}
+use Rattle.press_core.specs.declared.fault.PressFault.{PressFault}
 use Rattle.json_api.specs.declared.line.Line.{Line}
 use Rattle.json_api.specs.declared.line.Line.TheVariants as lines
 use Rattle.json_api.specs.declared.line.LineFault.{LineFault}
@@ -13,15 +15,17 @@ use Rattle.json_api.specs.declared.line.LineFault.TheVariants.{BadLine, UnknownC
 use Rattle.json_api.specs.Refused.{fault_spelling}
 use Rattle.json_api.specs.Reply.{accepted_spelling}
 use Rattle.json_api.specs.Line.{ReadsLine, IsDocument, longest_line}
-use Rattle.krill_top.specs.declared.handler.Handler.{Handler}
 use Rattle.krill_top.specs.declared.command_fault.CommandFault.{CommandFault}
 use Rattle.krill_top.specs.declared.command_fault.CommandFault.TheVariants as faults
 use Rattle.krill_top.specs.Seen.{Seen, DeskState, desk_named}
-use Rattle.krill_top.specs.Outcomes.{Commanded, CommandedAt, fault_outcome}
+use Rattle.krill_top.specs.World.{World}
+use Rattle.krill_top.specs.Outcomes.{Outcome, CommandedAt, fault_outcome}
 use Rattle.krill_top.specs.Outcomes.Outcome.{Accepted, Verdict}
-use Rattle.krill_top.specs.Replies.{signers_at_hand, IsBlank, IsTold, memory_text, bad_line_text, outcome_text, is_accepted, CommandText, SaidText, ReadText, IsReadText, IsText, IsToldOr, IsFaultText, IsTextIn, IsReply, IsAnswer}
-use Rattle.krill_top.specs.Stands.{AreIn, Goes, Leads, MayText, MayReply}
-use Rattle.krill_top.proofs.Standing.{set_same, stay, leads_so}
+use Rattle.krill_top.specs.Publishing.{PublishesOrNot}
+use Rattle.krill_top.specs.Replies.{IsBlank, IsToldSo, IsTold, memory_text, bad_line_text, outcome_text, is_accepted, publish_text, has_published, CommandedIn, CommandText, PublishText, SaidText, ReadText, IsReadText, IsText, IsToldOr, IsFaultText, IsTextIn, IsReply, IsAnswer}
+use Rattle.krill_top.specs.Offices.{OfficeValue, StandsIn, Moves, MayText, MayReply}
+use Rattle.krill_top.proofs.Standing.{set_same}
+use Rattle.krill_top.proofs.Moving.{stay_in, moves_so}
 
 -- what holds of the value of an Ok, seen otherwise
 pub if_ok_so : {T E : Type 0} (r : Result T E) (P Q : T → Type 0) → IfOk r P → ((x : T) → P x → Q x) → IfOk r Q
@@ -29,31 +33,38 @@ if_ok_so (Ok x) P Q p f = f x p
 if_ok_so (Err e) P Q p f = tt
 
 -- a refused command changes nothing
-unchanged : (number : Option ℕ) (command : Command) (signers : ℕ) (refusal : Refusal) (before after : Seen) → CommandedAt number command signers (Verdict refusal) before after → after ≡ before
-unchanged None command signers refusal before after is = is.1
-unchanged (Some number) command signers refusal before after is =
+unchanged_desks : (number : Option ℕ) (command : Command) (signers : ℕ) (refusal : Refusal) (before after : Seen) → CommandedAt number command signers (Verdict refusal) before after → after ≡ before
+unchanged_desks None command signers refusal before after is = is.1
+unchanged_desks (Some number) command signers refusal before after is =
     is.put ∙ ap (λ (s : DeskState). slice_set before number s) is.changes.same ∙ set_same before number is.was is.found
+
+same_world : (before after : World) → after.seen ≡ before.seen → after.editions ≡ before.editions → after.signers ≡ before.signers → after ≡ before
+same_world before after seen editions signers = λ i. record { seen = seen i; editions = editions i; signers = signers i }
+
+unchanged : (name : List ℕ) (command : Command) (refusal : Refusal) (before after : World) → CommandedIn name command (Verdict refusal) before after → after ≡ before
+unchanged name command refusal before after is =
+    same_world before after (unchanged_desks (desk_named before.seen name) command (length before.signers) refusal before.seen after.seen is.commanded) is.same_editions is.same_signers
 
 abbrev failed : LineFault → Result Line LineFault
 failed fault = Err fault
 
 module _ {D : Type 0} (disk_of : DiskGhosts D) where
-  pub told_or_memory : (P : Seen → List ℕ → Bool → Seen → Type 0) (desks : List (View D)) (told : List ℕ)
-      → ((before : Seen) → AreIn desks before → P before told false before) ⊎ (told ≡ memory_text)
-      → Leads disk_of (λ b a. IsToldOr P b told false a) desks desks
-  told_or_memory P desks told is = stay disk_of (λ b a. IsToldOr P b told false a) desks (λ before all. elim is [
-    | inl so ↦ inl (so before all)
+  pub told_or_memory : (P : Vouched → World → List ℕ → Bool → World → Type 0) (office : OfficeValue D) (told : List ℕ)
+      → ((vouched : Vouched) (before : World) → StandsIn vouched office before → P vouched before told false before) ⊎ (told ≡ memory_text)
+      → Moves disk_of (λ vouched b a. IsToldOr (P vouched) b told false a) office office
+  told_or_memory P office told is = stay_in disk_of (λ vouched b a. IsToldOr (P vouched) b told false a) office (λ vouched before stands. elim is [
+    | inl so ↦ inl (so vouched before stands)
     | inr memory ↦ inr (record { text_is = memory; not_accepted = refl; same = refl })
   ])
 
   -- ---- a command
 
-  pub accepted_text : (name : List ℕ) (command : Command) (count : ℕ) (text : List ℕ) (old new : List (View D))
-      → text ≡ accepted_spelling name count → Leads disk_of (λ b a. Commanded name command signers_at_hand (Accepted count) b a) old new
-      → Leads disk_of (λ b a. IsToldOr (CommandText name command) b text true a) old new
-  accepted_text name command count text old new is leads =
-      leads_so disk_of (λ b a. Commanded name command signers_at_hand (Accepted count) b a) (λ b a. IsToldOr (CommandText name command) b text true a) old new leads
-      (λ before after comes. inl (record { outcome = Accepted count; comes = comes; text_is = is; accepted_is = refl }))
+  pub accepted_text : (name : List ℕ) (command : Command) (count : ℕ) (text : List ℕ) (old new : OfficeValue D)
+      → text ≡ accepted_spelling name count → Moves disk_of (λ vouched b a. CommandedIn name command (Accepted count) b a) old new
+      → Moves disk_of (λ vouched b a. IsToldOr (CommandText name command) b text true a) old new
+  accepted_text name command count text old new is moves =
+      moves_so disk_of (λ vouched b a. CommandedIn name command (Accepted count) b a) (λ vouched b a. IsToldOr (CommandText name command) b text true a) old new moves
+      (λ vouched before after comes. inl (record { outcome = Accepted count; comes = comes; text_is = is; accepted_is = refl }))
 
   -- no fault is accepted
   none_accepted : (fault : CommandFault D) → false ≡ is_accepted (fault_outcome fault)
@@ -64,103 +75,120 @@ module _ {D : Type 0} (disk_of : DiskGhosts D) where
   none_accepted (faults.DiskFault rose) = refl
   none_accepted faults.Memory = refl
 
-  told_fault : (name : List ℕ) (command : Command) (fault : CommandFault D) (text : List ℕ) (old new : List (View D))
-      → text ≡ outcome_text name (fault_outcome fault) → Leads disk_of (λ b a. Commanded name command signers_at_hand (fault_outcome fault) b a) old new
-      → Leads disk_of (λ b a. IsToldOr (CommandText name command) b text false a) old new
-  told_fault name command fault text old new is leads =
-      leads_so disk_of (λ b a. Commanded name command signers_at_hand (fault_outcome fault) b a) (λ b a. IsToldOr (CommandText name command) b text false a) old new leads
-      (λ before after comes. inl (record { outcome = fault_outcome fault; comes = comes; text_is = is; accepted_is = none_accepted fault }))
+  told_fault : (name : List ℕ) (command : Command) (fault : CommandFault D) (text : List ℕ) (old new : OfficeValue D)
+      → text ≡ outcome_text name (fault_outcome fault) → Moves disk_of (λ vouched b a. CommandedIn name command (fault_outcome fault) b a) old new
+      → Moves disk_of (λ vouched b a. IsToldOr (CommandText name command) b text false a) old new
+  told_fault name command fault text old new is moves =
+      moves_so disk_of (λ vouched b a. CommandedIn name command (fault_outcome fault) b a) (λ vouched b a. IsToldOr (CommandText name command) b text false a) old new moves
+      (λ vouched before after comes. inl (record { outcome = fault_outcome fault; comes = comes; text_is = is; accepted_is = none_accepted fault }))
 
-  pub fault_text : (name : List ℕ) (command : Command) (fault : CommandFault D) (text : List ℕ) (old new : List (View D))
-      → IsFaultText name fault text → Leads disk_of (λ b a. Commanded name command signers_at_hand (fault_outcome fault) b a) old new
-      → Leads disk_of (λ b a. IsToldOr (CommandText name command) b text false a) old new
-  fault_text name command faults.NoSuchAuthority text old new is leads = told_fault name command faults.NoSuchAuthority text old new is leads
-  fault_text name command (faults.Shut rose) text old new is leads = told_fault name command (faults.Shut rose) text old new is leads
-  fault_text name command (faults.JournalFull held needed) text old new is leads = told_fault name command (faults.JournalFull held needed) text old new is leads
-  fault_text name command (faults.DiskFault rose) text old new is leads = told_fault name command (faults.DiskFault rose) text old new is leads
-  fault_text name command faults.Memory text old new is leads = told_fault name command faults.Memory text old new is leads
-  fault_text name command (faults.Verdict refusal) text old new is leads = elim is [
-    | inl told ↦ told_fault name command (faults.Verdict refusal) text old new told leads
-    | inr memory ↦ leads_so disk_of (λ b a. Commanded name command signers_at_hand (Verdict refusal) b a) (λ b a. IsToldOr (CommandText name command) b text false a) old new leads
-        (λ before after comes. inr (record { text_is = memory; not_accepted = refl; same = unchanged (desk_named before name) command signers_at_hand refusal before after comes }))
+  pub fault_text : (name : List ℕ) (command : Command) (fault : CommandFault D) (text : List ℕ) (old new : OfficeValue D)
+      → IsFaultText name fault text → Moves disk_of (λ vouched b a. CommandedIn name command (fault_outcome fault) b a) old new
+      → Moves disk_of (λ vouched b a. IsToldOr (CommandText name command) b text false a) old new
+  fault_text name command faults.NoSuchAuthority text old new is moves = told_fault name command faults.NoSuchAuthority text old new is moves
+  fault_text name command (faults.Shut rose) text old new is moves = told_fault name command (faults.Shut rose) text old new is moves
+  fault_text name command (faults.JournalFull held needed) text old new is moves = told_fault name command (faults.JournalFull held needed) text old new is moves
+  fault_text name command (faults.DiskFault rose) text old new is moves = told_fault name command (faults.DiskFault rose) text old new is moves
+  fault_text name command faults.Memory text old new is moves = told_fault name command faults.Memory text old new is moves
+  fault_text name command (faults.Verdict refusal) text old new is moves = elim is [
+    | inl told ↦ told_fault name command (faults.Verdict refusal) text old new told moves
+    | inr memory ↦ moves_so disk_of (λ vouched b a. CommandedIn name command (Verdict refusal) b a) (λ vouched b a. IsToldOr (CommandText name command) b text false a) old new moves
+        (λ vouched before after comes. inr (record { text_is = memory; not_accepted = refl; same = unchanged name command refusal before after comes }))
   ]
+
+  -- ---- a publication
+
+  pub publish_told : (clock : ℕ) (outcome : Result Published PressFault) (text : List ℕ) (accepted : Bool) (old new : OfficeValue D)
+      → text ≡ publish_text outcome → accepted ≡ has_published outcome → Moves disk_of (λ vouched b a. PublishesOrNot vouched clock outcome b a) old new
+      → Moves disk_of (λ vouched b a. PublishText vouched b text accepted a) old new
+  publish_told clock outcome text accepted old new is so moves =
+      moves_so disk_of (λ vouched b a. PublishesOrNot vouched clock outcome b a) (λ vouched b a. PublishText vouched b text accepted a) old new moves
+      (λ vouched before after comes. record { clock = clock; outcome = outcome; comes = comes; text_is = is; accepted_is = so })
 
   -- ---- a read
 
-  pub read_text : {E : Type 0} (reply : Seen → List ℕ) (desks : List (View D)) (result : Result (Vec ℕ Global) E) (told : List ℕ)
-      → IfOk result (λ text. (seen : Seen) → AreIn desks seen → text.items ≡ reply seen) → IsTextIn result told ⊎ (told ≡ memory_text)
-      → Leads disk_of (λ b a. IsToldOr (λ before text accepted after. IsTold (reply before) before text accepted after) b told false a) desks desks
-  read_text reply desks (Ok text) told is said =
-      told_or_memory (λ before told accepted after. IsTold (reply before) before told accepted after) desks told (elim said [
-        | inl same ↦ inl (λ before all. record { text_is = same ∙ is before all; not_accepted = refl; same = refl })
+  pub read_text : {E : Type 0} (IsRight : Vouched → World → List ℕ → Type 0) (office : OfficeValue D) (result : Result (Vec ℕ Global) E) (told : List ℕ)
+      → IfOk result (λ text. (vouched : Vouched) (world : World) → StandsIn vouched office world → IsRight vouched world text.items) → IsTextIn result told ⊎ (told ≡ memory_text)
+      → Moves disk_of (λ vouched b a. IsToldOr (λ before text accepted after. IsToldSo (IsRight vouched before) before text accepted after) b told false a) office office
+  read_text IsRight office (Ok text) told is said =
+      told_or_memory (λ vouched before told accepted after. IsToldSo (IsRight vouched before) before told accepted after) office told (elim said [
+        | inl same ↦ inl (λ vouched before stands. record { text_is = subst (λ (t : List ℕ). IsRight vouched before t) (sym same) (is vouched before stands); not_accepted = refl; same = refl })
         | inr memory ↦ inr memory
       ])
-  read_text reply desks (Err wanting) told is said =
-      told_or_memory (λ before told accepted after. IsTold (reply before) before told accepted after) desks told (elim said [
+  read_text IsRight office (Err wanting) told is said =
+      told_or_memory (λ vouched before told accepted after. IsToldSo (IsRight vouched before) before told accepted after) office told (elim said [
         | inl none ↦ absurd none
         | inr memory ↦ inr memory
       ])
 
   -- ---- a line
 
-  pub said_text : (old new : Handler D) (line : List ℕ) (said : Line) (text : List ℕ) (accepted : Bool) → ReadsLine line (Ok said)
-      → Leads disk_of (λ b a. IsToldOr (SaidText said) b text accepted a) old.desks new.desks → MayText disk_of old line text accepted new
-  said_text old new line said text accepted reads leads =
-      leads_so disk_of (λ b a. IsToldOr (SaidText said) b text accepted a) (λ b a. IsText line b text accepted a) old.desks new.desks leads
-      (λ before after is. elim is [
+  pub said_text : (old new : OfficeValue D) (line : List ℕ) (said : Line) (text : List ℕ) (accepted : Bool) → ReadsLine line (Ok said)
+      → Moves disk_of (λ vouched b a. IsToldOr (SaidText vouched said) b text accepted a) old new → MayText disk_of old line text accepted new
+  said_text old new line said text accepted reads moves =
+      moves_so disk_of (λ vouched b a. IsToldOr (SaidText vouched said) b text accepted a) (λ vouched b a. IsText vouched line b text accepted a) old new moves
+      (λ vouched before after is. elim is [
         | inl told ↦ inl (record { said = Ok said; reads = reads; answer = told })
         | inr memory ↦ inr memory
       ])
 
-  pub line_fault_text : (old : Handler D) (line : List ℕ) (fault : LineFault) (text : List ℕ) → (¬ (failed fault ≡ failed Memory) → ReadsLine line (Err fault))
+  pub line_fault_text : (old : OfficeValue D) (line : List ℕ) (fault : LineFault) (text : List ℕ) → (¬ (failed fault ≡ failed Memory) → ReadsLine line (Err fault))
       → (text ≡ fault_spelling fault) ⊎ (text ≡ memory_text) → MayText disk_of old line text false old
-  line_fault_text old line fault text reads is = told_or_memory (IsReadText line) old.desks text (elim is [
+  line_fault_text old line fault text reads is = told_or_memory (λ vouched. IsReadText vouched line) old text (elim is [
     | inl told ↦ of_fault fault reads told
     | inr memory ↦ inr memory
   ])
     where
       of_fault : (fault : LineFault) → (¬ (failed fault ≡ failed Memory) → ReadsLine line (Err fault)) → text ≡ fault_spelling fault
-          → ((before : Seen) → AreIn old.desks before → IsReadText line before text false before) ⊎ (text ≡ memory_text)
+          → ((vouched : Vouched) (before : World) → StandsIn vouched old before → IsReadText vouched line before text false before) ⊎ (text ≡ memory_text)
       of_fault Memory reads told = inr told
-      of_fault BadLine reads told = inl (λ before all. record { said = Err BadLine; reads = reads (λ e. cc); answer = record { text_is = told; not_accepted = refl; same = refl } })
-      of_fault UnknownCommand reads told = inl (λ before all. record { said = Err UnknownCommand; reads = reads (λ e. cc); answer = record { text_is = told; not_accepted = refl; same = refl } })
-      of_fault (BadField name) reads told = inl (λ before all. record { said = Err (BadField name); reads = reads (λ e. cc); answer = record { text_is = told; not_accepted = refl; same = refl } })
+      of_fault BadLine reads told = inl (λ vouched before stands. record { said = Err BadLine; reads = reads (λ e. cc); answer = record { text_is = told; not_accepted = refl; same = refl } })
+      of_fault UnknownCommand reads told = inl (λ vouched before stands. record { said = Err UnknownCommand; reads = reads (λ e. cc); answer = record { text_is = told; not_accepted = refl; same = refl } })
+      of_fault (BadField name) reads told = inl (λ vouched before stands. record { said = Err (BadField name); reads = reads (λ e. cc); answer = record { text_is = told; not_accepted = refl; same = refl } })
 
-  pub blank_replies : (old : Handler D) (line : List ℕ) → IsBlank line → MayReply disk_of old line [] false old
-  blank_replies old line blank = stay disk_of (λ b a. IsReply b line [] false a) old.desks
-      (λ before all. inl (blank, record { text_is = refl; not_accepted = refl; same = refl }))
+  pub blank_replies : (old : OfficeValue D) (line : List ℕ) → IsBlank line → MayReply disk_of old line [] false old
+  blank_replies old line blank = stay_in disk_of (λ vouched b a. IsReply vouched b line [] false a) old
+      (λ vouched before stands. inl (blank, record { text_is = refl; not_accepted = refl; same = refl }))
 
-  pub text_replies : (old new : Handler D) (line text : List ℕ) (accepted : Bool) → ¬ IsBlank line → MayText disk_of old line text accepted new → MayReply disk_of old line (text ++ 10 ∷ []) accepted new
-  text_replies old new line text accepted not_blank leads =
-      leads_so disk_of (λ b a. IsText line b text accepted a) (λ b a. IsReply b line (text ++ 10 ∷ []) accepted a) old.desks new.desks leads
-      (λ before after is. inr (record { not_blank = not_blank; text = text; reply_is = refl; answer = is }))
+  pub text_replies : (old new : OfficeValue D) (line text : List ℕ) (accepted : Bool) → ¬ IsBlank line → MayText disk_of old line text accepted new → MayReply disk_of old line (text ++ 10 ∷ []) accepted new
+  text_replies old new line text accepted not_blank moves =
+      moves_so disk_of (λ vouched b a. IsText vouched line b text accepted a) (λ vouched b a. IsReply vouched b line (text ++ 10 ∷ []) accepted a) old new moves
+      (λ vouched before after is. inr (record { not_blank = not_blank; text = text; reply_is = refl; answer = is }))
 
   -- a line above the limit is neither blank nor a line of the table
-  pub long_replies : (old : Handler D) (line : List ℕ) → 1048576 < length line → MayReply disk_of old line (bad_line_text ++ 10 ∷ []) false old
+  pub long_replies : (old : OfficeValue D) (line : List ℕ) → 1048576 < length line → MayReply disk_of old line (bad_line_text ++ 10 ∷ []) false old
   long_replies old line long =
       let none : (value : _) → ¬ IsDocument line value = λ value is. omega (arith, is.short, long) in
       let not_blank : ¬ IsBlank line = λ blank. omega (arith, blank.short, long) in
       text_replies old old line bad_line_text false not_blank
-      (told_or_memory (IsReadText line) old.desks bad_line_text (inl (λ before all.
+      (told_or_memory (λ vouched. IsReadText vouched line) old bad_line_text (inl (λ vouched before stands.
       record { said = Err BadLine; reads = inr (none, refl); answer = record { text_is = refl; not_accepted = refl; same = refl } })))
 
-  pub read_said : {E : Type 0} (said kind : Line) (reply : Seen → List ℕ) (desks : List (View D)) (result : Result (Vec ℕ Global) E) (told : List ℕ) (accepted : Bool)
-      → said ≡ kind → accepted ≡ false
-      → ((before : Seen) (text : List ℕ) (taken : Bool) (after : Seen) → IsTold (reply before) before text taken after → SaidText kind before text taken after)
-      → IfOk result (λ text. (seen : Seen) → AreIn desks seen → text.items ≡ reply seen) → IsTextIn result told ⊎ (told ≡ memory_text)
-      → Leads disk_of (λ b a. IsToldOr (SaidText said) b told accepted a) desks desks
-  read_said said kind reply desks result told accepted said_is none so is given =
-      subst (λ (k : Bool). Leads disk_of (λ b a. IsToldOr (SaidText said) b told k a) desks desks) (sym none)
-      (subst (λ (l : Line). Leads disk_of (λ b a. IsToldOr (SaidText l) b told false a) desks desks) (sym said_is)
-      (leads_so disk_of (λ b a. IsToldOr (λ before text taken after. IsTold (reply before) before text taken after) b told false a) (λ b a. IsToldOr (SaidText kind) b told false a) desks desks
-      (read_text reply desks result told is given)
-      (λ before after answer. elim answer [
-        | inl t ↦ inl (so before told false after t)
+  -- a line that says this, said by its kind
+  pub kind_said : (P : Vouched → World → List ℕ → Bool → World → Type 0) (said kind : Line) (old new : OfficeValue D) (text : List ℕ) (accepted taken : Bool)
+      → said ≡ kind → accepted ≡ taken → ((vouched : Vouched) (before : World) (after : World) → P vouched before text taken after → SaidText vouched kind before text taken after)
+      → Moves disk_of (λ vouched b a. IsToldOr (P vouched) b text taken a) old new
+      → Moves disk_of (λ vouched b a. IsToldOr (SaidText vouched said) b text accepted a) old new
+  kind_said P said kind old new text accepted taken said_is taken_is so moves =
+      subst (λ (k : Bool). Moves disk_of (λ vouched b a. IsToldOr (SaidText vouched said) b text k a) old new) (sym taken_is)
+      (subst (λ (l : Line). Moves disk_of (λ vouched b a. IsToldOr (SaidText vouched l) b text taken a) old new) (sym said_is)
+      (moves_so disk_of (λ vouched b a. IsToldOr (P vouched) b text taken a) (λ vouched b a. IsToldOr (SaidText vouched kind) b text taken a) old new moves
+      (λ vouched before after answer. elim answer [
+        | inl is ↦ inl (so vouched before after is)
         | inr memory ↦ inr memory
       ])))
 
-  pub command_said : (said : Line) (name : List ℕ) (command : Command) (old new : List (View D)) (text : List ℕ) (accepted : Bool)
-      → said ≡ lines.Command name command → Leads disk_of (λ b a. IsToldOr (CommandText name command) b text accepted a) old new
-      → Leads disk_of (λ b a. IsToldOr (SaidText said) b text accepted a) old new
-  command_said said name command old new text accepted said_is leads =
-      subst (λ (l : Line). Leads disk_of (λ b a. IsToldOr (SaidText l) b text accepted a) old new) (sym said_is) leads
+  pub read_said : {E : Type 0} (said kind : Line) (IsRight : Vouched → World → List ℕ → Type 0) (office : OfficeValue D) (result : Result (Vec ℕ Global) E) (told : List ℕ) (accepted : Bool)
+      → said ≡ kind → accepted ≡ false
+      → ((vouched : Vouched) (before after : World) → IsToldSo (IsRight vouched before) before told false after → SaidText vouched kind before told false after)
+      → IfOk result (λ text. (vouched : Vouched) (world : World) → StandsIn vouched office world → IsRight vouched world text.items) → IsTextIn result told ⊎ (told ≡ memory_text)
+      → Moves disk_of (λ vouched b a. IsToldOr (SaidText vouched said) b told accepted a) office office
+  read_said said kind IsRight office result told accepted said_is none so is given =
+      kind_said (λ vouched before text taken after. IsToldSo (IsRight vouched before) before text taken after) said kind office office told accepted false said_is none so
+      (read_text IsRight office result told is given)
+
+  -- what is said for sure
+  pub surely : (P : Vouched → World → List ℕ → Bool → World → Type 0) (old new : OfficeValue D) (text : List ℕ) (accepted : Bool)
+      → Moves disk_of (λ vouched b a. P vouched b text accepted a) old new → Moves disk_of (λ vouched b a. IsToldOr (P vouched) b text accepted a) old new
+  surely P old new text accepted moves =
+      moves_so disk_of (λ vouched b a. P vouched b text accepted a) (λ vouched b a. IsToldOr (P vouched) b text accepted a) old new moves (λ vouched before after is. inl is)

@@ -1,7 +1,14 @@
 pub mod InTurn
 pub mod Standing
+pub mod Vouching
+pub mod Moving
 pub mod Granted
 pub mod Commanding
+pub mod Lists
+pub mod Since
+pub mod Named
+pub mod Publishing
+pub mod FirstWorld
 pub mod Reading
 pub mod Answering
 pub mod Sessions

@@ -1,5 +1,5 @@
 -- A run over all desks, from what opening found, what the session did, and what closing leaves.
-use Rattle.std.proofs.Common.{◌≡◌, ℕ, zero, suc, ◌+◌, ◌≤◌, List, [], ◌∷◌, map, refl, sym, ◌∙◌, ap, subst, arith}
+use Rattle.std.proofs.Common.{◌≡◌, ℕ, zero, suc, true, ◌+◌, ◌≤◌, List, [], ◌∷◌, length, map, refl, sym, ◌∙◌, ap, subst, inl, inr, arith}
 use Rattle.std.specs.Prelude.{Option, None, Some, IfSome, slice_get, ⊤}
 use Rattle.std.specs.Option.{option_map}
 use Rattle.fault_count.specs.Rise.{HasRisen}
@@ -15,11 +15,21 @@ use Rattle.desk_core.specs.Commands.{Records, HasCommands}
 use Rattle.krill_top.specs.declared.serving.SessionEnds.{SessionEnds}
 use Rattle.krill_top.specs.declared.running.RunEnd.{RunEnd}
 use Rattle.krill_top.specs.Seen.{Seen, DeskState}
+use Rattle.signer_api.specs.State.{SignerState}
+use Rattle.signer_ring.specs.Ring.{AllTell, Vouched as VouchedBy}
+use Rattle.rp_rules.specs.Certificates.{Vouched}
+use Rattle.press_core.specs.Signers.{HasAllVouched}
+use Rattle.krill_top.specs.declared.faults.OpenFault.{OpenFault}
+use Rattle.krill_top.specs.Seen.{names_in}
+use Rattle.krill_top.specs.World.{World, AreTrusted}
 use Rattle.krill_top.specs.Stands.{IsIn, InAt, AreIn, all_stored, GoesOn, GoesOnAt}
+use Rattle.krill_top.specs.Offices.{OfficeValue, StandsIn}
 use Rattle.krill_top.specs.Ends.{run_status, fault_of}
 use Rattle.krill_top.specs.Opened.{IsOpened, IsClosed, AreOpened, AreClosed}
 use Rattle.krill_top.specs.Ended.{Served}
-use Rattle.krill_top.specs.Run.{IsNext, IsServed, IsServedAt, ServesOne}
+use Rattle.krill_top.specs.Run.{IsNext, IsServed, IsServedAt, IsSignersCause, IsClosedAgain, IsTrusting, ServesOne, signers_needed, streams_of}
+use Rattle.krill_top.proofs.Standing.{go_on_same}
+use Rattle.krill_top.proofs.Vouching.{telling_vouched}
 use Rattle.krill_top.proofs.InTurn.{opened_stood_for, closed_left}
 
 module _ {D : Type 0} (disk_of : DiskGhosts D) where
@@ -126,19 +136,59 @@ module _ {D : Type 0} (disk_of : DiskGhosts D) where
   served_at number (Some disk) (Some desk) (Some new) (Some back) (Some was) (Some is) opened goes stands closed =
       served_one number disk desk new back was is opened goes stands closed
 
-module _ {D S K C : Type 0} (disk_of : DiskGhosts D) (source_of : SourceGhosts S) (sink_of : SinkGhosts K) where
-  pub serves : (disks : List D) (before after : SessionEnds S K C) (end : SessionEnd) (run : RunEnd D S K C) (desks served : List (View D))
-      → AreOpened disk_of 0 disks desks → Served disk_of source_of sink_of before after desks served end → AreClosed disk_of served run.desks.items
+  -- the states of desks that were opened
+  pub opened_seen : (disks : List D) (desks : List (View D)) → AreOpened disk_of 0 disks desks → (seen : Seen) × AreIn desks seen
+  opened_seen disks desks opened = (
+    opened_states 0 disks desks opened,
+    λ n. in_at n (slice_get disks n) (slice_get desks n) (slice_get (opened_states 0 disks desks opened) n) (opened_at 0 disks desks opened n n (omega arith)),
+  )
+
+  -- desks that were opened and closed again
+  pub closed_again : (fault : OpenFault) (signers : ℕ) (disks : List D) (desks : List (View D)) (news : List D) → AreOpened disk_of 0 disks desks → AreClosed disk_of desks news
+      → ((seen : Seen) → AreIn desks seen → IsSignersCause fault signers seen) → IsClosedAgain disk_of fault signers disks news
+  unfolding opened_seen
+  closed_again fault signers disks desks news opened closed cause =
+      let seen = opened_seen disks desks opened in
+      record {
+        found = seen.0;
+        disks = λ n. served_at n (slice_get disks n) (slice_get desks n) (slice_get desks n) (slice_get news n) (slice_get seen.0 n) (slice_get seen.0 n)
+            (opened_at 0 disks desks opened n n (omega arith)) (go_on_same disk_of desks seen.0 seen.1 n) (seen.1 n) (closed_at desks news closed n);
+        cause = cause seen.0 seen.1;
+      }
+
+trusted_of : (vouched : Vouched) (begun ended : List SignerState) → IsTrusting vouched begun ended → AreTrusted vouched begun
+trusted_of vouched begun ended trusting = elim trusting [ inl tell ↦ inl tell.0 | inr every ↦ inr every ]
+
+vouched_of : (vouched : Vouched) (begun ended : List SignerState) → IsTrusting vouched begun ended → (AllTell begun → AllTell ended) → HasAllVouched vouched ended
+vouched_of vouched begun ended trusting told = elim trusting [
+  | inl tell ↦ telling_vouched vouched ended (told tell.0) tell.1
+  | inr every ↦ (λ key digest signature some. every key digest signature)
+]
+
+module _ {D G S K C : Type 0} (disk_of : DiskGhosts D) (state_of : G → SignerState) (source_of : SourceGhosts S) (sink_of : SinkGhosts K) where
+  pub serves : (vouched : Vouched) (disks : List D) (signers : List G) (before after : SessionEnds S K C) (end : SessionEnd) (run : RunEnd D G S K C) (office served : OfficeValue D)
+      → AreOpened disk_of 0 disks office.desks → office.press.ring ≡ map state_of signers
+      → ((vouched : Vouched) (seen : Seen) → AreTrusted vouched (map state_of signers) → AreIn office.desks seen
+      → StandsIn vouched office (record { seen = seen; editions = []; signers = map state_of signers }))
+      → ((seen : Seen) → AreIn office.desks seen → signers_needed (names_in seen) ≤ length (map state_of signers))
+      → Served disk_of source_of sink_of (streams_of before) (streams_of after) office served end → AreClosed disk_of served.desks run.desks.items
+      → map state_of run.signers.items ≡ served.press.ring
       → run.sessions.items ≡ after ∷ [] → run.status ≡ run_status (fault_of end) → run.fault ≡ fault_of end
       → (end ≡ SourceFault → HasRisen (source_of.fault_count before.source) (source_of.fault_count after.source))
       → (end ≡ SinkFault → HasRisen (sink_of.fault_count before.sink) (sink_of.fault_count after.sink))
       → source_of.fault_count before.source ≤ source_of.fault_count after.source → sink_of.fault_count before.sink ≤ sink_of.fault_count after.sink
-      → after.clock ≡ before.clock
-      → ServesOne disk_of source_of sink_of disks before run
-  serves disks before after end run desks served opened session closed sessions status fault source_fault sink_fault source_later sink_later clock =
-      let begun : Seen = opened_states disk_of 0 disks desks opened in
-      let all : (n : ℕ) → OpenedAt disk_of n (slice_get disks n) (slice_get desks n) (slice_get begun n) = λ n. opened_at disk_of 0 disks desks opened n n (omega arith) in
-      let done = session begun (λ n. in_at disk_of n (slice_get disks n) (slice_get desks n) (slice_get begun n) (all n)) in
+      → IsTrusting vouched (map state_of signers) (map state_of run.signers.items)
+      → ServesOne disk_of state_of source_of sink_of vouched disks signers before run
+  unfolding opened_seen
+  serves vouched disks signers before after end run office served opened ring stands there session closed signers_back sessions status fault source_fault sink_fault source_later sink_later trusting =
+      let seen = opened_seen disk_of disks office.desks opened in
+      let begun : World = record { seen = seen.0; editions = []; signers = map state_of signers } in
+      let begins = stands vouched seen.0 (trusted_of vouched (map state_of signers) (map state_of run.signers.items) trusting) seen.1 in
+      let told : AllTell (map state_of signers) → AllTell (map state_of run.signers.items) =
+      λ all. subst AllTell (sym signers_back) (session.kept.told (subst AllTell (sym ring) all)) in
+      let has : HasAllVouched vouched served.press.ring =
+      subst (HasAllVouched vouched) signers_back (vouched_of vouched (map state_of signers) (map state_of run.signers.items) trusting told) in
+      let done = session.arrives vouched has begun begins in
       record {
         after = after;
         end = end;
@@ -148,9 +198,13 @@ module _ {D S K C : Type 0} (disk_of : DiskGhosts D) (source_of : SourceGhosts S
         status = status;
         fault = fault;
         served = done.step;
-        clock = clock;
-        disks = λ n. served_at disk_of n (slice_get disks n) (slice_get desks n) (slice_get served n) (slice_get run.desks.items n) (slice_get begun n) (slice_get done.after n)
-            (all n) (done.disks n) (done.stands n) (closed_at disk_of served run.desks.items closed n);
+        disks = λ n. served_at disk_of n (slice_get disks n) (slice_get office.desks n) (slice_get served.desks n) (slice_get run.desks.items n) (slice_get seen.0 n) (slice_get done.after.seen n)
+            (opened_at disk_of 0 disks office.desks opened n n (omega arith)) (done.disks n) (done.stands.desks n) (closed_at disk_of served.desks run.desks.items closed n);
+        none_before = refl;
+        steps = done.stands.press.steps;
+        signers_begun = refl;
+        signers_ended = signers_back ∙ done.stands.ring;
+        signers_there = there seen.0 seen.1;
         source_fault = source_fault;
         sink_fault = sink_fault;
         source_later = source_later;

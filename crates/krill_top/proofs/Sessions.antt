@@ -1,69 +1,126 @@
--- A session's replies over the program's desks are its replies over the states of these.
+-- A session's replies over the program's office are its replies over the worlds in which that is.
 use Rattle.std.proofs.Common.{◌≡◌, ℕ, ◌⊎◌, Bool, false, List, [], ◌∷◌, ◌++◌, length, sym, subst, refl, inl, inr}
 use Rattle.disk_api.specs.declared.disk.Disk.{Ghosts as DiskGhosts}
+use Rattle.signer_ring.specs.Ring.{Keeps}
+use Rattle.rp_rules.specs.Certificates.{Vouched}
+use Rattle.press_core.specs.Signers.{HasAllVouched}
 use Rattle.line_loop.specs.Lines.{all_lines, ended_lines}
 use Rattle.line_loop.specs.Replies.{Answers, AnswersAtMostOne, BreaksOff}
 use Rattle.line_loop.specs.Session.{Serves, Breaks}
 use Rattle.line_loop.specs.declared.session.SessionEnd.{SessionEnd}
 use Rattle.line_loop.specs.declared.session.SessionEnd.TheVariants.{End, SourceFault, SinkFault, Spent, Memory}
-use Rattle.krill_top.specs.declared.handler.Handler.{Handler}
-use Rattle.krill_top.specs.Seen.{Seen}
+use Rattle.krill_top.specs.World.{World, AreTrusted}
 use Rattle.krill_top.specs.Replies.{IsReply}
-use Rattle.krill_top.specs.Stands.{AreIn, GoOn, Goes, MayReply}
-use Rattle.krill_top.proofs.Standing.{go_on_same, go_on_then}
+use Rattle.krill_top.specs.Offices.{OfficeValue, StandsIn, Arrives, Moves, MayReply}
+use Rattle.krill_top.proofs.Standing.{go_on_then}
+use Rattle.krill_top.proofs.Moving.{arrive_here, arrives_so}
+use Rattle.krill_top.proofs.Vouching.{vouched_back, keeps_same, keeps_then}
 
-module _ {D : Type 0} (disk_of : DiskGhosts D) where
-  abbrev Ends : (Seen → Seen → Type 0) → Handler D → Handler D → Seen → Type 0
-  Ends P old new before = Goes disk_of P old.desks new.desks before
+module _ {D H : Type 0} (disk_of : DiskGhosts D) (office_of : H → OfficeValue D) where
+  -- a handler's answers are those of its office
+  abbrev May : H → List ℕ → List ℕ → Bool → H → Type 0
+  May old line reply accepted new = MayReply disk_of (office_of old) line reply accepted (office_of new)
 
-  -- nothing was heard
-  none_heard : (P : Seen → Seen → Type 0) (old new : Handler D) (before : Seen) → P before before → new ≡ old → AreIn old.desks before → Ends P old new before
-  none_heard P old new before so same stands = record {
-    after = before;
-    step = so;
-    stands = subst (λ (x : Handler D). AreIn x.desks before) (sym same) stands;
-    disks = subst (λ (x : Handler D). GoOn disk_of old.desks x.desks before before) (sym same) (go_on_same disk_of old.desks before stands);
-  }
+  abbrev KeepSigners : H → H → Type 0
+  KeepSigners old new = Keeps (office_of old).press.ring (office_of new).press.ring
 
-  answers_over : (lines : List (List ℕ)) (replies : List ℕ) (old new : Handler D) (before : Seen)
-      → Answers (MayReply disk_of) old lines replies new → AreIn old.desks before → Ends (λ b a. Answers IsReply b lines replies a) old new before
-  answers_over [] replies old new before a stands =
-      none_heard (λ b e. Answers IsReply b [] replies e) old new before (a.0, refl) a.1 stands
-  answers_over (line ∷ lines) replies old new before a stands =
-      let first = a.5 before stands in
-      let rest = answers_over lines a.1 a.3 new first.after a.6 first.stands in
-      record {
-        after = rest.after;
-        step = (a.0, a.1, a.2, first.after, a.4, first.step, rest.step);
-        stands = rest.stands;
-        disks = go_on_then disk_of old.desks a.3.desks new.desks before first.after rest.after first.disks rest.disks;
-      }
+  same_keeps : (old new : H) → new ≡ old → KeepSigners old new
+  same_keeps old new same = subst (λ (h : H). KeepSigners old h) (sym same) (keeps_same (office_of old).press.ring)
 
-  last_over : (lines : List (List ℕ)) (replies : List ℕ) (old new : Handler D) (before : Seen)
-      → AnswersAtMostOne (MayReply disk_of) old lines replies new → AreIn old.desks before → Ends (λ b a. AnswersAtMostOne IsReply b lines replies a) old new before
-  last_over [] replies old new before a stands =
-      none_heard (λ b e. AnswersAtMostOne IsReply b [] replies e) old new before (a.0, refl) a.1 stands
-  last_over (line ∷ []) replies old new before a stands =
-      let only = a.1 before stands in
-      record { after = only.after; step = (a.0, only.step); stands = only.stands; disks = only.disks }
-  last_over (line ∷ next ∷ lines) replies old new before a stands =
-      let first = a.4 before stands in
-      let rest = last_over (next ∷ lines) a.1 a.2 new first.after a.5 first.stands in
-      record {
-        after = rest.after;
-        step = (a.0, a.1, first.after, a.3, first.step, rest.step);
-        stands = rest.stands;
-        disks = go_on_then disk_of old.desks a.2.desks new.desks before first.after rest.after first.disks rest.disks;
-      }
+  -- ---- what the signers keep
 
-  breaks_over : (lines : List (List ℕ)) (written : List ℕ) (old new : Handler D) (before : Seen)
-      → BreaksOff (MayReply disk_of) old lines written new → AreIn old.desks before → Ends (λ b a. BreaksOff IsReply b lines written a) old new before
-  breaks_over lines written old new before b stands =
-      let first = answers_over b.heard b.replies old b.mid before b.answered stands in
-      let rest = last_over b.unheard b.more b.mid new first.after b.last first.stands in
-      record {
-        after = rest.after;
-        step = record {
+  answers_keep : (lines : List (List ℕ)) (replies : List ℕ) (old new : H) → Answers May old lines replies new → KeepSigners old new
+  answers_keep [] replies old new a = same_keeps old new a.1
+  answers_keep (line ∷ lines) replies old new a =
+      keeps_then (office_of old).press.ring (office_of a.3).press.ring (office_of new).press.ring a.5.kept (answers_keep lines a.1 a.3 new a.6)
+
+  last_keeps : (lines : List (List ℕ)) (replies : List ℕ) (old new : H) → AnswersAtMostOne May old lines replies new → KeepSigners old new
+  last_keeps [] replies old new a = same_keeps old new a.1
+  last_keeps (line ∷ []) replies old new a = a.1.kept
+  last_keeps (line ∷ next ∷ lines) replies old new a =
+      keeps_then (office_of old).press.ring (office_of a.2).press.ring (office_of new).press.ring a.4.kept (last_keeps (next ∷ lines) a.1 a.2 new a.5)
+
+  breaks_keep : (lines : List (List ℕ)) (written : List ℕ) (old new : H) → BreaksOff May old lines written new → KeepSigners old new
+  breaks_keep lines written old new b =
+      keeps_then (office_of old).press.ring (office_of b.mid).press.ring (office_of new).press.ring
+      (answers_keep b.heard b.replies old b.mid b.answered) (last_keeps b.unheard b.more b.mid new b.last)
+
+  broken_keep : (given written : List ℕ) (at_end : Type 0) (old new : H) → Breaks May old given at_end written new → KeepSigners old new
+  broken_keep given written at_end old new b = elim b.1 [
+    | inl all ↦ breaks_keep (all_lines given) written old new all.1
+    | inr some ↦ breaks_keep (ended_lines given) written old new some
+  ]
+
+  serves_keep : (ended : SessionEnd) (given written : List ℕ) (at_end : Type 0) (old new : H) → Serves May old given at_end written new ended → KeepSigners old new
+  serves_keep End given written at_end old new s = answers_keep (all_lines given) written old new s.2
+  serves_keep SourceFault given written at_end old new s = answers_keep (ended_lines given) written old new s.1
+  serves_keep (Spent bytes) given written at_end old new s = answers_keep (ended_lines given) written old new s.2
+  serves_keep SinkFault given written at_end old new s = broken_keep given written at_end old new s
+  serves_keep Memory given written at_end old new s = broken_keep given written at_end old new s
+
+  -- ---- what is answered in a world
+
+  module _ (vouched : Vouched) where
+    abbrev Ends : (World → World → Type 0) → H → H → World → Type 0
+    Ends P old new before = Arrives disk_of vouched P (office_of old) (office_of new) before
+
+    abbrev Is : World → List ℕ → List ℕ → Bool → World → Type 0
+    Is = IsReply vouched
+
+    -- nothing was heard
+    none_heard : (P : World → World → Type 0) (old new : H) (before : World) → P before before → new ≡ old → StandsIn vouched (office_of old) before → Ends P old new before
+    none_heard P old new before so same stands =
+        subst (λ (h : H). Ends P old h before) (sym same) (arrive_here disk_of vouched P (office_of old) before so stands)
+
+    -- one part after another
+    both : (P Q R : World → World → Type 0) (old mid new : H) (before : World) (first : Ends P old mid before) → Ends Q mid new first.after
+        → ((after : World) → Q first.after after → R before after) → Ends R old new before
+    both P Q R old mid new before first rest so = record {
+      after = rest.after;
+      step = so rest.after rest.step;
+      stands = rest.stands;
+      disks = go_on_then disk_of (office_of old).desks (office_of mid).desks (office_of new).desks before.seen first.after.seen rest.after.seen first.disks rest.disks;
+    }
+
+    -- what has to be vouched between, of what is vouched for in the end
+    between : (old mid new : H) (before : World) → StandsIn vouched (office_of old) before → KeepSigners old mid → KeepSigners mid new → HasAllVouched vouched (office_of new).press.ring
+        → HasAllVouched vouched (office_of mid).press.ring
+    between old mid new before stands first second all =
+        vouched_back vouched (office_of old).press.ring (office_of mid).press.ring (office_of new).press.ring
+        (subst (AreTrusted vouched) (sym stands.ring) stands.trusted) first second all
+
+    answers_over : (lines : List (List ℕ)) (replies : List ℕ) (old new : H) (before : World) → HasAllVouched vouched (office_of new).press.ring
+        → Answers May old lines replies new → StandsIn vouched (office_of old) before → Ends (λ b a. Answers Is b lines replies a) old new before
+    answers_over [] replies old new before all a stands =
+        none_heard (λ b e. Answers Is b [] replies e) old new before (a.0, refl) a.1 stands
+    answers_over (line ∷ lines) replies old new before all a stands =
+        let first = a.5.arrives vouched (between old a.3 new before stands a.5.kept (answers_keep lines a.1 a.3 new a.6) all) before stands in
+        let rest = answers_over lines a.1 a.3 new first.after all a.6 first.stands in
+        both (λ b e. Is b line a.0 a.2 e) (λ b e. Answers Is b lines a.1 e) (λ b e. Answers Is b (line ∷ lines) replies e) old a.3 new before first rest
+        (λ after step. (a.0, a.1, a.2, first.after, a.4, first.step, step))
+
+    last_over : (lines : List (List ℕ)) (replies : List ℕ) (old new : H) (before : World) → HasAllVouched vouched (office_of new).press.ring
+        → AnswersAtMostOne May old lines replies new → StandsIn vouched (office_of old) before → Ends (λ b a. AnswersAtMostOne Is b lines replies a) old new before
+    last_over [] replies old new before all a stands =
+        none_heard (λ b e. AnswersAtMostOne Is b [] replies e) old new before (a.0, refl) a.1 stands
+    last_over (line ∷ []) replies old new before all a stands =
+        arrives_so disk_of vouched (λ b e. Is b line replies a.0 e) (λ b e. AnswersAtMostOne Is b (line ∷ []) replies e) (office_of old) (office_of new) before
+        (a.1.arrives vouched all before stands) (λ after step. (a.0, step))
+    last_over (line ∷ next ∷ lines) replies old new before all a stands =
+        let first = a.4.arrives vouched (between old a.2 new before stands a.4.kept (last_keeps (next ∷ lines) a.1 a.2 new a.5) all) before stands in
+        let rest = last_over (next ∷ lines) a.1 a.2 new first.after all a.5 first.stands in
+        both (λ b e. Is b line a.0 false e) (λ b e. AnswersAtMostOne Is b (next ∷ lines) a.1 e) (λ b e. AnswersAtMostOne Is b (line ∷ next ∷ lines) replies e) old a.2 new before first rest
+        (λ after step. (a.0, a.1, first.after, a.3, first.step, step))
+
+    breaks_over : (lines : List (List ℕ)) (written : List ℕ) (old new : H) (before : World) → HasAllVouched vouched (office_of new).press.ring
+        → BreaksOff May old lines written new → StandsIn vouched (office_of old) before → Ends (λ b a. BreaksOff Is b lines written a) old new before
+    breaks_over lines written old new before all b stands =
+        let last = last_keeps b.unheard b.more b.mid new b.last in
+        let heard = answers_keep b.heard b.replies old b.mid b.answered in
+        let first = answers_over b.heard b.replies old b.mid before (between old b.mid new before stands heard last all) b.answered stands in
+        let rest = last_over b.unheard b.more b.mid new first.after all b.last first.stands in
+        both (λ w e. Answers Is w b.heard b.replies e) (λ w e. AnswersAtMostOne Is w b.unheard b.more e) (λ w e. BreaksOff Is w lines written e) old b.mid new before first rest
+        (λ after step. record {
           heard = b.heard;
           unheard = b.unheard;
           rest = b.rest;
@@ -74,33 +131,38 @@ module _ {D : Type 0} (disk_of : DiskGhosts D) where
           mid = first.after;
           in_order = b.in_order;
           answered = first.step;
-          last = rest.step;
+          last = step;
           taken = b.taken;
           lost = b.lost;
-        };
-        stands = rest.stands;
-        disks = go_on_then disk_of old.desks b.mid.desks new.desks before first.after rest.after first.disks rest.disks;
-      }
+        })
 
-  broken_over : (given written : List ℕ) (at_end : Type 0) (old new : Handler D) (before : Seen)
-      → Breaks (MayReply disk_of) old given at_end written new → AreIn old.desks before → Ends (λ b a. Breaks IsReply b given at_end written a) old new before
-  broken_over given written at_end old new before b stands = elim b.1 [
-    | inl all ↦ (let e = breaks_over (all_lines given) written old new before all.1 stands in
-        record { after = e.after; step = (b.0, inl (all.0, e.step)); stands = e.stands; disks = e.disks })
-    | inr some ↦ (let e = breaks_over (ended_lines given) written old new before some stands in
-        record { after = e.after; step = (b.0, inr e.step); stands = e.stands; disks = e.disks })
-  ]
+    broken_over : (given written : List ℕ) (at_end : Type 0) (old new : H) (before : World) → HasAllVouched vouched (office_of new).press.ring
+        → Breaks May old given at_end written new → StandsIn vouched (office_of old) before → Ends (λ b a. Breaks Is b given at_end written a) old new before
+    broken_over given written at_end old new before vouches b stands = elim b.1 [
+      | inl all ↦ arrives_so disk_of vouched (λ w e. BreaksOff Is w (all_lines given) written e) (λ w e. Breaks Is w given at_end written e) (office_of old) (office_of new) before
+          (breaks_over (all_lines given) written old new before vouches all.1 stands) (λ after step. (b.0, inl (all.0, step)))
+      | inr some ↦ arrives_so disk_of vouched (λ w e. BreaksOff Is w (ended_lines given) written e) (λ w e. Breaks Is w given at_end written e) (office_of old) (office_of new) before
+          (breaks_over (ended_lines given) written old new before vouches some stands) (λ after step. (b.0, inr step))
+    ]
 
-  pub serves_over : (ended : SessionEnd) (given written : List ℕ) (at_end : Type 0) (old new : Handler D) (before : Seen)
-      → Serves (MayReply disk_of) old given at_end written new ended → AreIn old.desks before → Ends (λ b a. Serves IsReply b given at_end written a ended) old new before
-  serves_over End given written at_end old new before s stands =
-      let e = answers_over (all_lines given) written old new before s.2 stands in
-      record { after = e.after; step = (s.0, s.1, e.step); stands = e.stands; disks = e.disks }
-  serves_over SourceFault given written at_end old new before s stands =
-      let e = answers_over (ended_lines given) written old new before s.1 stands in
-      record { after = e.after; step = (s.0, e.step); stands = e.stands; disks = e.disks }
-  serves_over (Spent bytes) given written at_end old new before s stands =
-      let e = answers_over (ended_lines given) written old new before s.2 stands in
-      record { after = e.after; step = (s.0, s.1, e.step); stands = e.stands; disks = e.disks }
-  serves_over SinkFault given written at_end old new before s stands = broken_over given written at_end old new before s stands
-  serves_over Memory given written at_end old new before s stands = broken_over given written at_end old new before s stands
+    serves_in : (ended : SessionEnd) (given written : List ℕ) (at_end : Type 0) (old new : H) (before : World) → HasAllVouched vouched (office_of new).press.ring
+        → Serves May old given at_end written new ended → StandsIn vouched (office_of old) before → Ends (λ b a. Serves Is b given at_end written a ended) old new before
+    serves_in End given written at_end old new before all s stands =
+        arrives_so disk_of vouched (λ b e. Answers Is b (all_lines given) written e) (λ b e. Serves Is b given at_end written e End) (office_of old) (office_of new) before
+        (answers_over (all_lines given) written old new before all s.2 stands) (λ after step. (s.0, s.1, step))
+    serves_in SourceFault given written at_end old new before all s stands =
+        arrives_so disk_of vouched (λ b e. Answers Is b (ended_lines given) written e) (λ b e. Serves Is b given at_end written e SourceFault) (office_of old) (office_of new) before
+        (answers_over (ended_lines given) written old new before all s.1 stands) (λ after step. (s.0, step))
+    serves_in (Spent bytes) given written at_end old new before all s stands =
+        arrives_so disk_of vouched (λ b e. Answers Is b (ended_lines given) written e) (λ b e. Serves Is b given at_end written e (Spent bytes)) (office_of old) (office_of new) before
+        (answers_over (ended_lines given) written old new before all s.2 stands) (λ after step. (s.0, s.1, step))
+    serves_in SinkFault given written at_end old new before all s stands = broken_over given written at_end old new before all s stands
+    serves_in Memory given written at_end old new before all s stands = broken_over given written at_end old new before all s stands
+
+  pub serves_over : (ended : SessionEnd) (given written : List ℕ) (at_end : Type 0) (old new : H)
+      → Serves May old given at_end written new ended
+      → Moves disk_of (λ vouched b a. Serves (IsReply vouched) b given at_end written a ended) (office_of old) (office_of new)
+  serves_over ended given written at_end old new s = record {
+    kept = serves_keep ended given written at_end old new s;
+    arrives = λ vouched all before stands. serves_in vouched ended given written at_end old new before all s stands;
+  }

@@ -1,4 +1,4 @@
--- What a session does from one state of the desks on.
+-- What a session does from one world on.
 use Rattle.std.specs.Prelude.{ℕ, List}
 use Rattle.std.specs.Io.KnownBytes.{Consumes, Appends, IsAtEnd}
 use Rattle.disk_api.specs.declared.disk.Disk.{Ghosts as DiskGhosts}
@@ -6,24 +6,28 @@ use Rattle.line_loop.specs.declared.traits.Source.{Ghosts as SourceGhosts}
 use Rattle.line_loop.specs.declared.traits.Sink.{Ghosts as SinkGhosts}
 use Rattle.line_loop.specs.Session.{Serves}
 use Rattle.line_loop.specs.declared.session.SessionEnd.{SessionEnd}
-use Rattle.desk_core.specs.View.{View}
-use Rattle.krill_top.specs.declared.serving.SessionEnds.{SessionEnds}
-use Rattle.krill_top.specs.Seen.{Seen}
+use Rattle.rp_rules.specs.Certificates.{Vouched}
+use Rattle.krill_top.specs.World.{World}
 use Rattle.krill_top.specs.Replies.{IsReply}
-use Rattle.krill_top.specs.Stands.{Leads}
+use Rattle.krill_top.specs.Offices.{OfficeValue, Moves}
+
+-- The ends of a session, but for its clock.
+pub record Streams (S K : Type 0) : Type 0 where
+  pub source : S
+  pub sink : K
 
 -- The source gave these bytes, and the sink took the replies to their lines, as far as the session's end
--- says, while the desks went from the one state to the other.
-pub record Converses {S K C : Type 0} (source_of : SourceGhosts S) (sink_of : SinkGhosts K)
-    (before after : SessionEnds S K C) (begun ended : Seen) (end : SessionEnd) : Type 0 where
+-- says, while the one world became the other.
+pub record Converses {S K : Type 0} (source_of : SourceGhosts S) (sink_of : SinkGhosts K)
+    (old new : Streams S K) (end : SessionEnd) (vouched : Vouched) (begun ended : World) : Type 0 where
   pub given : List ℕ
   pub written : List ℕ
-  pub source : Consumes (source_of.left before.source) (source_of.left after.source) given
-  pub sink : Appends (sink_of.taken before.sink) (sink_of.taken after.sink) written
-  pub replies : Serves IsReply begun given (IsAtEnd (source_of.left after.source)) written ended end
+  pub source : Consumes (source_of.left old.source) (source_of.left new.source) given
+  pub sink : Appends (sink_of.taken old.sink) (sink_of.taken new.sink) written
+  pub replies : Serves (IsReply vouched) begun given (IsAtEnd (source_of.left new.source)) written ended end
 
--- The session was served over the desks, from each state that they may be in.
-abbrev pub Served : {D S K C : Type 0} → DiskGhosts D → SourceGhosts S → SinkGhosts K
-    → SessionEnds S K C → SessionEnds S K C → List (View D) → List (View D) → SessionEnd → Type 0
-Served disk_of source_of sink_of before after old new end =
-    Leads disk_of (λ begun ended. Converses source_of sink_of before after begun ended end) old new
+-- The session was served over the office, from each world in which it may be.
+abbrev pub Served : {D S K : Type 0} → DiskGhosts D → SourceGhosts S → SinkGhosts K
+    → Streams S K → Streams S K → OfficeValue D → OfficeValue D → SessionEnd → Type 0
+Served disk_of source_of sink_of old new before after end =
+    Moves disk_of (Converses source_of sink_of old new end) before after

@@ -1,15 +1,25 @@
--- What the reads are answered: functions of the desks' commands. Before the first edition nothing is
--- certified, and each origin is held back.
-use Rattle.std.specs.Prelude.{ℕ, suc, List, [], ◌∷◌, map, Option, None, Some}
+-- What the reads are answered: functions of the desks' commands, and of what the last edition says of
+-- the authorities.
+use Rattle.std.specs.Prelude.{◌≡◌, ◌⊎◌, ⊤, ℕ, suc, true, false, List, [], ◌∷◌, Option, None, Some, IfSome, slice_get}
 use Rattle.std.proofs.Common.{refl}
 use Rattle.res_sets.specs.declared.numbers.Family.TheVariants.{Asn, V4, V6}
 use Rattle.res_sets.specs.declared.holdings.Resources.{Resources}
+use Rattle.res_sets.specs.Triples.{has}
+use Rattle.res_sets.specs.Sets.{IsCanonical}
 use Rattle.origins.specs.declared.Origin.{Origin}
 use Rattle.authority_book.specs.declared.rows.NameRow.{NameRow}
 use Rattle.authority_book.specs.Settings.{Settings}
+use Rattle.authority_book.specs.Origins.{is_there}
+use Rattle.entitle.specs.Owed.{HasEach}
+use Rattle.notice_board.specs.declared.sheets.Sheet.{Sheet}
+use Rattle.notice_board.specs.declared.sheets.SheetRow.{SheetRow}
+use Rattle.notice_board.specs.declared.sheets.ShownStage.{ShownStage}
+use Rattle.notice_board.specs.declared.sheets.ShownStage.TheVariants as shown
 use Rattle.json_api.specs.declared.texts.ListLine.{ListLine}
 use Rattle.json_api.specs.declared.texts.RoaLine.{RoaLine}
-use Rattle.json_api.specs.declared.texts.RoaWord.TheVariants.{Held}
+use Rattle.json_api.specs.declared.texts.RoaWord.{RoaWord}
+use Rattle.json_api.specs.declared.texts.RoaWord.TheVariants.{Published, Held, Pending}
+use Rattle.json_api.specs.declared.texts.StageWord.{StageWord}
 use Rattle.json_api.specs.declared.texts.StageWord.TheVariants as stage
 use Rattle.json_api.specs.declared.texts.Shown.{Shown}
 use Rattle.json_api.specs.declared.refusals.Refused.TheVariants.{NoSuchAuthority}
@@ -31,6 +41,12 @@ abbrev pub of_named : Option ℕ → List ℕ → (ℕ → List ℕ) → List �
 of_named None name text_at = refused_spelling (NoSuchAuthority name)
 of_named (Some number) name text_at = text_at number
 
+abbrev pub history_reply : Seen → List ℕ → List ℕ
+history_reply seen name =
+    of_named (desk_named seen name) name (λ number. history_spelling name (commands_at seen number))
+
+-- ---- what the last edition says
+
 abbrev pub nothing_certified : Resources
 nothing_certified = record {
   asn = record { family = Asn; ranges = [] };
@@ -41,32 +57,87 @@ nothing_certified = record {
   v6_family = refl;
 }
 
--- An authority for which nothing is published.
-abbrev pub shown_before : List ℕ → Settings → Shown
-shown_before name settings = record {
+-- What the sheet says of the authority of that desk. It says nothing of one that came later.
+abbrev pub row_at : Sheet → ℕ → Option SheetRow
+row_at sheet number = slice_get sheet.rows number
+
+abbrev pub certified_in : Option SheetRow → Resources
+certified_in None = nothing_certified
+certified_in (Some row) = row.certified
+
+abbrev pub stage_word : ShownStage → StageWord
+stage_word shown.Absent = stage.None
+stage_word shown.Steady = stage.Steady
+stage_word shown.Staged = stage.Staged
+stage_word shown.Retiring = stage.Retiring
+
+abbrev pub stage_in : Option SheetRow → StageWord
+stage_in None = stage.None
+stage_in (Some row) = stage_word row.stage
+
+-- ---- `show`
+
+abbrev pub shown_by : List ℕ → Settings → Sheet → ℕ → Shown
+shown_by name settings sheet number = record {
   authority = name;
-  certified = nothing_certified;
+  certified = certified_in (row_at sheet number);
   parent = settings.parent;
-  serial = 0;
-  stage = stage.None;
+  serial = sheet.serial;
+  stage = stage_in (row_at sheet number);
 }
 
-abbrev pub show_text : List ℕ → Settings → List ℕ
-show_text name settings = show_spelling (shown_before name settings) settings.children
+abbrev pub show_text : List ℕ → Settings → Sheet → ℕ → List ℕ
+show_text name settings sheet number =
+    show_spelling (shown_by name settings sheet number) settings.children
 
-abbrev pub show_reply : Seen → List ℕ → List ℕ
-show_reply seen name = of_named (desk_named seen name) name (λ number. show_text name (settings_at seen number))
+-- The three sets as their canonical lists of ranges.
+pub record HasCanonicalSets (held : Resources) : Type 0 where
+  pub asn : IsCanonical held.asn
+  pub v4 : IsCanonical held.v4
+  pub v6 : IsCanonical held.v6
 
-abbrev pub held_line : Origin → RoaLine
-held_line origin = record { origin = origin; state = Held }
+-- An authority's state, with what is certified to it in the one form that a set has.
+abbrev pub IsShownText : List ℕ → Settings → Sheet → ℕ → List ℕ → Type 0
+IsShownText name settings sheet number text = (text ≡ show_text name settings sheet number)
+    × IfSome (row_at sheet number) (λ row. HasCanonicalSets row.certified)
 
-abbrev pub roa_lines : Settings → List RoaLine
-roa_lines settings = map held_line settings.origins
+abbrev pub IsShowTextAt : Option ℕ → Seen → Sheet → List ℕ → List ℕ → Type 0
+IsShowTextAt None seen sheet name text = text ≡ refused_spelling (NoSuchAuthority name)
+IsShowTextAt (Some number) seen sheet name text =
+    IsShownText name (settings_at seen number) sheet number text
 
-abbrev pub roas_reply : Seen → List ℕ → List ℕ
-roas_reply seen name =
-    of_named (desk_named seen name) name (λ number. roas_spelling name (roa_lines (settings_at seen number)) 0)
+abbrev pub IsShowReply : Seen → Sheet → List ℕ → List ℕ → Type 0
+IsShowReply seen sheet name text = IsShowTextAt (desk_named seen name) seen sheet name text
 
-abbrev pub history_reply : Seen → List ℕ → List ℕ
-history_reply seen name =
-    of_named (desk_named seen name) name (λ number. history_spelling name (commands_at seen number))
+-- ---- `roas list`
+
+-- Where an origin stands: what the edition publishes is published; of the others those are held back
+-- whose prefix the authority isn't certified for.
+abbrev pub IsState : Option SheetRow → Origin → RoaWord → Type 0
+IsState None origin state = state ≡ Held
+IsState (Some row) origin state =
+    ((is_there row.published origin ≡ true) × (state ≡ Published))
+    ⊎ ((is_there row.published origin ≡ false)
+    × ((HasEach (has row.certified) origin.prefix × (state ≡ Pending))
+    ⊎ ((¬ HasEach (has row.certified) origin.prefix) × (state ≡ Held))))
+
+-- A line for each origin, in their order.
+abbrev pub AreRoaLines : Option SheetRow → List Origin → List RoaLine → Type 0
+AreRoaLines row [] [] = ⊤
+AreRoaLines row [] (line ∷ lines) = ⊥
+AreRoaLines row (origin ∷ origins) [] = ⊥
+AreRoaLines row (origin ∷ origins) (line ∷ lines) =
+    (line.origin ≡ origin) × IsState row origin line.state × AreRoaLines row origins lines
+
+abbrev pub IsRoasText : List ℕ → Settings → Sheet → ℕ → List ℕ → Type 0
+IsRoasText name settings sheet number text = (lines : List RoaLine)
+    × AreRoaLines (row_at sheet number) settings.origins lines
+    × (text ≡ roas_spelling name lines sheet.serial)
+
+abbrev pub IsRoasTextAt : Option ℕ → Seen → Sheet → List ℕ → List ℕ → Type 0
+IsRoasTextAt None seen sheet name text = text ≡ refused_spelling (NoSuchAuthority name)
+IsRoasTextAt (Some number) seen sheet name text =
+    IsRoasText name (settings_at seen number) sheet number text
+
+abbrev pub IsRoasReply : Seen → Sheet → List ℕ → List ℕ → Type 0
+IsRoasReply seen sheet name text = IsRoasTextAt (desk_named seen name) seen sheet name text

@@ -1,4 +1,4 @@
--- What a session is answered, line by line, over the desks.
+-- What a session is answered, line by line, over the desks and what is published of them.
 use Rattle.std.specs.Prelude.{◌≡◌, ◌⊎◌, ℕ, ◌≤◌, ◌||◌, ◌==◌, Bool, true, false, List, [], ◌∷◌, ◌++◌, length, IsTrue, Result, Ok, Err, Vec}
 use Rattle.std.specs.declared.alloc.Global.{Global}
 use Rattle.std.specs.List.{list_all}
@@ -6,20 +6,25 @@ use Rattle.authority_book.specs.declared.commands.Command.{Command}
 use Rattle.json_api.specs.declared.line.Line.{Line}
 use Rattle.json_api.specs.declared.line.Line.TheVariants as line
 use Rattle.json_api.specs.declared.line.LineFault.{LineFault}
+use Rattle.json_api.specs.declared.refusals.Refused.{Refused}
 use Rattle.json_api.specs.declared.refusals.Refused.TheVariants as refused
+use Rattle.json_api.specs.declared.reply.Published.{Published as ReplyPublished}
 use Rattle.json_api.specs.Refused.{refused_spelling, verdict_spelling, fault_spelling}
 use Rattle.json_api.specs.Line.{ReadsLine, longest_line}
-use Rattle.json_api.specs.Reply.{accepted_spelling}
-use Rattle.krill_top.specs.Seen.{Seen}
+use Rattle.json_api.specs.Reply.{accepted_spelling, published_spelling, serial_spelling}
+use Rattle.rp_rules.specs.Certificates.{Vouched}
+use Rattle.editions.specs.Edition.{state_after}
+use Rattle.press_state.specs.declared.stock.Published.{Published}
+use Rattle.press_core.specs.declared.fault.PressFault.{PressFault}
+use Rattle.press_core.specs.declared.fault.PressFault.TheVariants as press
+use Rattle.krill_top.specs.World.{World}
 use Rattle.krill_top.specs.declared.command_fault.CommandFault.{CommandFault}
 use Rattle.krill_top.specs.declared.command_fault.CommandFault.TheVariants as faults
 use Rattle.krill_top.specs.Outcomes.{Outcome, Commanded, fault_outcome}
 use Rattle.krill_top.specs.Outcomes.Outcome.{Accepted, NoSuchAuthority, Shut, Verdict, JournalFull, DiskFault, Memory}
-use Rattle.krill_top.specs.Reads.{list_reply, show_reply, roas_reply, history_reply}
-
--- How many signers a verdict is told of, while nothing is signed.
-abbrev pub signers_at_hand : ℕ
-signers_at_hand = 1
+use Rattle.krill_top.specs.Reads.{list_reply, history_reply}
+use Rattle.krill_top.specs.Sheets.{IsShowText, IsRoasText}
+use Rattle.krill_top.specs.Publishing.{PublishesOrNot}
 
 -- Space, tab and carriage return.
 abbrev pub is_blank_byte : ℕ → Bool
@@ -30,11 +35,15 @@ pub record IsBlank (line : List ℕ) : Type 0 where
   pub short : length line ≤ longest_line
   pub blank : IsTrue (list_all is_blank_byte line)
 
--- A refusal, or a read: the text is given, and nothing changes.
-pub record IsTold (told : List ℕ) (before : Seen) (text : List ℕ) (accepted : Bool) (after : Seen) : Type 0 where
-  pub text_is : text ≡ told
+-- A refusal, or a read: such a text is given, and nothing changes.
+pub record IsToldSo (IsIt : List ℕ → Type 0) (before : World) (text : List ℕ) (accepted : Bool) (after : World) : Type 0 where
+  pub text_is : IsIt text
   pub not_accepted : accepted ≡ false
   pub same : after ≡ before
+
+-- The same, of one text.
+abbrev pub IsTold : List ℕ → World → List ℕ → Bool → World → Type 0
+IsTold told before text accepted after = IsToldSo (λ it. it ≡ told) before text accepted after
 
 -- How an outcome is told.
 abbrev pub outcome_text : List ℕ → Outcome → List ℕ
@@ -50,25 +59,74 @@ abbrev pub is_accepted : Outcome → Bool
 is_accepted (Accepted count) = true
 is_accepted other = false
 
+-- A command to the authority of that name comes to this, with the signers that there are. It changes no
+-- edition, and asks no signer.
+pub record CommandedIn (name : List ℕ) (command : Command) (outcome : Outcome) (before after : World) : Type 0 where
+  pub commanded : Commanded name command (length before.signers) outcome before.seen after.seen
+  pub same_editions : after.editions ≡ before.editions
+  pub same_signers : after.signers ≡ before.signers
+
 -- A command gets the text of what it comes to.
-pub record CommandText (name : List ℕ) (command : Command) (before : Seen) (text : List ℕ) (accepted : Bool) (after : Seen) : Type 0 where
+pub record CommandText (name : List ℕ) (command : Command) (before : World) (text : List ℕ) (accepted : Bool) (after : World) : Type 0 where
   pub outcome : Outcome
-  pub comes : Commanded name command signers_at_hand outcome before after
+  pub comes : CommandedIn name command outcome before after
   pub text_is : text ≡ outcome_text name outcome
   pub accepted_is : accepted ≡ is_accepted outcome
 
+-- ---- a publication
+
+-- What a publication is called in replies.
+abbrev pub published_in_reply : Published → ReplyPublished
+published_in_reply published = record {
+  serial = published.serial;
+  moment = published.moment;
+  objects = published.objects;
+  origins = published.origins;
+}
+
+abbrev pub refused_of : PressFault → Refused
+refused_of (press.ClockRange now met) = refused.ClockRange now
+refused_of (press.SerialEnd value met) = refused.SerialEnd value
+refused_of (press.Nothing serial met) = refused.Nothing serial
+refused_of (press.SignerFault signer met) = refused.SignerFault signer
+refused_of (press.KeyClash id met) = refused.KeyClash id
+refused_of press.Memory = refused.Memory
+
+abbrev pub publish_text : Result Published PressFault → List ℕ
+publish_text (Ok published) = published_spelling (published_in_reply published)
+publish_text (Err fault) = refused_spelling (refused_of fault)
+
+abbrev pub has_published : Result Published PressFault → Bool
+has_published (Ok published) = true
+has_published (Err fault) = false
+
+-- A publication gets the text of what it comes to, at the time that the clock told.
+pub record PublishText (vouched : Vouched) (before : World) (text : List ℕ) (accepted : Bool) (after : World) : Type 0 where
+  pub clock : ℕ
+  pub outcome : Result Published PressFault
+  pub comes : PublishesOrNot vouched clock outcome before after
+  pub text_is : text ≡ publish_text outcome
+  pub accepted_is : accepted ≡ has_published outcome
+
+-- ---- a line
+
+abbrev pub serial_text : World → List ℕ
+serial_text world = serial_spelling (state_after world.editions).serial
+
 -- What a line says gets this text.
-abbrev pub SaidText : Line → Seen → List ℕ → Bool → Seen → Type 0
-SaidText (line.Command name command) before text accepted after = CommandText name command before text accepted after
-SaidText line.List before text accepted after = IsTold (list_reply before) before text accepted after
-SaidText (line.Show name) before text accepted after = IsTold (show_reply before name) before text accepted after
-SaidText (line.Roas name) before text accepted after = IsTold (roas_reply before name) before text accepted after
-SaidText (line.History name) before text accepted after = IsTold (history_reply before name) before text accepted after
+abbrev pub SaidText : Vouched → Line → World → List ℕ → Bool → World → Type 0
+SaidText vouched (line.Command name command) before text accepted after = CommandText name command before text accepted after
+SaidText vouched line.Publish before text accepted after = PublishText vouched before text accepted after
+SaidText vouched line.Serial before text accepted after = IsTold (serial_text before) before text accepted after
+SaidText vouched line.List before text accepted after = IsTold (list_reply before.seen) before text accepted after
+SaidText vouched (line.Show name) before text accepted after = IsToldSo (IsShowText vouched before name) before text accepted after
+SaidText vouched (line.Roas name) before text accepted after = IsToldSo (IsRoasText vouched before name) before text accepted after
+SaidText vouched (line.History name) before text accepted after = IsTold (history_reply before.seen name) before text accepted after
 
 -- What the bytes of a line are read as gets this text.
-abbrev pub ReadText : Result Line LineFault → Seen → List ℕ → Bool → Seen → Type 0
-ReadText (Ok said) before text accepted after = SaidText said before text accepted after
-ReadText (Err fault) before text accepted after = IsTold (fault_spelling fault) before text accepted after
+abbrev pub ReadText : Vouched → Result Line LineFault → World → List ℕ → Bool → World → Type 0
+ReadText vouched (Ok said) before text accepted after = SaidText vouched said before text accepted after
+ReadText vouched (Err fault) before text accepted after = IsTold (fault_spelling fault) before text accepted after
 
 -- The text where memory was wanting.
 abbrev pub memory_text : List ℕ
@@ -79,7 +137,7 @@ abbrev pub bad_line_text : List ℕ
 bad_line_text = refused_spelling refused.BadLine
 
 -- The one, or that memory was wanting.
-abbrev pub IsToldOr : (Seen → List ℕ → Bool → Seen → Type 0) → Seen → List ℕ → Bool → Seen → Type 0
+abbrev pub IsToldOr : (World → List ℕ → Bool → World → Type 0) → World → List ℕ → Bool → World → Type 0
 IsToldOr P before text accepted after = P before text accepted after ⊎ IsTold memory_text before text accepted after
 
 -- The text that says why a command isn't accepted. There may be no memory for a verdict's.
@@ -93,23 +151,23 @@ IsTextIn (Ok text) told = told ≡ text.items
 IsTextIn (Err wanting) told = ⊥
 
 -- The bytes are read so, and that gets this text.
-pub record IsReadText (line : List ℕ) (before : Seen) (text : List ℕ) (accepted : Bool) (after : Seen) : Type 0 where
+pub record IsReadText (vouched : Vouched) (line : List ℕ) (before : World) (text : List ℕ) (accepted : Bool) (after : World) : Type 0 where
   pub said : Result Line LineFault
   pub reads : ReadsLine line said
-  pub answer : ReadText said before text accepted after
+  pub answer : ReadText vouched said before text accepted after
 
 -- A line gets this text: what its bytes get, or that memory was wanting.
-abbrev pub IsText : List ℕ → Seen → List ℕ → Bool → Seen → Type 0
-IsText line before text accepted after = IsToldOr (IsReadText line) before text accepted after
+abbrev pub IsText : Vouched → List ℕ → World → List ℕ → Bool → World → Type 0
+IsText vouched line before text accepted after = IsToldOr (IsReadText vouched line) before text accepted after
 
 -- A text and a line feed.
-pub record IsAnswer (line : List ℕ) (before : Seen) (reply : List ℕ) (accepted : Bool) (after : Seen) : Type 0 where
+pub record IsAnswer (vouched : Vouched) (line : List ℕ) (before : World) (reply : List ℕ) (accepted : Bool) (after : World) : Type 0 where
   pub not_blank : ¬ IsBlank line
   pub text : List ℕ
   pub reply_is : reply ≡ text ++ 10 ∷ []
-  pub answer : IsText line before text accepted after
+  pub answer : IsText vouched line before text accepted after
 
 -- A line gets this reply: none where it is blank, else a text and a line feed.
-abbrev pub IsReply : Seen → List ℕ → List ℕ → Bool → Seen → Type 0
-IsReply before line reply accepted after =
-    (IsBlank line × IsTold [] before reply accepted after) ⊎ IsAnswer line before reply accepted after
+abbrev pub IsReply : Vouched → World → List ℕ → List ℕ → Bool → World → Type 0
+IsReply vouched before line reply accepted after =
+    (IsBlank line × IsTold [] before reply accepted after) ⊎ IsAnswer vouched line before reply accepted after

@@ -1,5 +1,5 @@
 -- What a whole run leaves.
-use Rattle.std.specs.Prelude.{◌≡◌, ℕ, ◌≤◌, List, [], ◌∷◌, ◌++◌, Option, None, Some, IfSome, map, slice_get, ⊤}
+use Rattle.std.specs.Prelude.{◌≡◌, ◌⊎◌, ℕ, ◌≤◌, ◌<◌, ◌+◌, true, max, List, [], ◌∷◌, ◌++◌, Option, None, Some, IfSome, length, map, slice_get, ⊤}
 use Rattle.std.specs.Option.{option_map}
 use Rattle.gate_journal.specs.Format.{opened}
 use Rattle.fault_count.specs.Rise.{HasRisen}
@@ -9,31 +9,31 @@ use Rattle.line_loop.specs.declared.traits.Sink.{Ghosts as SinkGhosts}
 use Rattle.line_loop.specs.declared.session.SessionEnd.{SessionEnd}
 use Rattle.line_loop.specs.declared.session.SessionEnd.TheVariants.{SourceFault, SinkFault}
 use Rattle.authority_book.specs.declared.commands.Command.{Command}
+use Rattle.authority_book.specs.declared.rows.NameRow.{NameRow}
 use Rattle.cmd_codec.specs.Spelling.{spelling}
 use Rattle.desk_core.specs.Commands.{Records}
+use Rattle.signer_api.specs.State.{SignerState}
+use Rattle.signer_ring.specs.Ring.{AllTell, Vouched as VouchedBy}
+use Rattle.rp_rules.specs.Certificates.{Vouched}
+use Rattle.editions.specs.Step.{AreSteps}
 use Rattle.krill_top.specs.declared.faults.OpenFault.{OpenFault}
+use Rattle.krill_top.specs.declared.faults.OpenFault.TheVariants.{WrongCount, Memory}
 use Rattle.krill_top.specs.declared.faults.RunFault.{RunFault}
 use Rattle.krill_top.specs.declared.serving.SessionEnds.{SessionEnds}
 use Rattle.krill_top.specs.declared.running.RunEnd.{RunEnd}
-use Rattle.krill_top.specs.Seen.{Seen, DeskState}
+use Rattle.krill_top.specs.Seen.{Seen, DeskState, names_in}
+use Rattle.krill_top.specs.World.{World, footing_of, AreAllVouched}
 use Rattle.krill_top.specs.Stands.{all_stored, RoseWithin}
-use Rattle.krill_top.specs.Ended.{Converses}
+use Rattle.krill_top.specs.Ended.{Streams, Converses}
 use Rattle.krill_top.specs.Desks.{RecoveredTo, IsSafe, IsOpeningRefused}
 use Rattle.krill_top.specs.Ends.{fault_status, run_status, fault_of, opening_fault}
 
 -- A run that was refused at once: nothing was read or written, and no device was called.
-pub record IsRefused {D S K C : Type 0} (desks : List D) (sessions : List (SessionEnds S K C)) (fault : RunFault) (run : RunEnd D S K C) : Type 0 where
+pub record IsRefused {D G S K C : Type 0} (desks : List D) (signers : List G) (sessions : List (SessionEnds S K C)) (fault : RunFault) (run : RunEnd D G S K C) : Type 0 where
   pub status_is : run.status ≡ fault_status fault
   pub fault_is : run.fault ≡ Some fault
   pub desks_untouched : run.desks.items ≡ desks
-  pub untouched : run.sessions.items ≡ sessions
-
--- A run whose desks weren't all opened: no source was read, and no sink was given anything.
-pub record IsRefusedAtOpening {D S K C : Type 0} (disk_of : DiskGhosts D) (desks : List D) (sessions : List (SessionEnds S K C)) (run : RunEnd D S K C) : Type 0 where
-  pub fault : OpenFault
-  pub status_is : run.status ≡ fault_status (opening_fault fault)
-  pub fault_is : run.fault ≡ Some (opening_fault fault)
-  pub refused : IsOpeningRefused disk_of fault desks run.desks.items
+  pub signers_untouched : run.signers.items ≡ signers
   pub untouched : run.sessions.items ≡ sessions
 
 -- The command in doubt would be the next one of its desk.
@@ -70,21 +70,67 @@ abbrev pub AreServed : {D : Type 0} → DiskGhosts D → List D → List D → S
 AreServed disk_of old new begun ended = (number : ℕ)
     → IsServedAt disk_of number (slice_get old number) (slice_get new number) (slice_get begun number) (slice_get ended number)
 
+-- ---- signers
+
+-- How many signers the names use: they have numbers below this one.
+abbrev pub signers_needed : List NameRow → ℕ
+signers_needed [] = 0
+signers_needed (row ∷ rows) = max (row.signer + 1) (signers_needed rows)
+
+-- The names use a signer that isn't there, or memory was wanting.
+abbrev pub IsSignersCause : OpenFault → ℕ → Seen → Type 0
+IsSignersCause fault signers seen = (fault ≡ Memory)
+    ⊎ ((signers < signers_needed (names_in seen))
+    × (fault ≡ WrongCount 1 (signers_needed (names_in seen)) signers))
+
+-- The desks were all opened, and closed again: each holds the commands that it held.
+pub record IsClosedAgain {D : Type 0} (disk_of : DiskGhosts D) (fault : OpenFault) (signers : ℕ) (desks news : List D) : Type 0 where
+  pub found : Seen
+  pub disks : AreServed disk_of desks news found found
+  pub cause : IsSignersCause fault signers found
+
+-- A run over which nothing was opened: no source was read, and no sink was given anything. No signer was
+-- called.
+pub record IsRefusedAtOpening {D G S K C : Type 0} (disk_of : DiskGhosts D) (state_of : G → SignerState) (desks : List D) (signers : List G)
+    (sessions : List (SessionEnds S K C)) (run : RunEnd D G S K C) : Type 0 where
+  pub fault : OpenFault
+  pub status_is : run.status ≡ fault_status (opening_fault fault)
+  pub fault_is : run.fault ≡ Some (opening_fault fault)
+  pub refused : IsOpeningRefused disk_of fault desks run.desks.items ⊎ IsClosedAgain disk_of fault (length signers) desks run.desks.items
+  pub same_signers : map state_of run.signers.items ≡ map state_of signers
+  pub untouched : run.sessions.items ≡ sessions
+
+-- All signers tell what they vouch for, and what they vouch for in the end is vouched; or each signature is.
+abbrev pub IsTrusting : Vouched → List SignerState → List SignerState → Type 0
+IsTrusting vouched begun ended =
+    (AllTell begun × ((key digest signature : List ℕ) → VouchedBy ended key digest signature → vouched key digest signature ≡ true))
+    ⊎ AreAllVouched vouched
+
+-- ---- a run that served its session
+
+abbrev pub streams_of : {S K C : Type 0} → SessionEnds S K C → Streams S K
+streams_of ends = record { source = ends.source; sink = ends.sink }
+
 -- A run that opened its desks, served its session over them, and hands all back. Each disk holds the
--- commands that it held and the accepted ones of its authority. A fault of the source or the sink comes
--- only where it failed in this run.
-pub record ServesOne {D S K C : Type 0} (disk_of : DiskGhosts D) (source_of : SourceGhosts S) (sink_of : SinkGhosts K)
-    (desks : List D) (before : SessionEnds S K C) (run : RunEnd D S K C) : Type 0 where
+-- commands that it held and the accepted ones of its authority. Of these the editions were published,
+-- each following those before it; before the session there was none. A fault of the source or the sink
+-- comes only where it failed in this run.
+pub record ServesOne {D G S K C : Type 0} (disk_of : DiskGhosts D) (state_of : G → SignerState) (source_of : SourceGhosts S) (sink_of : SinkGhosts K)
+    (vouched : Vouched) (desks : List D) (signers : List G) (before : SessionEnds S K C) (run : RunEnd D G S K C) : Type 0 where
   pub after : SessionEnds S K C
   pub end : SessionEnd
-  pub begun : Seen
-  pub ended : Seen
+  pub begun : World
+  pub ended : World
   pub handed_back : run.sessions.items ≡ after ∷ []
   pub status : run.status ≡ run_status (fault_of end)
   pub fault : run.fault ≡ fault_of end
-  pub served : Converses source_of sink_of before after begun ended end
-  pub clock : after.clock ≡ before.clock
-  pub disks : AreServed disk_of desks run.desks.items begun ended
+  pub served : Converses source_of sink_of (streams_of before) (streams_of after) end vouched begun ended
+  pub disks : AreServed disk_of desks run.desks.items begun.seen ended.seen
+  pub none_before : begun.editions ≡ []
+  pub steps : AreSteps (footing_of vouched ended.seen) ended.editions
+  pub signers_begun : begun.signers ≡ map state_of signers
+  pub signers_ended : map state_of run.signers.items ≡ ended.signers
+  pub signers_there : signers_needed (names_in begun.seen) ≤ length begun.signers
   pub source_fault : end ≡ SourceFault → HasRisen (source_of.fault_count before.source) (source_of.fault_count after.source)
   pub sink_fault : end ≡ SinkFault → HasRisen (sink_of.fault_count before.sink) (sink_of.fault_count after.sink)
   pub source_later : source_of.fault_count before.source ≤ source_of.fault_count after.source

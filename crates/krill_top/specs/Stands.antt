@@ -1,5 +1,5 @@
 -- The desks as the program has them and as replies see them, and how their disks go on.
-use Rattle.std.specs.Prelude.{◌≡◌, ◌↔◌, ◌≤◌, ℕ, Bool, List, [], ◌∷◌, ◌++◌, Option, None, Some, IfSome, map, slice_get, ⊤}
+use Rattle.std.specs.Prelude.{◌≡◌, ◌↔◌, ◌≤◌, ℕ, List, [], ◌∷◌, ◌++◌, Option, None, Some, IfSome, map, slice_get, ⊤}
 use Rattle.std.specs.Option.{option_map}
 use Rattle.fault_count.specs.Rise.{HasRisen}
 use Rattle.disk_api.specs.declared.disk.Disk.{Ghosts as DiskGhosts}
@@ -9,9 +9,7 @@ use Rattle.gate_journal.specs.Storing.{stored, entry_bytes}
 use Rattle.cmd_codec.specs.Spelling.{spelling}
 use Rattle.desk_core.specs.View.{View}
 use Rattle.desk_core.specs.Commands.{Records, HasCommands}
-use Rattle.krill_top.specs.declared.handler.Handler.{Handler}
 use Rattle.krill_top.specs.Seen.{Seen, DeskState, desk_named}
-use Rattle.krill_top.specs.Replies.{IsReply, IsText}
 
 -- The desk of that number is in this state; the command in doubt would be its next one.
 pub record IsIn {D : Type 0} (number : ℕ) (desk : View D) (state : DeskState) : Type 0 where
@@ -87,13 +85,3 @@ pub record Goes {D : Type 0} (disk_of : DiskGhosts D) (P : Seen → Seen → Typ
 -- What a call may do to the desks, as replies see them and as their disks go on.
 abbrev pub Leads : {D : Type 0} → DiskGhosts D → (Seen → Seen → Type 0) → List (View D) → List (View D) → Type 0
 Leads disk_of P old new = (before : Seen) → AreIn old before → Goes disk_of P old new before
-
--- A line that isn't blank may get this text.
-abbrev pub MayText : {D : Type 0} → DiskGhosts D → Handler D → List ℕ → List ℕ → Bool → Handler D → Type 0
-MayText disk_of old line text accepted new =
-    Leads disk_of (λ b a. IsText line b text accepted a) old.desks new.desks
-
--- A line may get this reply.
-abbrev pub MayReply : {D : Type 0} → DiskGhosts D → Handler D → List ℕ → List ℕ → Bool → Handler D → Type 0
-MayReply disk_of old line reply accepted new =
-    Leads disk_of (λ b a. IsReply b line reply accepted a) old.desks new.desks

@@ -1,32 +1,36 @@
 //! The desks of a tree: commands go to the desk of their authority's name, and reads are answered from
 //! what the desks have accepted.
 
-ghost use Rattle.std.specs.Prelude.{◌≡◌, ◌<◌, ◌≤◌, None, map, length, IfOk, IfSome, MatchOption};
+ghost use Rattle.std.specs.Prelude.{◌≡◌, ◌<◌, ◌≤◌, ℕ, None, Some, length, get_or, slice_get, IfOk, IfSome, MatchOption};
 ghost use Rattle.authority_book.specs.Listed.{place_of};
 ghost use Rattle.json_api.specs.declared.refusals.Refused.TheVariants.{NoSuchAuthority};
 ghost use Rattle.json_api.specs.Refused.{refused_spelling};
-ghost use Rattle.json_api.specs.Texts.{roas_spelling};
+ghost use Rattle.desk_core.specs.View.{View};
 ghost use Rattle.krill_top.specs.Seen.{Seen, most_desks, names_in, desk_named};
-ghost use Rattle.krill_top.specs.Reads.{list_lines, list_reply, show_text, show_reply, held_line, roa_lines, roas_reply, history_reply};
+ghost use Rattle.krill_top.specs.Reads.{list_lines, list_reply, IsShowReply, IsRoasReply, history_reply};
 ghost use Rattle.krill_top.specs.Outcomes.{Commanded, outcome_of};
 ghost use Rattle.krill_top.specs.Stands.{AreIn, IsNamed, Leads};
+ghost use Rattle.krill_top.specs.Gathered.{AreSince};
+ghost use Rattle.krill_top.specs.Run as run;
 
 use crate::command_fault::CommandFault;
+use crate::reads::{roas_shown, shown};
 use authority_book::{Command, Config, NameRow};
 use desk_core::Desk;
 use disk_api::Disk;
-use json_api::{
-    ListLine, Refused, RoaLine, RoaWord, Shown, StageWord, history_text, list_text, refused_into,
-    roas_text, show_text,
-};
+use items::Items;
+use json_api::{ListLine, Refused, history_text, list_text, refused_into};
 use names::Name;
-use origins::Origin;
-use res_sets::Resources;
+use notice_board::Sheet;
+use press_state::Gathered;
 use std::alloc::{AllocError, Global};
 use std::marker::Model;
 
 /// The desk of the trust anchor, which has the names of the tree.
 const ANCHOR: usize = 0;
+
+// How many desks there are.
+const DESKS: usize = 64;
 
 // Room for a refusal that names an authority.
 const REFUSAL_ROOM: usize = 200;
@@ -74,6 +78,13 @@ impl<D: Disk> Desks<D> {
         self.desks[ANCHOR].config().names()
     }
 
+    /// How many signers the names of the tree use: they have numbers below this one.
+    pub fn signers_needed(&self) -> u64
+        ensures { (seen : Seen) → AreIn self.now seen → result ≡ run.signers_needed (names_in seen) }
+    {
+        signers_needed(self.names())
+    }
+
     // The number of the desk of the authority of that name.
     fn place_of(&self, name: &Name) -> Option<usize>
         ensures named { (seen : Seen) → AreIn self.now seen → result ≡ desk_named seen name.now }
@@ -115,6 +126,25 @@ impl<D: Disk> Desks<D> {
         }
     }
 
+    /// The commands of each desk behind the first so many that the cut counts.
+    pub fn since_cut(&self, alloc: Global, cut: &[u64]) -> Result<Vec<Gathered>, AllocError>
+        requires desks { length cut.now ≡ most_desks }
+        requires within { (number : ℕ) (desk : View D) → slice_get self.now number ≡ Some desk
+            → get_or cut.now number 0 ≤ length desk.records }
+        ensures { IfOk result (λ gathered. AreSince 0 self.now cut.now gathered.items) }
+    {
+        let mut gathered = Vec::with_capacity(alloc, DESKS)?;
+        for desk in 0..DESKS {
+            let from = cut[desk];
+            gathered.push(Gathered {
+                desk: desk as u32,
+                from,
+                commands: Items::new(self.desks[desk].since(alloc, from)?),
+            })?;
+        }
+        Ok(gathered)
+    }
+
     /// The reply to `list`: all names of the tree, in their order.
     pub fn list(&self, alloc: Global) -> Result<Vec<u8>, AllocError>
         ensures { IfOk result (λ text. (seen : Seen) → AreIn self.now seen → text.items ≡ list_reply seen) }
@@ -137,21 +167,21 @@ impl<D: Disk> Desks<D> {
     }
 
     /// The reply to `show`: an authority's state.
-    pub fn show(&self, alloc: Global, name: &Name) -> Result<Vec<u8>, AllocError>
-        ensures { IfOk result (λ text. (seen : Seen) → AreIn self.now seen → text.items ≡ show_reply seen name.now) }
+    pub fn show(&self, alloc: Global, sheet: &Sheet, name: &Name) -> Result<Vec<u8>, AllocError>
+        ensures { IfOk result (λ text. (seen : Seen) → AreIn self.now seen → IsShowReply seen sheet.now name.now text.items) }
     {
-        match self.desk_of(name) {
-            Some(desk) => shown(alloc, name, desk.config()),
+        match self.place_of(name) {
+            Some(place) => shown(alloc, name, self.desks[place].config(), sheet, place),
             None => no_such_authority(alloc, name),
         }
     }
 
     /// The reply to `roas list`: an authority's origins.
-    pub fn roas(&self, alloc: Global, name: &Name) -> Result<Vec<u8>, AllocError>
-        ensures { IfOk result (λ text. (seen : Seen) → AreIn self.now seen → text.items ≡ roas_reply seen name.now) }
+    pub fn roas(&self, alloc: Global, sheet: &Sheet, name: &Name) -> Result<Vec<u8>, AllocError>
+        ensures { IfOk result (λ text. (seen : Seen) → AreIn self.now seen → IsRoasReply seen sheet.now name.now text.items) }
     {
-        match self.desk_of(name) {
-            Some(desk) => roas_shown(alloc, name, desk.config()),
+        match self.place_of(name) {
+            Some(place) => roas_shown(alloc, name, self.desks[place].config(), sheet, place),
             None => no_such_authority(alloc, name),
         }
     }
@@ -179,38 +209,14 @@ fn place_among(names: &[NameRow], name: &Name) -> Option<usize>
         .position(|row| row.name.as_bytes() == name.as_bytes())
 }
 
-// The text of an authority for which nothing is published.
-fn shown(alloc: Global, name: &Name, config: &Config) -> Result<Vec<u8>, AllocError>
-    ensures { IfOk result (λ text. text.items ≡ show_text name.now config.now.settings) }
+fn signers_needed(names: &[NameRow]) -> u64
+    ensures { result ≡ run.signers_needed names.now }
 {
-    let shown = Shown {
-        authority: *name,
-        certified: Resources::empty(alloc),
-        parent: config.parent(),
-        serial: 0,
-        stage: StageWord::None,
-    };
-    show_text(alloc, &shown, config.children())
-}
-
-fn roas_shown(alloc: Global, name: &Name, config: &Config) -> Result<Vec<u8>, AllocError>
-    ensures { IfOk result (λ text. text.items ≡ roas_spelling name.now (roa_lines config.now.settings) 0) }
-{
-    let lines = held_lines(alloc, config.origins())?;
-    roas_text(alloc, name, lines.as_slice(), 0)
-}
-
-fn held_lines(alloc: Global, origins: &[Origin]) -> Result<Vec<RoaLine>, AllocError>
-    ensures { IfOk result (λ lines. lines.items ≡ map held_line origins.now) }
-{
-    let mut lines = Vec::with_capacity(alloc, origins.len())?;
-    for origin in origins {
-        lines.push(RoaLine {
-            origin: *origin,
-            state: RoaWord::Held,
-        })?;
+    let mut needed = 0;
+    for row in names {
+        needed = std::cmp::max(needed, u64::from(row.signer) + 1);
     }
-    Ok(lines)
+    needed
 }
 
 fn no_such_authority(alloc: Global, name: &Name) -> Result<Vec<u8>, AllocError>

@@ -2,52 +2,54 @@
 
 ghost use Rattle.std.specs.Prelude.{◌≡◌, ◌⊎◌, ℕ, ◌+◌, ◌≤◌, ◌↔◌, List, [], ◌∷◌, ◌++◌, false, length, IsTrue, IfOk, OnOk, OnErr, vec_len, vec_capacity};
 ghost use Rattle.std.specs.List.{list_all};
-ghost use Rattle.json_api.specs.Reply.{accepted_spelling};
+ghost use Rattle.json_api.specs.Reply.{accepted_spelling, published_spelling, serial_spelling};
 ghost use Rattle.json_api.specs.Refused.{verdict_spelling, fault_spelling, refused_spelling};
-ghost use Rattle.krill_top.specs.Replies.{is_blank_byte, IsBlank, memory_text, bad_line_text, CommandText, SaidText, IsToldOr, IsFaultText, IsTextIn};
-ghost use Rattle.krill_top.specs.Stands.{Leads, MayText};
+ghost use Rattle.krill_top.specs.Replies as spec;
+ghost use Rattle.krill_top.specs.Replies.{is_blank_byte, IsBlank, memory_text, bad_line_text, published_in_reply, serial_text, IsTold, CommandText, PublishText, SaidText, IsToldOr, IsFaultText, IsTextIn};
+ghost use Rattle.krill_top.specs.Offices.{Moves, MayText};
 
 use crate::command_fault::CommandFault;
-use crate::desks::Desks;
+use crate::office::Office;
 use authority_book::{Command, Refusal};
 use disk_api::Disk;
 use json_api::{
-    Line, LineFault, LineReader, MAX_LINE_LEN, Refused, accepted_into, fault_into, refused_into,
-    verdict_into,
+    Line, LineFault, LineReader, MAX_LINE_LEN, Published, Refused, accepted_into, fault_into,
+    published_into, refused_into, serial_into, verdict_into,
 };
-use line_loop::LineHandler;
+use line_loop::{Clock, LineHandler};
 use names::Name;
+use press_core::PressFault;
+use signer_api::Signer;
 use std::alloc::{AllocError, Global};
-
-/// How many signers a verdict is told of, while nothing is signed.
-const SIGNERS_AT_HAND: u32 = 1;
 
 /// Room for an accepted command's reply, or one that needs no memory, and its line feed.
 const REPLY_ROOM: usize = 256;
 
-/// The desks of a tree, and what reads the lines that are answered over them.
+/// The office, the clock of its publications, and what reads the lines that are answered over them.
 #[derive(Drop)]
-pub struct Handler<D: Disk> {
-    desks: Desks<D>,
+pub struct Handler<D: Disk, G: Signer, C: Clock> {
+    office: Office<D, G>,
+    clock: C,
     reader: LineReader,
 }
 
-impl<D: Disk> Handler<D> {
-    /// Answers over these desks.
-    pub fn new(alloc: Global, desks: Desks<D>) -> Handler<D>
-        ensures { result.desks ≡ desks }
+impl<D: Disk, G: Signer, C: Clock> Handler<D, G, C> {
+    /// Answers over this office, and publishes by this clock.
+    pub fn new(alloc: Global, office: Office<D, G>, clock: C) -> Handler<D, G, C>
+        ensures { result.office ≡ office }
     {
         Handler {
-            desks,
+            office,
+            clock,
             reader: LineReader::new(alloc),
         }
     }
 
-    /// The desks, with the commands that were accepted.
-    pub fn into_desks(self) -> Desks<D>
-        ensures { result ≡ self.desks }
+    /// The office, with the commands that were accepted and what was published, and the clock.
+    pub fn into_parts(self) -> (Office<D, G>, C)
+        ensures { result.0 ≡ self.office }
     {
-        self.desks
+        (self.office, self.clock)
     }
 
     // Answers a command, and says whether it was accepted. The room for the reply is taken before
@@ -60,11 +62,11 @@ impl<D: Disk> Handler<D> {
         out: &mut Vec<u8>,
     ) -> Result<bool, AllocError>
         ensures ok { IfOk result (λ accepted. (text : List ℕ) × (out.new.items ≡ out.old.items ++ text ++ 10 ∷ [])
-            × Leads D.Disk (λ b a. IsToldOr (CommandText name.now command) b text accepted a) self.old.desks self.new.desks) }
+            × Moves D.Disk (λ vouched b a. IsToldOr (CommandText name.now command) b text accepted a) self.old.office self.new.office) }
         ensures err { OnErr result ((self.new ≡ self.old) × (out.new.items ≡ out.old.items)) }
     {
         out.reserve(REPLY_ROOM)?;
-        match self.desks.command(alloc, name, command, SIGNERS_AT_HAND) {
+        match self.office.command(alloc, name, command) {
             Ok(count) => {
                 append_accepted(out, name, count);
                 Ok(true)
@@ -76,6 +78,37 @@ impl<D: Disk> Handler<D> {
         }
     }
 
+    // Publishes, and says whether an edition was made. The room for the reply is taken before that.
+    fn answer_publish(&mut self, alloc: Global, out: &mut Vec<u8>) -> Result<bool, AllocError>
+        ensures ok { IfOk result (λ accepted. (text : List ℕ) × (out.new.items ≡ out.old.items ++ text ++ 10 ∷ [])
+            × Moves D.Disk (λ vouched b a. PublishText vouched b text accepted a) self.old.office self.new.office) }
+        ensures err { OnErr result ((self.new ≡ self.old) × (out.new.items ≡ out.old.items)) }
+    {
+        out.reserve(REPLY_ROOM)?;
+        let now = self.clock.now();
+        match self.office.publish(alloc, now) {
+            Ok(published) => {
+                append_published(out, &published_of(published));
+                Ok(true)
+            }
+            Err(fault) => {
+                append_refused(out, &refused_of(fault));
+                Ok(false)
+            }
+        }
+    }
+
+    // Answers with the serial of the last edition.
+    fn answer_serial(&self, out: &mut Vec<u8>) -> Result<bool, AllocError>
+        ensures ok { IfOk result (λ accepted. (text : List ℕ) × (out.new.items ≡ out.old.items ++ text ++ 10 ∷ [])
+            × Moves D.Disk (λ vouched b a. IsTold (serial_text b) b text accepted a) self.now.office self.now.office) }
+        ensures err { OnErr result (out.new.items ≡ out.old.items) }
+    {
+        out.reserve(REPLY_ROOM)?;
+        append_serial(out, self.office.serial());
+        Ok(false)
+    }
+
     // Answers what a line says, and says whether its command was accepted.
     fn answer_said(
         &mut self,
@@ -84,15 +117,17 @@ impl<D: Disk> Handler<D> {
         out: &mut Vec<u8>,
     ) -> Result<bool, AllocError>
         ensures ok { IfOk result (λ accepted. (text : List ℕ) × (out.new.items ≡ out.old.items ++ text ++ 10 ∷ [])
-            × Leads D.Disk (λ b a. IsToldOr (SaidText said) b text accepted a) self.old.desks self.new.desks) }
+            × Moves D.Disk (λ vouched b a. IsToldOr (SaidText vouched said) b text accepted a) self.old.office self.new.office) }
         ensures err { OnErr result ((self.new ≡ self.old) × (out.new.items ≡ out.old.items)) }
     {
         match said {
             Line::Command { name, command } => self.answer_command(alloc, &name, command, out),
-            Line::List => append_told(out, self.desks.list(alloc)),
-            Line::Show { name } => append_told(out, self.desks.show(alloc, &name)),
-            Line::Roas { name } => append_told(out, self.desks.roas(alloc, &name)),
-            Line::History { name } => append_told(out, self.desks.history(alloc, &name)),
+            Line::Publish => self.answer_publish(alloc, out),
+            Line::Serial => self.answer_serial(out),
+            Line::List => append_told(out, self.office.list(alloc)),
+            Line::Show { name } => append_told(out, self.office.show(alloc, &name)),
+            Line::Roas { name } => append_told(out, self.office.roas(alloc, &name)),
+            Line::History { name } => append_told(out, self.office.history(alloc, &name)),
         }
     }
 
@@ -104,7 +139,7 @@ impl<D: Disk> Handler<D> {
         out: &mut Vec<u8>,
     ) -> Result<bool, AllocError>
         ensures ok { IfOk result (λ accepted. (text : List ℕ) × (out.new.items ≡ out.old.items ++ text ++ 10 ∷ [])
-            × MayText D.Disk self.old line.now text accepted self.new) }
+            × MayText D.Disk self.old.office line.now text accepted self.new.office) }
         ensures err { OnErr result ((self.new ≡ self.old) × (out.new.items ≡ out.old.items)) }
     {
         match self.reader.read(alloc, line) {
@@ -124,6 +159,50 @@ fn append_accepted(out: &mut Vec<u8>, name: &Name, count: u64)
     ensures { out.new.items ≡ out.old.items ++ accepted_spelling name.now count ++ 10 ∷ [] }
 {
     accepted_into(out, name, count);
+    append(out, b"\n");
+}
+
+// What a publication is called in replies.
+fn published_of(published: press_state::Published) -> Published
+    ensures { result ≡ published_in_reply published }
+{
+    Published {
+        serial: published.serial,
+        moment: published.moment,
+        objects: published.objects,
+        origins: published.origins,
+    }
+}
+
+// Why nothing is published, as a reply tells it.
+fn refused_of(fault: PressFault) -> Refused
+    ensures { result ≡ spec.refused_of fault }
+{
+    match fault {
+        PressFault::ClockRange { now, .. } => Refused::ClockRange { now },
+        PressFault::SerialEnd { value, .. } => Refused::SerialEnd { value },
+        PressFault::Nothing { serial, .. } => Refused::Nothing { serial },
+        PressFault::SignerFault { signer, .. } => Refused::SignerFault { signer },
+        PressFault::KeyClash { id, .. } => Refused::KeyClash { id },
+        PressFault::Memory => Refused::Memory,
+    }
+}
+
+// Appends the reply to a publication, in the room that is there.
+fn append_published(out: &mut Vec<u8>, published: &Published)
+    requires { vec_len out.old + REPLY_ROOM ≤ vec_capacity out.old }
+    ensures { out.new.items ≡ out.old.items ++ published_spelling published.now ++ 10 ∷ [] }
+{
+    published_into(out, published);
+    append(out, b"\n");
+}
+
+// Appends the reply to `serial`, in the room that is there.
+fn append_serial(out: &mut Vec<u8>, serial: u64)
+    requires { vec_len out.old + REPLY_ROOM ≤ vec_capacity out.old }
+    ensures { out.new.items ≡ out.old.items ++ serial_spelling serial ++ 10 ∷ [] }
+{
+    serial_into(out, serial);
     append(out, b"\n");
 }
 
@@ -287,10 +366,10 @@ fn is_blank_byte(byte: u8) -> bool
     byte == b' ' || byte == b'\t' || byte == b'\r'
 }
 
-impl<D: Disk> LineHandler for Handler<D> {
-    ghost use Rattle.krill_top.specs.Stands.{MayReply};
+impl<D: Disk, G: Signer, C: Clock> LineHandler for Handler<D, G, C> {
+    ghost use Rattle.krill_top.specs.Offices.{MayReply};
 
-    ghost answers = { MayReply D.Disk };
+    ghost answers = { λ old line reply accepted new. MayReply D.Disk old.office line reply accepted new.office };
 
     fn answer(
         &mut self,

@@ -1,4 +1,5 @@
-//! Sessions of commands over the desks of a tree, and the one call that does all that the program does.
+//! Sessions of commands and publications over the desks of a tree, and the one call that does all that the program
+//! does.
 #![tactic(auto)]
 
 mod command_fault;
@@ -6,9 +7,13 @@ mod desks;
 mod faults;
 mod fronts;
 mod handler;
+mod office;
 mod opening;
+mod pressing;
+mod reads;
 mod running;
 mod serving;
+mod starting;
 
 pub use command_fault::CommandFault;
 pub use desks::Desks;
@@ -18,5 +23,6 @@ pub use line_loop::{
     Clock, ListClock, MemorySink, MemorySource, SessionEnd, Sink, SinkStop, Source, SourceStop,
     StreamSink, StreamSource, SystemClock,
 };
+pub use office::Office;
 pub use running::{RunEnd, run_krill};
 pub use serving::{Session, SessionEnds};

@@ -1,22 +1,23 @@
 //! The top call.
 
-ghost use Rattle.std.specs.Prelude.{◌≡◌, ◌≢◌, ◌↔◌, ◌⊎◌, ◌<◌, ◌≤◌, [], ◌∷◌, List, length, IsTrue, vec_len, vec_capacity};
+ghost use Rattle.std.specs.Prelude.{◌≡◌, ◌≢◌, ◌↔◌, ◌⊎◌, ◌<◌, ◌≤◌, [], ◌∷◌, List, length, map, IsTrue};
 ghost use Rattle.krill_top.specs.Words.{AreRunWords};
 ghost use Rattle.krill_top.specs.Ends.{run_status, fault_of, opening_fault};
 ghost use Rattle.krill_top.specs.Seen.{most_desks};
-ghost use Rattle.krill_top.specs.Opened.{AreOpened};
-ghost use Rattle.krill_top.specs.Run.{IsRefused, IsRefusedAtOpening, ServesOne};
+ghost use Rattle.rp_rules.specs.Certificates.{Vouched};
+ghost use Rattle.krill_top.specs.Started.{IsStarted};
+ghost use Rattle.krill_top.specs.Run.{IsRefused, IsRefusedAtOpening, IsTrusting, ServesOne};
 ghost use Rattle.krill_top.specs.declared.faults.RunFault.TheVariants as faults;
 ghost use Rattle.krill_top.specs.declared.faults.OpenFault.TheVariants as opening;
 
-use crate::desks::Desks;
 use crate::faults::{OpenFault, RunFault};
 use crate::fronts::{put_in_front, take_first};
 use crate::handler::Handler;
-use crate::opening::{Opened, OpeningRefused, close_desks, open_desks};
 use crate::serving::{Session, SessionEnds};
+use crate::starting::{Devices, NotStarted, SIGNERS_WRONG, Started, start, stop};
 use disk_api::Disk;
 use line_loop::{Clock, SessionEnd, Sink, Source};
+use signer_api::Signer;
 use std::alloc::Global;
 
 /// How many desks there are, each over a disk of its own.
@@ -27,15 +28,19 @@ const DISKS_WRONG: u32 = 0;
 
 const SESSIONS_WRONG: u32 = 2;
 
+/// How many signers there are at most.
+const MOST_SIGNERS: usize = 8;
+
 /// What a run leaves: its status, why it isn't 0, and the desks' disks and the sessions' ends as they
 /// stand.
 #[derive(Drop)]
-pub struct RunEnd<D: Disk, S: Source, K: Sink, C: Clock> {
+pub struct RunEnd<D: Disk, G: Signer, S: Source, K: Sink, C: Clock> {
     /// 0, or that of its fault.
     pub status: u8,
     /// None where the run ended well.
     pub fault: Option<RunFault>,
     pub desks: Vec<D>,
+    pub signers: Vec<G>,
     pub sessions: Vec<SessionEnds<S, K, C>>,
 }
 
@@ -74,32 +79,36 @@ fn opening_fault(fault: OpenFault) -> RunFault
     }
 }
 
-// Serves the one session over the opened desks, and closes them.
-fn serve_one<D: Disk, S: Source, K: Sink, C: Clock>(
+// Serves the one session over the office, and closes it.
+fn serve_one<D: Disk, G: Signer, S: Source, K: Sink, C: Clock>(
     alloc: Global,
-    opened: Opened<D>,
+    started: Started<D, G>,
     sessions: Vec<SessionEnds<S, K, C>>,
-) -> RunEnd<D, S, K, C>
-    requires all { length opened.desks.items ≡ most_desks }
-    requires empty { opened.disks.items ≡ [] }
-    requires room { vec_len opened.desks ≤ vec_capacity opened.disks }
+) -> RunEnd<D, G, S, K, C>
+    requires started { (disks : List D) × (signers : List G) × IsStarted D.Disk G.state disks signers started }
     requires session { length sessions.items ≡ 1 }
-    ensures { (disks : List D) (before : SessionEnds S K C)
-        → AreOpened D.Disk 0 disks opened.desks.items → sessions.items ≡ before ∷ []
-        → ServesOne D.Disk S.Source K.Sink disks before result }
+    ensures { (disks : List D) (signers : List G) (before : SessionEnds S K C)
+        → IsStarted D.Disk G.state disks signers started → sessions.items ≡ before ∷ []
+        → (vouched : Vouched) → IsTrusting vouched (map G.state signers) (map G.state result.signers.items)
+        → ServesOne D.Disk G.state S.Source K.Sink vouched disks signers before result }
 {
-    let Opened { desks, disks } = opened;
+    let Started { office, disks } = started;
     let mut sessions = sessions;
-    let mut ends = take_first(&mut sessions);
-    let mut handler = Handler::new(alloc, Desks::new(desks));
-    let ended = Session::serve(alloc, &mut handler, &mut ends);
+    let SessionEnds {
+        mut source,
+        mut sink,
+        clock,
+    } = take_first(&mut sessions);
+    let mut handler = Handler::new(alloc, office, clock);
+    let ended = Session::serve(alloc, &mut handler, &mut source, &mut sink);
+    let (office, clock) = handler.into_parts();
+    let ends = SessionEnds {
+        source,
+        sink,
+        clock,
+    };
     put_in_front(&mut sessions, ends);
-    let desks = handler.into_desks().into_inner();
-    run_end(
-        fault_of(ended),
-        close_desks(Opened { desks, disks }),
-        sessions,
-    )
+    run_end(fault_of(ended), stop(Started { office, disks }), sessions)
 }
 
 /// The status of a run that ended so.
@@ -113,53 +122,46 @@ fn status_of(fault: &Option<RunFault>) -> u8
 }
 
 // What a run leaves that ended so.
-fn run_end<D: Disk, S: Source, K: Sink, C: Clock>(
+fn run_end<D: Disk, G: Signer, S: Source, K: Sink, C: Clock>(
     fault: Option<RunFault>,
-    desks: Vec<D>,
+    devices: Devices<D, G>,
     sessions: Vec<SessionEnds<S, K, C>>,
-) -> RunEnd<D, S, K, C>
+) -> RunEnd<D, G, S, K, C>
     ensures status { result.status ≡ run_status fault }
     ensures fault { result.fault ≡ fault }
-    ensures desks { result.desks.items ≡ desks.items }
+    ensures desks { result.desks.items ≡ devices.disks.items }
+    ensures signers { result.signers.items ≡ devices.signers.items }
     ensures sessions { result.sessions.items ≡ sessions.items }
 {
     RunEnd {
         status: status_of(&fault),
         fault,
-        desks,
+        desks: devices.disks,
+        signers: devices.signers,
         sessions,
     }
 }
 
-// Opens the desks, and serves the one session.
-fn run_one<D: Disk, S: Source, K: Sink, C: Clock>(
+// Opens all, and serves the one session.
+fn run_one<D: Disk, G: Signer, S: Source, K: Sink, C: Clock>(
     alloc: Global,
-    desks: Vec<D>,
+    devices: Devices<D, G>,
     sessions: Vec<SessionEnds<S, K, C>>,
-) -> RunEnd<D, S, K, C>
-    requires desks { length desks.items ≡ most_desks }
+) -> RunEnd<D, G, S, K, C>
+    requires desks { length devices.disks.items ≡ most_desks }
+    requires signers { length devices.signers.items ≤ 8 }
     requires session { length sessions.items ≡ 1 }
     ensures { (before : SessionEnds S K C) → sessions.items ≡ before ∷ []
-        → IsRefusedAtOpening D.Disk desks.items sessions.items result
-        ⊎ ServesOne D.Disk S.Source K.Sink desks.items before result }
+        → IsRefusedAtOpening D.Disk G.state devices.disks.items devices.signers.items sessions.items result
+        ⊎ ((vouched : Vouched) → IsTrusting vouched (map G.state devices.signers.items) (map G.state result.signers.items)
+        → ServesOne D.Disk G.state S.Source K.Sink vouched devices.disks.items devices.signers.items before result) }
 {
-    match open_desks(alloc, desks) {
-        Ok(opened) => serve_one(alloc, opened, sessions),
-        Err(OpeningRefused { disks, fault }) => {
-            run_end(Some(opening_fault(fault)), disks, sessions)
+    match start(alloc, devices) {
+        Ok(started) => serve_one(alloc, started, sessions),
+        Err(NotStarted { devices, fault }) => {
+            run_end(Some(opening_fault(fault)), devices, sessions)
         }
     }
-}
-
-// A run that is refused before any device is called.
-fn refused<D: Disk, S: Source, K: Sink, C: Clock>(
-    fault: RunFault,
-    desks: Vec<D>,
-    sessions: Vec<SessionEnds<S, K, C>>,
-) -> RunEnd<D, S, K, C>
-    ensures { IsRefused desks.items sessions.items fault result }
-{
-    run_end(Some(fault), desks, sessions)
 }
 
 fn wrong_count(what: u32, needed: usize, found: usize) -> RunFault
@@ -173,37 +175,72 @@ fn wrong_count(what: u32, needed: usize, found: usize) -> RunFault
     RunFault::Refused { fault }
 }
 
-/// Does what the words name. `run` opens the 64 desks over their disks, in order, and serves the one
-/// session over them: each command goes to the desk of its authority.
+// Why a run is refused before any device is called.
+fn refusal(words: &[String], disks: usize, signers: usize, sessions: usize) -> Option<RunFault>
+    ensures words { ¬ AreRunWords words.now → result ≡ Some faults.Words }
+    ensures sessions { AreRunWords words.now → sessions ≢ 1 → result ≡ Some (faults.Refused (opening.WrongCount 2 1 sessions)) }
+    ensures disks { AreRunWords words.now → sessions ≡ 1 → disks ≢ most_desks
+        → result ≡ Some (faults.Refused (opening.WrongCount 0 most_desks disks)) }
+    ensures none { AreRunWords words.now → sessions ≡ 1 → disks ≡ most_desks → signers ≡ 0
+        → result ≡ Some (faults.Refused (opening.WrongCount 1 1 signers)) }
+    ensures many { AreRunWords words.now → sessions ≡ 1 → disks ≡ most_desks → 8 < signers
+        → result ≡ Some (faults.Refused (opening.WrongCount 1 8 signers)) }
+    ensures others { result ≡ None → AreRunWords words.now × (sessions ≡ 1) × (disks ≡ most_desks) × (signers ≤ 8) }
+    ensures served { AreRunWords words.now → sessions ≡ 1 → disks ≡ most_desks → 0 < signers → signers ≤ 8 → result ≡ None }
+{
+    if !are_run_words(words) {
+        return Some(RunFault::Words);
+    }
+    if sessions != 1 {
+        return Some(wrong_count(SESSIONS_WRONG, 1, sessions));
+    }
+    if disks != DESKS {
+        return Some(wrong_count(DISKS_WRONG, DESKS, disks));
+    }
+    if signers == 0 {
+        return Some(wrong_count(SIGNERS_WRONG, 1, signers));
+    }
+    if signers > MOST_SIGNERS {
+        return Some(wrong_count(SIGNERS_WRONG, MOST_SIGNERS, signers));
+    }
+    None
+}
+
+/// Does what the words name. `run` opens the 64 desks over their disks, in order, and the office over
+/// them and the signers, and serves the one session: each command goes to the desk of its authority,
+/// and what the desks have accepted is published.
 ///
 /// Where opening is refused no source is read and no sink is given anything. All devices come back as
 /// they stand.
-pub fn run_krill<D: Disk, S: Source, K: Sink, C: Clock>(
+pub fn run_krill<D: Disk, G: Signer, S: Source, K: Sink, C: Clock>(
     alloc: Global,
     words: &[String],
     desks: Vec<D>,
+    signers: Vec<G>,
     sessions: Vec<SessionEnds<S, K, C>>,
-) -> RunEnd<D, S, K, C>
-    ensures words { ¬ AreRunWords words.now → IsRefused desks.items sessions.items faults.Words result }
+) -> RunEnd<D, G, S, K, C>
+    ensures words { ¬ AreRunWords words.now → IsRefused desks.items signers.items sessions.items faults.Words result }
     ensures sessions { AreRunWords words.now → length sessions.items ≢ 1
-        → IsRefused desks.items sessions.items (faults.Refused (opening.WrongCount 2 1 (length sessions.items))) result }
+        → IsRefused desks.items signers.items sessions.items (faults.Refused (opening.WrongCount 2 1 (length sessions.items))) result }
     ensures desks { AreRunWords words.now → length sessions.items ≡ 1 → length desks.items ≢ most_desks
-        → IsRefused desks.items sessions.items (faults.Refused (opening.WrongCount 0 most_desks (length desks.items))) result }
-    ensures served { AreRunWords words.now → length desks.items ≡ most_desks
+        → IsRefused desks.items signers.items sessions.items (faults.Refused (opening.WrongCount 0 most_desks (length desks.items))) result }
+    ensures no_signer { AreRunWords words.now → length sessions.items ≡ 1 → length desks.items ≡ most_desks → signers.items ≡ []
+        → IsRefused desks.items signers.items sessions.items (faults.Refused (opening.WrongCount 1 1 0)) result }
+    ensures signers { AreRunWords words.now → length sessions.items ≡ 1 → length desks.items ≡ most_desks → 8 < length signers.items
+        → IsRefused desks.items signers.items sessions.items (faults.Refused (opening.WrongCount 1 8 (length signers.items))) result }
+    ensures served { AreRunWords words.now → length desks.items ≡ most_desks → 0 < length signers.items → length signers.items ≤ 8
         → (before : SessionEnds S K C) → sessions.items ≡ before ∷ []
-        → IsRefusedAtOpening D.Disk desks.items sessions.items result
-        ⊎ ServesOne D.Disk S.Source K.Sink desks.items before result }
+        → IsRefusedAtOpening D.Disk G.state desks.items signers.items sessions.items result
+        ⊎ ((vouched : Vouched) → IsTrusting vouched (map G.state signers.items) (map G.state result.signers.items)
+        → ServesOne D.Disk G.state S.Source K.Sink vouched desks.items signers.items before result) }
 {
-    if !are_run_words(words) {
-        return refused(RunFault::Words, desks, sessions);
+    let refused = refusal(words, desks.len(), signers.len(), sessions.len());
+    let devices = Devices {
+        disks: desks,
+        signers,
+    };
+    match refused {
+        Some(fault) => run_end(Some(fault), devices, sessions),
+        None => run_one(alloc, devices, sessions),
     }
-    if sessions.len() != 1 {
-        let fault = wrong_count(SESSIONS_WRONG, 1, sessions.len());
-        return refused(fault, desks, sessions);
-    }
-    if desks.len() != DESKS {
-        let fault = wrong_count(DISKS_WRONG, DESKS, desks.len());
-        return refused(fault, desks, sessions);
-    }
-    run_one(alloc, desks, sessions)
 }

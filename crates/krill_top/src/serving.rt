@@ -1,4 +1,4 @@
-//! A session: its lines, answered over the desks.
+//! A session: its lines, answered over the office.
 
 ghost use Rattle.std.specs.Prelude.{◌≡◌, ◌≤◌};
 ghost use Rattle.fault_count.specs.Rise.{HasRisen};
@@ -7,6 +7,7 @@ ghost use Rattle.krill_top.specs.Ended.{Served};
 use crate::handler::Handler;
 use disk_api::Disk;
 use line_loop::{Clock, SessionEnd, Sink, Source, serve_lines};
+use signer_api::Signer;
 use std::alloc::Global;
 
 /// The ends of a session.
@@ -24,23 +25,25 @@ pub struct SessionEnds<S: Source, K: Sink, C: Clock> {
 pub struct Session;
 
 impl Session {
-    /// Answers the session's lines, each once and in order, until the session ends.
+    /// Answers the session's lines, each once and in order, until the session ends. The handler has its
+    /// clock.
     ///
     /// Before it waits for more input it has given the replies to all lines that have come.
-    pub fn serve<D: Disk, S: Source, K: Sink, C: Clock>(
+    pub fn serve<D: Disk, G: Signer, S: Source, K: Sink, C: Clock>(
         alloc: Global,
-        handler: &mut Handler<D>,
-        ends: &mut SessionEnds<S, K, C>,
+        handler: &mut Handler<D, G, C>,
+        source: &mut S,
+        sink: &mut K,
     ) -> SessionEnd
-        ensures session { Served D.Disk S.Source K.Sink ends.old ends.new handler.old.desks handler.new.desks result }
+        ensures session { Served D.Disk S.Source K.Sink (record { source = source.old; sink = sink.old })
+            (record { source = source.new; sink = sink.new }) handler.old.office handler.new.office result }
         ensures source_fault { result ≡ SessionEnd.SourceFault →
-            HasRisen (S.fault_count ends.old.source) (S.fault_count ends.new.source) }
+            HasRisen (S.fault_count source.old) (S.fault_count source.new) }
         ensures sink_fault { result ≡ SessionEnd.SinkFault →
-            HasRisen (K.fault_count ends.old.sink) (K.fault_count ends.new.sink) }
-        ensures source_later { S.fault_count ends.old.source ≤ S.fault_count ends.new.source }
-        ensures sink_later { K.fault_count ends.old.sink ≤ K.fault_count ends.new.sink }
-        ensures clock { ends.new.clock ≡ ends.old.clock }
+            HasRisen (K.fault_count sink.old) (K.fault_count sink.new) }
+        ensures source_later { S.fault_count source.old ≤ S.fault_count source.new }
+        ensures sink_later { K.fault_count sink.old ≤ K.fault_count sink.new }
     {
-        serve_lines(alloc, handler, &mut ends.source, &mut ends.sink)
+        serve_lines(alloc, handler, source, sink)
     }
 }

@@ -5,17 +5,21 @@ use disk_api::{Disk, MemoryDisk};
 use krill_top::{
     ListClock, MemorySink, MemorySource, RunEnd, RunFault, SessionEnds, fault_text, run_krill,
 };
+use signer_api::{MemorySigner, Rehearsal, Signer};
 use std::alloc::Global;
 
 type Ends = SessionEnds<MemorySource, MemorySink, ListClock>;
 
-type End = RunEnd<MemoryDisk, MemorySource, MemorySink, ListClock>;
+type End<G> = RunEnd<MemoryDisk, G, MemorySource, MemorySink, ListClock>;
 
 /// The ends of the runs to come, and what is told of those that were.
 #[derive(Drop)]
 pub struct Bench {
     words: Vec<String>,
     disks: Vec<MemoryDisk>,
+    rehearsals: Vec<Rehearsal>,
+    memory_signers: Vec<MemorySigner>,
+    clock: Vec<u64>,
     sessions: u32,
     input: Vec<u8>,
     piece: usize,
@@ -26,11 +30,14 @@ pub struct Bench {
 }
 
 impl Bench {
-    /// Nothing but one session of whole pieces.
-    pub fn new(alloc: Global) -> Bench {
-        Bench {
+    /// Nothing but one session of whole pieces, and one signer.
+    pub fn new(alloc: Global) -> Result<Bench> {
+        let mut bench = Bench {
             words: Vec::new(alloc),
             disks: Vec::new(alloc),
+            rehearsals: Vec::new(alloc),
+            memory_signers: Vec::new(alloc),
+            clock: Vec::new(alloc),
             sessions: 1,
             input: Vec::new(alloc),
             piece: usize::MAX,
@@ -38,7 +45,9 @@ impl Bench {
             sink_fails: Vec::new(alloc),
             replies: Vec::new(alloc),
             told: String::new(alloc),
-        }
+        };
+        bench.add_rehearsal([0; 32])?;
+        Ok(bench)
     }
 
     pub fn told(&self) -> &str {
@@ -60,6 +69,33 @@ impl Bench {
     pub fn add_disk(&mut self, alloc: Global, bytes: Vec<u8>, fails: Vec<u64>) -> Result<()> {
         self.disks.push(MemoryDisk::new(alloc, bytes, fails))?;
         Ok(())
+    }
+
+    /// Takes all signers away.
+    pub fn clear_signers(&mut self) {
+        self.rehearsals.clear();
+        self.memory_signers.clear();
+    }
+
+    /// Adds a rehearsal signer with that start.
+    pub fn add_rehearsal(&mut self, start: [u8; 32]) -> Result<()> {
+        Ok(self.rehearsals.push(Rehearsal::new(start))?)
+    }
+
+    /// Adds a signer in memory that fails at these of its calls.
+    pub fn add_memory_signer(
+        &mut self,
+        alloc: Global,
+        start: [u8; 32],
+        fails: Vec<u64>,
+    ) -> Result<()> {
+        let signer = MemorySigner::new(alloc, start, fails);
+        Ok(self.memory_signers.push(signer)?)
+    }
+
+    /// The clocks give these moments from now on, and then the last one again and again.
+    pub fn set_clock(&mut self, moments: Vec<u64>) {
+        self.clock = moments;
     }
 
     /// The first disk takes so many calls, and fails from then on.
@@ -112,28 +148,50 @@ impl Bench {
         Ok(SessionEnds {
             source: MemorySource::in_pieces(input, source_fails, self.piece),
             sink: MemorySink::in_pieces(alloc, sink_fails, self.piece),
-            clock: ListClock::new(Vec::new(alloc)),
+            clock: ListClock::new(self.clock.as_slice().to_vec(alloc)?),
         })
     }
 
-    /// Runs, and keeps the disks as they are left. The input is used up.
-    pub fn run(&mut self, alloc: Global) -> Result<()> {
+    /// The sessions that are handed in.
+    fn all_sessions(&self, alloc: Global) -> Result<Vec<Ends>> {
         let mut sessions = Vec::new(alloc);
         for _ in 0..self.sessions {
             sessions.push(self.session(alloc)?)?;
         }
+        Ok(sessions)
+    }
+
+    /// Runs with the signers, all of one kind, and keeps the disks and the signers as they are left. The
+    /// input is used up.
+    pub fn run(&mut self, alloc: Global) -> Result<()> {
+        if self.memory_signers.is_empty() {
+            let signers = std::mem::replace(&mut self.rehearsals, Vec::new(alloc));
+            self.rehearsals = self.run_with(alloc, signers)?;
+        } else if self.rehearsals.is_empty() {
+            let signers = std::mem::replace(&mut self.memory_signers, Vec::new(alloc));
+            self.memory_signers = self.run_with(alloc, signers)?;
+        } else {
+            bail!("signers of two kinds");
+        }
+        Ok(())
+    }
+
+    fn run_with<G: Signer>(&mut self, alloc: Global, signers: Vec<G>) -> Result<Vec<G>> {
+        let sessions = self.all_sessions(alloc)?;
         self.input.clear();
         let disks = std::mem::replace(&mut self.disks, Vec::new(alloc));
-        let end = run_krill(alloc, self.words.as_slice(), disks, sessions);
+        let end = run_krill(alloc, self.words.as_slice(), disks, signers, sessions);
         self.keep(alloc, end)
     }
 
-    // Tells the status and the fault's text, and keeps the replies of all sessions and the disks.
-    fn keep(&mut self, alloc: Global, end: End) -> Result<()> {
+    // Tells the status and the fault's text, keeps the replies of all sessions and the disks, and hands
+    // back the signers.
+    fn keep<G: Signer>(&mut self, alloc: Global, end: End<G>) -> Result<Vec<G>> {
         let RunEnd {
             status,
             fault,
             desks,
+            signers,
             sessions,
         } = end;
         self.disks = desks;
@@ -142,10 +200,10 @@ impl Bench {
             self.replies.extend_from_slice(ends.sink.bytes())?;
         }
         write!(self.told, "\t{status}")?;
-        match fault {
-            Some(fault) => self.tell_fault(alloc, fault),
-            None => Ok(()),
+        if let Some(fault) = fault {
+            self.tell_fault(alloc, fault)?;
         }
+        Ok(signers)
     }
 
     /// Tells the fault's text.

@@ -21,7 +21,7 @@ fn main(rt: HostRuntime) -> Result<()> {
 
 fn print_case(rt: &HostRuntime, line: &str) -> Result<()> {
     let (name, steps) = line.split_once('\t').context("a case without steps")?;
-    let mut bench = Bench::new(rt.alloc());
+    let mut bench = Bench::new(rt.alloc())?;
     for step in steps.split('\t') {
         steps::take(rt.alloc(), &mut bench, step).context(format_args!("{name}: {step}"))?;
     }

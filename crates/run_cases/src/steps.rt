@@ -16,6 +16,22 @@ pub fn take(alloc: Global, bench: &mut Bench, step: &str) -> Result<()> {
         "failing" => bench.add_disk(alloc, Vec::new(alloc), numbers(alloc, text)?),
         "stop" => bench.stop_first(text.parse::<u64>()?),
         "image" => bench.keep_image(alloc, text.parse::<u64>()?),
+        _ => take_signer_step(alloc, bench, word, text),
+    }
+}
+
+fn take_signer_step(alloc: Global, bench: &mut Bench, word: &str, text: &str) -> Result<()> {
+    match word {
+        "unsigned" => {
+            bench.clear_signers();
+            Ok(())
+        }
+        "rehearsal" => bench.add_rehearsal(start_of(alloc, text)?),
+        "memory" => add_memory_signer(alloc, bench, text),
+        "clock" => {
+            bench.set_clock(numbers(alloc, text)?);
+            Ok(())
+        }
         _ => take_session_step(alloc, bench, word, text),
     }
 }
@@ -45,6 +61,20 @@ fn take_run_step(alloc: Global, bench: &mut Bench, word: &str, text: &str) -> Re
         "fault" => bench.tell_fault(alloc, fault_of(text)?),
         _ => bail!("an unknown step"),
     }
+}
+
+// The start of a signer, in 64 hexadecimal digits.
+fn start_of(alloc: Global, text: &str) -> Result<[u8; 32]> {
+    match <[u8; 32]>::try_from(hex::decode(alloc, text)?.as_slice()) {
+        Ok(start) => Ok(start),
+        Err(_) => bail!("no 32 bytes"),
+    }
+}
+
+// A signer in memory: its start, and the numbers of its calls that fail.
+fn add_memory_signer(alloc: Global, bench: &mut Bench, text: &str) -> Result<()> {
+    let (start, fails) = text.split_once(' ').context("no failing call")?;
+    bench.add_memory_signer(alloc, start_of(alloc, start)?, numbers(alloc, fails)?)
 }
 
 // The fault of this name.

@@ -1,10 +1,26 @@
-use Rattle.std.proofs.Common.{◌≡◌, inr, ◌∙◌}
-use Rattle.krill_top.proofs.InTurn.{opened_length}
+use Rattle.std.proofs.Common.{◌≡◌, ◌⊎◌, List, length, map, inl, inr, sym, ◌∙◌, ap, subst}
+use Rattle.std.specs.Prelude.{Some}
+use Rattle.krill_top.specs.Desks.{IsOpeningRefused}
+use Rattle.krill_top.specs.Ends.{fault_status}
+use Rattle.krill_top.specs.Run.{IsClosedAgain}
 use Rattle.krill_top.proofs.running.run_one.Goals as goal
 
-pub serve_one-requires-clause-all : goal.serve_one-requires-clause-all
-serve_one-requires-clause-all g c =
-    opened_length g.D.Disk 0 c.args.desks.items c.in-Ok.opened.desks.items c.in-Ok.ensures.opened ∙ c.requires.desks
+pub serve_one-requires-clause-started : goal.serve_one-requires-clause-started
+serve_one-requires-clause-started g c = (c.args.devices.disks.items, c.args.devices.signers.items, c.in-Ok.ensures.started)
 
 pub returns-in-Ok : goal.returns-in-Ok
-returns-in-Ok g c before session = inr (c.serve_one.ensures c.args.desks.items before c.in-Ok.ensures.opened session)
+returns-in-Ok g c before session = inr (c.serve_one.ensures c.args.devices.disks.items c.args.devices.signers.items before c.in-Ok.ensures.started session)
+
+pub returns-in-Err : goal.returns-in-Err
+returns-in-Err g c before session =
+    let fault = c.in-Err.field-0.fault in
+    let signers = length c.args.devices.signers.items in
+    inl (record {
+      fault = fault;
+      status_is = c.run_end.ensures.status ∙ ap fault_status c.opening_fault.ensures;
+      fault_is = c.run_end.ensures.fault ∙ ap Some c.opening_fault.ensures;
+      refused = subst (λ (l : List g.row.D.Denot). IsOpeningRefused g.D.Disk fault c.args.devices.disks.items l
+          ⊎ IsClosedAgain g.D.Disk fault signers c.args.devices.disks.items l) (sym c.run_end.ensures.desks) c.in-Err.ensures.refused;
+      same_signers = ap (map g.G.Signer.state) c.run_end.ensures.signers ∙ c.in-Err.ensures.signers;
+      untouched = c.run_end.ensures.sessions;
+    })

@@ -1,6 +1,6 @@
 use Rattle.std.proofs.Common.{◌≡◌, ℕ, List, sym, subst}
 use Rattle.std.proofs.lemmas.Option.{slice_get_read}
-use Rattle.std.specs.Prelude.{Result, Some, Ok, Err, slice_get, slice_set}
+use Rattle.std.specs.Prelude.{Result, Some, slice_get, slice_set}
 use Rattle.desk_core.specs.View.{View}
 use Rattle.krill_top.specs.declared.command_fault.CommandFault.{CommandFault}
 use Rattle.krill_top.specs.Outcomes.{Outcome, Commanded, outcome_of, fault_outcome}

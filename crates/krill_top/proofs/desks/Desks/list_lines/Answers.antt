@@ -1,7 +1,7 @@
 use Rattle.std.proofs.Common.{◌≡◌, ◌∙◌, ◌<◌, ◌+◌, ◌++◌, ◌∷◌, [], ℕ, suc, Bool, List, Some, length, ap, sym, subst, arith, rules, take}
 use Rattle.std.proofs.lemmas.Option.{slice_get_read}
 use Rattle.std.proofs.lemmas.List.{take_all}
-use Rattle.std.specs.Prelude.{slice_get, slice_index_or}
+use Rattle.std.specs.Prelude.{slice_get}
 use Rattle.authority_book.specs.declared.rows.NameRow.{NameRow}
 use Rattle.authority_book.specs.Settings.{Settings}
 use Rattle.desk_core.specs.View.{View}

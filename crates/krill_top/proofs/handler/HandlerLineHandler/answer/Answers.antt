@@ -14,4 +14,4 @@ returns-clause-ok g c = if_ok_so c.answer_text.result _ _ c.answer_text.ensures.
 
 pub returns-then-is_blank-clause-ok : goal.returns-then-is_blank-clause-ok
 returns-then-is_blank-clause-ok g c =
-    ([], blank_replies g.D.Disk c.args.self.now c.args.line.now (c.is_blank.ensures.0 c.if-is_blank.true), sym (append-nil c.args.out.now.items))
+    ([], blank_replies g.D.Disk c.args.self.now.office c.args.line.now (c.is_blank.ensures.0 c.if-is_blank.true), sym (append-nil c.args.out.now.items))

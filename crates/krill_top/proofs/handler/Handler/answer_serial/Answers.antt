@@ -1,0 +1,14 @@
+use Rattle.std.proofs.Common.{◌≡◌, ◌∙◌, ap, [], ◌∷◌, ◌++◌, List, ℕ, refl}
+use Rattle.json_api.specs.Reply.{serial_spelling}
+use Rattle.krill_top.specs.Replies.{IsTold, serial_text}
+use Rattle.krill_top.proofs.Moving.{stay_in}
+use Rattle.krill_top.proofs.handler.Handler.answer_serial.Goals as goal
+
+pub returns-clause-ok : goal.returns-clause-ok
+returns-clause-ok g c =
+    let text = serial_spelling c.serial.result in (
+      text,
+      c.append_serial.ensures ∙ ap (λ (l : List ℕ). l ++ text ++ 10 ∷ []) c.in_ok-reserve.ensures.items,
+      stay_in g.D.Disk (λ vouched b a. IsTold (serial_text b) b text _ a) c.args.self.now.office
+          (λ vouched before stands. record { text_is = ap serial_spelling (c.serial.ensures vouched before stands); not_accepted = refl; same = refl }),
+    )

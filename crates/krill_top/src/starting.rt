@@ -1,0 +1,145 @@
+//! The office over opened desks and signers, and what is handed back of it.
+
+ghost use Rattle.std.specs.Prelude.{◌≡◌, ◌⊎◌, ◌≤◌, ◌<◌, [], List, length, map, vec_len, vec_capacity, IfOk, IfErr};
+ghost use Rattle.desk_core.specs.View.{View};
+ghost use Rattle.rp_rules.specs.Certificates.{Vouched};
+ghost use Rattle.krill_top.specs.Seen.{Seen, most_desks};
+ghost use Rattle.krill_top.specs.World.{AreTrusted};
+ghost use Rattle.krill_top.specs.Opened.{AreOpened, AreClosed};
+ghost use Rattle.krill_top.specs.Desks.{IsOpeningRefused};
+ghost use Rattle.krill_top.specs.Run.{IsClosedAgain};
+ghost use Rattle.krill_top.specs.Started.{IsStarted};
+
+use crate::desks::Desks;
+use crate::faults::OpenFault;
+use crate::office::{Office, OfficeRefused};
+use crate::opening::{Opened, OpeningRefused, close_desks, open_desks};
+use disk_api::Disk;
+use signer_api::Signer;
+use signer_ring::Ring;
+use std::alloc::Global;
+
+/// What `WrongCount` says is wrong in number.
+pub(crate) const SIGNERS_WRONG: u32 = 1;
+
+/// The desks' disks and the signers, each in their order.
+#[derive(Drop)]
+pub(crate) struct Devices<D: Disk, G: Signer> {
+    pub(crate) disks: Vec<D>,
+    pub(crate) signers: Vec<G>,
+}
+
+/// An office, and the emptied list of its disks, in which there is room for them.
+#[derive(Drop)]
+pub(crate) struct Started<D: Disk, G: Signer> {
+    pub(crate) office: Office<D, G>,
+    pub(crate) disks: Vec<D>,
+}
+
+/// Devices over which no office was opened, and why.
+#[derive(Drop)]
+pub(crate) struct NotStarted<D: Disk, G: Signer> {
+    pub(crate) devices: Devices<D, G>,
+    pub(crate) fault: OpenFault,
+}
+
+/// Opens the desks and the office over them.
+pub(crate) fn start<D: Disk, G: Signer>(
+    alloc: Global,
+    devices: Devices<D, G>,
+) -> Result<Started<D, G>, NotStarted<D, G>>
+    requires disks { length devices.disks.items ≡ most_desks }
+    requires signers { length devices.signers.items ≤ 8 }
+    ensures started { IfOk result (λ started. IsStarted D.Disk G.state devices.disks.items devices.signers.items started) }
+    ensures refused { IfErr result (λ refused. IsOpeningRefused D.Disk refused.fault devices.disks.items refused.devices.disks.items
+        ⊎ IsClosedAgain D.Disk refused.fault (length devices.signers.items) devices.disks.items refused.devices.disks.items) }
+    ensures signers { IfErr result (λ refused. map G.state refused.devices.signers.items ≡ map G.state devices.signers.items) }
+{
+    let Devices { disks, signers } = devices;
+    match open_desks(alloc, disks) {
+        Ok(opened) => open_office(alloc, opened, signers),
+        Err(OpeningRefused { disks, fault }) => {
+            let devices = Devices { disks, signers };
+            Err(NotStarted { devices, fault })
+        }
+    }
+}
+
+// Opens the office over the opened desks, where the tree has the signers that its names use.
+fn open_office<D: Disk, G: Signer>(
+    alloc: Global,
+    opened: Opened<D>,
+    signers: Vec<G>,
+) -> Result<Started<D, G>, NotStarted<D, G>>
+    requires all { length opened.desks.items ≡ most_desks }
+    requires empty { opened.disks.items ≡ [] }
+    requires room { vec_len opened.desks ≤ vec_capacity opened.disks }
+    requires signers { length signers.items ≤ 8 }
+    requires opened { (disks : List D) × AreOpened D.Disk 0 disks opened.desks.items }
+    ensures started { IfOk result (λ started. (disks : List D) → AreOpened D.Disk 0 disks opened.desks.items
+        → IsStarted D.Disk G.state disks signers.items started) }
+    ensures refused { IfErr result (λ refused. (disks : List D) → AreOpened D.Disk 0 disks opened.desks.items
+        → IsClosedAgain D.Disk refused.fault (length signers.items) disks refused.devices.disks.items) }
+    ensures signers { IfErr result (λ refused. map G.state refused.devices.signers.items ≡ map G.state signers.items) }
+{
+    let Opened { desks, disks } = opened;
+    let desks = Desks::new(desks);
+    let (needed, found) = (desks.signers_needed(), signers.len() as u64);
+    let ring = Ring::new(signers);
+    if found < needed {
+        let fault = OpenFault::WrongCount {
+            what: SIGNERS_WRONG,
+            needed,
+            found,
+        };
+        return Err(give_up(desks, disks, ring, fault));
+    }
+    match Office::open(alloc, desks, ring) {
+        Ok(office) => Ok(Started { office, disks }),
+        Err(OfficeRefused { desks, ring }) => Err(give_up(desks, disks, ring, OpenFault::Memory)),
+    }
+}
+
+// Closes the desks again, and hands back the devices.
+fn give_up<D: Disk, G: Signer>(
+    desks: Desks<D>,
+    disks: Vec<D>,
+    ring: Ring<G>,
+    fault: OpenFault,
+) -> NotStarted<D, G>
+    requires empty { disks.items ≡ [] }
+    requires room { most_desks ≤ vec_capacity disks }
+    ensures disks { AreClosed D.Disk desks result.devices.disks.items }
+    ensures signers { map G.state result.devices.signers.items ≡ ring }
+    ensures fault { result.fault ≡ fault }
+{
+    NotStarted {
+        devices: devices_of(desks, disks, ring),
+        fault,
+    }
+}
+
+fn devices_of<D: Disk, G: Signer>(desks: Desks<D>, disks: Vec<D>, ring: Ring<G>) -> Devices<D, G>
+    requires empty { disks.items ≡ [] }
+    requires room { most_desks ≤ vec_capacity disks }
+    ensures disks { AreClosed D.Disk desks result.disks.items }
+    ensures signers { map G.state result.signers.items ≡ ring }
+{
+    let desks = desks.into_inner();
+    Devices {
+        disks: close_desks(Opened { desks, disks }),
+        signers: ring.take_back(),
+    }
+}
+
+/// Closes the office, and hands back its devices.
+pub(crate) fn stop<D: Disk, G: Signer>(started: Started<D, G>) -> Devices<D, G>
+    requires empty { started.disks.items ≡ [] }
+    requires room { most_desks ≤ vec_capacity started.disks }
+    ensures disks { AreClosed D.Disk started.office.desks result.disks.items }
+    ensures signers { map G.state result.signers.items ≡ started.office.press.ring }
+{
+    let Started { office, disks } = started;
+    let (desks, ring) = office.close();
+    devices_of(desks, disks, ring)
+}
