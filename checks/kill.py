@@ -1,16 +1,20 @@
-"""Kills the built program between and within commands, and starts it again over the same files.
+"""Kills the built program between and within commands and publications, and starts it again over the same files.
 
 Each turn sends lines without waiting and kills the program, after a random number of replies or after a random
 time. The next start is asked for its names and for the history of each: every authority has to have its
 acknowledged commands, in their order, and behind them at most one command in the whole tree whose reply nobody
-heard. The first turns have one authority, then there are more and more of them, up to 64. Then the files of two
-runs over the same lines are compared.
+heard. The first turns have one authority, then there are more and more of them, up to 64. What was published is
+gone with a run: after some kills a start has to publish all that is there as its first edition. Then the files of
+two runs over the same lines are compared.
 Usage: kill.py PROGRAM"""
 import json, os, random, subprocess, sys, tempfile, time
 
 KRILLC = os.path.abspath(sys.argv[1])
 TURNS, ALONE = 40, 10
 MOST_NAMES = 64
+# So many turns lie between two starts that publish.
+PUBLISHED_EACH = 5
+PUBLISH = {"command": "publish"}
 random.seed(7)
 
 
@@ -43,6 +47,8 @@ class Lines:
         lines, room = [], MOST_NAMES - len(histories) if turn >= ALONE else 0
         for _ in range(30):
             self.number += 1
+            if self.number % 13 == 0:
+                lines.append(PUBLISH)
             lines.append(self.next(list(histories), room > 0))
             room -= lines[-1]["command"] == "add"
         return lines
@@ -97,6 +103,8 @@ def killed_turn(folder, lines):
 
 def with_line(histories, line):
     """The histories with one accepted line more."""
+    if line == PUBLISH:
+        return histories
     more = {**histories, desk_of(line): histories[desk_of(line)] + [line]}
     return {**more, line["ca"]: []} if line["command"] == "add" else more
 
@@ -104,6 +112,10 @@ def with_line(histories, line):
 def acknowledged(histories, lines, replies):
     """The histories with the lines whose replies were heard, each of which has to accept its line."""
     for line, reply in zip(lines, replies):
+        if line == PUBLISH:
+            if reply["reply" if "reply" in reply else "refused"] not in ("published", "Nothing"):
+                sys.exit(f"checks/kill: {reply} to {line}")
+            continue
         histories, desk = with_line(histories, line), desk_of(line)
         if reply != {"authority": desk, "count": len(histories[desk]), "reply": "accepted"}:
             sys.exit(f"checks/kill: {reply} to {line}")
@@ -111,8 +123,19 @@ def acknowledged(histories, lines, replies):
 
 
 def is_same_or_one_more(known, found, unheard):
-    """Whether the histories are the same, or those with the first line that nobody heard a reply to."""
+    """Whether the histories are the same, or those with the first command that nobody heard a reply to."""
+    unheard = [line for line in unheard if line != PUBLISH]
     return found == known or bool(unheard) and found == with_line(known, unheard[0])
+
+
+def publishes_first(folder):
+    """A start publishes what is there as its first edition, once."""
+    serial = {"command": "serial"}
+    before, published, again, after = ask(folder, [serial, PUBLISH, PUBLISH, serial])
+    if (before.get("serial"), published.get("serial"), published.get("reply")) != (0, 1, "published"):
+        sys.exit(f"checks/kill: {before} and {published} after a kill")
+    if again != {"code": 24, "detail": "1", "refused": "Nothing"} or after != {"reply": "serial", "serial": 1}:
+        sys.exit(f"checks/kill: {again} and {after} behind a publication")
 
 
 def kills(folder):
@@ -127,6 +150,8 @@ def kills(folder):
             sys.exit(f"checks/kill: turn {turn}: other histories than those of {len(replies)} replies")
         cut += len(replies) < len(sent)
         histories = found
+        if turn % PUBLISHED_EACH == 0:
+            publishes_first(folder)
         turn += 1
     if len(histories) != MOST_NAMES or cut < TURNS / 4:
         sys.exit(f"checks/kill: {len(histories)} authorities, and {cut} turns cut short")

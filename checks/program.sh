@@ -106,6 +106,37 @@ for session in first tree; do
 " '' run
 done
 
+# The session of the documents that publishes. Each publication has its own moment.
+rm -r krill-data
+got=0
+"$krillc" run <"$top/examples/publish-session.jsonl" >output 2>error || got=$?
+sed 's/"moment":[0-9][0-9]*/"moment":M/' output >told
+if [ "$got" != 0 ] || ! cmp -s told "$top/examples/publish-session.replies"; then
+    echo "checks/program: a session that publishes: status $got"
+    diff told "$top/examples/publish-session.replies" || :
+    failed=1
+fi
+
+# A signer whose pipes stand, and one that has only one of them.
+printf '%s\n' '{"command":"publish"}' >input
+if python3 -c 'import cryptography' 2>python-said; then
+    "$top/signer/krill-signer" --keys keys --fifos krill-data/signer-0 --one-run 2>signer-said &
+    signer=$!
+    until { [ -p krill-data/signer-0.in ] && [ -p krill-data/signer-0.out ]; } || ! kill -0 $signer 2>>signer-said; do sleep 0.1; done
+    "$krillc" run <input >output 2>error || { echo "checks/program: a signer at pipes: status $?"; failed=1; }
+    wait $signer || { echo "checks/program: the signer: $(cat signer-said)"; failed=1; }
+    sed 's/"moment":[0-9][0-9]*/"moment":M/' output >told
+    [ "$(cat told)" = '{"moment":M,"objects":8,"origins":2,"reply":"published","serial":1}' ] || {
+        echo "checks/program: a signer at pipes: $(cat output)"
+        failed=1
+    }
+    [ "$(ls keys | grep -c '\.key$')" = 2 ] || { echo "checks/program: the signer kept: $(ls keys)"; failed=1; }
+    rm -f krill-data/signer-0.out
+fi
+: >krill-data/signer-1.in
+expect 4 '' 'krillc: device failed
+' run
+
 # One origin more than a configuration may have.
 rm -r krill-data
 awk 'BEGIN {

@@ -1,19 +1,24 @@
 //! `krillc`: the daemon over standard input and output, and the files of a folder.
 //!
-//! The folder `krill-data` of the working directory has a file for each desk, `desk-00` to `desk-63`.
+//! The folder `krill-data` of the working directory has a file for each desk, `desk-00` to `desk-63`, and
+//! the pipes of the signers, `signer-0.in` and `signer-0.out` to `signer-7.in` and `signer-7.out`.
 #![tactic(auto)]
+
+mod signers;
 
 use disk_api::{DiskStop, FileDisk};
 use krill_top::{
     RunFault, SessionEnds, StreamSink, StreamSource, SystemClock, fault_text, run_krill,
 };
+use signer_api::Signer;
+use signers::{PipedSigner, open_signers, rehearsal};
 use std::io::{ErrorKind, Write};
 use std::os::fd::{AsRawFd, IntoRawFd};
 use std::process::ExitCode;
 use std::{env, fs, io};
 
 /// The folder of the desks' files, in the working directory.
-const FOLDER: &str = "krill-data";
+pub(crate) const FOLDER: &str = "krill-data";
 
 const DESKS: u32 = 64;
 
@@ -31,12 +36,18 @@ announce a prefix:
 
     echo '{\"command\":\"roas update\",\"ca\":\"ta\",\"add\":[\"10.0.0.0/16-24 => 64496\"]}' | krillc run
 
+The line {\"command\":\"publish\"} publishes what was accepted. Nothing that is published is kept when the
+program ends. Keys and signatures are those of the signers whose pipes stand in that folder, signer-0.in
+and signer-0.out to signer-7.in and signer-7.out; where there are none, they are a rehearsal's, which
+are worth nothing.
+
 statuses:
     0  standard input was read to its end, and every line has its reply
     2  the words are none of those above
-    3  the store is damaged, or holds what is no accepted command: standard error says where
-    4  a device failed: standard input or output failed or is closed, a file of the store can't be
-       opened, read or written at the start, or another krillc has the store
+    3  the store is damaged or holds what is no accepted command, or it uses more signers than there
+       are: standard error says where, or how many
+    4  a device failed: standard input or output failed or is closed, a file of the store or a pipe of a
+       signer can't be opened, read or written at the start, or another krillc has the store
     5  standard input brought 2^40 bytes, the most that a session may
     6  out of memory
 ";
@@ -91,21 +102,45 @@ fn tell(rt: &HostRuntime, text: &str) -> ExitCode {
 /// Opens the files, whatever else the words are, and runs over them.
 fn open_and_run(rt: &HostRuntime, words: &[String]) -> ExitCode {
     match open_store(rt) {
-        Ok(store) => run(rt, words, store),
-        Err(DiskStop::Fault) => refused(rt, RunFault::Device),
-        Err(DiskStop::Memory) => refused(rt, RunFault::Memory),
+        Ok(store) => run_over(rt, words, store),
+        Err(stop) => refused(rt, fault_of(stop)),
     }
 }
 
-/// The files of the desks, and their folder, which no other program can lock as long as it's open here.
+/// Runs over the store, with its signers or, where it has none, with one for rehearsals.
+fn run_over(rt: &HostRuntime, words: &[String], store: Store) -> ExitCode {
+    let Store {
+        folder: _locked,
+        desks,
+        signers,
+    } = store;
+    if !signers.is_empty() {
+        return run(rt, words, desks, signers);
+    }
+    match rehearsal(rt) {
+        Ok(signers) => run(rt, words, desks, signers),
+        Err(stop) => refused(rt, fault_of(stop)),
+    }
+}
+
+fn fault_of(stop: DiskStop) -> RunFault {
+    match stop {
+        DiskStop::Fault => RunFault::Device,
+        DiskStop::Memory => RunFault::Memory,
+    }
+}
+
+/// The files of the desks and the signers, and their folder, which no other program can lock as long as it's
+/// open here.
 #[derive(Drop)]
 struct Store {
     folder: fs::File,
     desks: Vec<FileDisk>,
+    signers: Vec<PipedSigner>,
 }
 
-/// Makes the folder, locks it, and opens the desks' files in it, none of them in the place of a standard
-/// stream that was closed.
+/// Makes the folder, locks it, and opens the desks' files and the signers in it, none of them in the place of
+/// a standard stream that was closed.
 fn open_store(rt: &HostRuntime) -> Result<Store, DiskStop> {
     hold_closed_streams(rt).map_err(stop_of)?;
     let folder = make_folder_locked(rt).map_err(stop_of)?;
@@ -116,10 +151,15 @@ fn open_store(rt: &HostRuntime) -> Result<Store, DiskStop> {
     }
     // The names of all files at once.
     folder.sync_all().map_err(stop_of)?;
-    Ok(Store { folder, desks })
+    let signers = open_signers(rt)?;
+    Ok(Store {
+        folder,
+        desks,
+        signers,
+    })
 }
 
-fn stop_of(error: io::Error) -> DiskStop {
+pub(crate) fn stop_of(error: io::Error) -> DiskStop {
     if error.kind() == ErrorKind::OutOfMemory {
         DiskStop::Memory
     } else {
@@ -154,11 +194,12 @@ fn make_folder_locked(rt: &HostRuntime) -> Result<fs::File, io::Error> {
 }
 
 /// Runs over standard input and output, and tells why it ended otherwise than well.
-fn run(rt: &HostRuntime, words: &[String], store: Store) -> ExitCode {
-    let Store {
-        folder: _locked,
-        desks,
-    } = store;
+fn run<G: Signer>(
+    rt: &HostRuntime,
+    words: &[String],
+    desks: Vec<FileDisk>,
+    signers: Vec<G>,
+) -> ExitCode {
     let session = SessionEnds {
         source: StreamSource::new(rt.stdin()),
         sink: StreamSink::new(rt.stdout()),
@@ -167,7 +208,7 @@ fn run(rt: &HostRuntime, words: &[String], store: Store) -> ExitCode {
     let Ok(sessions) = vec![in rt.alloc(); session] else {
         return refused(rt, RunFault::Memory);
     };
-    let end = run_krill(rt.alloc(), words, desks, sessions);
+    let end = run_krill(rt.alloc(), words, desks, signers, sessions);
     match end.fault {
         None => ExitCode::from(end.status),
         Some(fault) => refused(rt, fault),
