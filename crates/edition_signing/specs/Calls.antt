@@ -6,7 +6,7 @@ use Rattle.crl_obj.specs.Formats as crls
 use Rattle.cms_obj.specs.declared.values.ObjectKind.TheVariants as ObjectKinds
 use Rattle.ring_calls.specs.Calls.{Call}
 use Rattle.key_roll.specs.declared.rows.KeyRow.{KeyRow}
-use Rattle.object_signing.specs.Signed.{by_key}
+use Rattle.object_signing.specs.Signed.{by_key, by_one_use}
 use Rattle.edition_publishers.specs.Finding.{Keys}
 use Rattle.edition_publishers.specs.Certificates.{Setting}
 use Rattle.edition_drafts.specs.Drafts.{Draft, Kind}
@@ -22,7 +22,7 @@ by_issuer key bytes signature =
 
 -- A signature of bytes with a one-use key of the issuer's signer.
 abbrev pub by_once : KeyRow → List ℕ → Answers → Call
-by_once key bytes a = by_key key.signer a.once bytes a.content
+by_once key bytes a = by_one_use key.signer a.once bytes a.content
 
 -- The first call for an object, and the second where it has one.
 abbrev pub first_call : Setting → Keys → List Draft → Entries → Draft → Kind → Answers → Call

@@ -7,7 +7,7 @@ use Rattle.pub_set.specs.Objects.{Rise}
 use Rattle.signer_api.specs.State.{SignerState, CountsFault}
 use Rattle.signer_ring.specs.Ring.{ChangesOne}
 use Rattle.ring_calls.specs.Calls.{Call, after_calls, IsVouched}
-use Rattle.ring_calls.specs.Calls.Call.{Makes, Signs}
+use Rattle.ring_calls.specs.Calls.Call.{Makes, Signs, Once}
 use Rattle.key_roll.specs.declared.rows.KeyRow.{KeyRow}
 use Rattle.edition_keys.specs.declared.fault.MakeFault.{MakeFault}
 use Rattle.edition_keys.specs.declared.fault.MakeFault.TheVariants.{SignerFault, KeyClash, Memory}
@@ -55,9 +55,10 @@ pub record IsMade
 abbrev pub IsSigning : Call → Type 0
 IsSigning (Makes signer key) = ⊥
 IsSigning (Signs signer one) = ⊤
+IsSigning (Once signer one) = ⊤
 
--- A beginning of the calls: keys come first, none of them clashes, and nothing is signed before
--- all of them are made.
+-- Keys come first, none of which clashes. Once all of them are made there may be calls that sign;
+-- what these sign isn't said.
 pub record IsBegun (s : Setting) (live : List KeyRow) (calls : List Call) : Type 0 where
   pub fresh : List KeyRow
   pub keys : AreBegun s.work.new_keys fresh
@@ -67,14 +68,14 @@ pub record IsBegun (s : Setting) (live : List KeyRow) (calls : List Call) : Type
   pub signatures : All IsSigning signing
   pub after : (signing ≡ []) ⊎ AreFresh s.work.new_keys fresh
 
--- The fault of that signer was counted after a beginning of the calls, and nothing else changed.
+-- The fault of that signer was counted after such calls, and nothing else changed.
 pub record IsFault
     (s : Setting) (live : List KeyRow) (old new : List SignerState) (signer : ℕ) : Type 0 where
   pub calls : List Call
   pub begun : IsBegun s live calls
   pub fault : ChangesOne signer CountsFault (after_calls old calls) new
 
--- Memory ran out while the keys were made, or behind a beginning of the calls.
+-- Memory ran out while the keys were made, or behind such calls.
 abbrev pub IsOut : Setting → List KeyRow → List SignerState → List SignerState → Type 0
 IsOut s live old new =
     IsShort s.work.new_keys old new

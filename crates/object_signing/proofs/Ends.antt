@@ -14,7 +14,7 @@ use Rattle.crl_obj.specs.Values.{CrlValue}
 use Rattle.crl_obj.specs.Formats as crls
 use Rattle.cms_obj.specs.declared.values.ObjectKind.{ObjectKind}
 use Rattle.cms_obj.specs.Formats.{signed_object, object_of}
-use Rattle.object_signing.specs.Signed.{framed, object_bytes, IsSigned, IsEnd, IsCertificate, IsCrlOf}
+use Rattle.object_signing.specs.Signed.{framed, object_bytes, IsSigned, IsSignedOnce, IsEnd, IsCertificate, IsCrlOf}
 
 pub kept-all : (ring : List SignerState) → Keeps ring ring
 kept-all ring = record { count = refl; told = λ h. h; vouched = λ k d s h. h }
@@ -27,6 +27,10 @@ end-of Memory signer key bytes old new h = inl h
 pub signed-as : (signer : ℕ) (key bytes other : List ℕ) (old new : List SignerState) (signature : List ℕ) → bytes ≡ other → IsSigned signer key bytes old new signature → IsSigned signer key other old new signature
 signed-as signer key bytes other old new signature e h =
     subst (λ (b : List ℕ). IsSigned signer key b old new signature) e h
+
+pub signed-once-as : (signer : ℕ) (key bytes other : List ℕ) (old new : List SignerState) (signature : List ℕ) → bytes ≡ other → IsSignedOnce signer key bytes old new signature → IsSignedOnce signer key other old new signature
+signed-once-as signer key bytes other old new signature e h =
+    subst (λ (b : List ℕ). IsSignedOnce signer key b old new signature) e h
 
 pub framed-as : (out tbs other signature : List ℕ) → out ≡ framed tbs signature → tbs ≡ other → out ≡ framed other signature
 framed-as out tbs other signature is e = is ∙ ap (λ (b : List ℕ). framed b signature) e

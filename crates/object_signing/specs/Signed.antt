@@ -9,7 +9,7 @@ use Rattle.object_parts.specs.FrameFormats as frames
 use Rattle.signer_api.specs.State.{SignerState, CountsFault}
 use Rattle.signer_ring.specs.Ring.{ChangesOne}
 use Rattle.ring_calls.specs.Calls.{Call, after_call, signed_of, IsVouched}
-use Rattle.ring_calls.specs.Calls.Call.{Signs}
+use Rattle.ring_calls.specs.Calls.Call.{Signs, Once}
 use Rattle.ring_calls.specs.declared.fault.CallFault.{CallFault}
 use Rattle.ring_calls.specs.declared.fault.CallFault.TheVariants.{SignerFault, Memory}
 use Rattle.cert_obj.specs.Values.{CertValue}
@@ -25,12 +25,24 @@ use Rattle.cms_obj.specs.Formats.{signed_object, object_of}
 abbrev pub by_key : ℕ → List ℕ → List ℕ → List ℕ → Call
 by_key signer key bytes signature = Signs signer (signed_of key bytes signature)
 
+-- The signature of bytes with a one-use key, which that signer made for it.
+abbrev pub by_one_use : ℕ → List ℕ → List ℕ → List ℕ → Call
+by_one_use signer key bytes signature = Once signer (signed_of key bytes signature)
+
 -- That signer signed the bytes with the key, for which it vouches, and did nothing else.
 pub record IsSigned
     (signer : ℕ) (key bytes : List ℕ) (old new : List SignerState) (signature : List ℕ)
     : Type 0 where
   pub call : new ≡ after_call old (by_key signer key bytes signature)
   pub vouched : IsVouched new (by_key signer key bytes signature)
+  pub whole : length signature ≡ 256
+
+-- That signer signed the bytes with a new key, which is that one and signs once.
+pub record IsSignedOnce
+    (signer : ℕ) (key bytes : List ℕ) (old new : List SignerState) (signature : List ℕ)
+    : Type 0 where
+  pub call : new ≡ after_call old (by_one_use signer key bytes signature)
+  pub vouched : IsVouched new (by_one_use signer key bytes signature)
   pub whole : length signature ≡ 256
 
 -- The signer failed, which it counted, and nothing else changed; or memory ran out, before the

@@ -10,7 +10,7 @@ ghost use Rattle.cert_obj.specs.Formats as certificates;
 ghost use Rattle.crl_obj.specs.Values.{IsCrl, crl_value};
 ghost use Rattle.crl_obj.specs.Formats as crls;
 ghost use Rattle.cms_obj.specs.Formats.{signed_attributes};
-ghost use Rattle.object_signing.specs.Signed.{framed, object_bytes, IsSigned, IsEnd, IsCertificate, IsCrlOf, IsObject};
+ghost use Rattle.object_signing.specs.Signed.{framed, object_bytes, IsSigned, IsSignedOnce, IsEnd, IsCertificate, IsCrlOf, IsObject};
 
 use crate::signing::{SignedBytes, is_whole, sign, sign_certificate};
 use cert_obj::Cert;
@@ -62,7 +62,7 @@ pub fn sign_content<S: Signer>(
 ) -> Result<OneUse, CallFault>
     requires signer { signer < length ring.old }
     requires moment { IsMoment moment }
-    ensures signed { IfOk result (λ once. IsSigned signer once.key.bytes
+    ensures signed { IfOk result (λ once. IsSignedOnce signer once.key.bytes
         (signed_attributes kind content.now moment) ring.old ring.new once.signature.bytes) }
     ensures stopped { IfErr result (IsStopped signer ring.old ring.new) }
     ensures kept { Keeps ring.old ring.new }

@@ -4,7 +4,7 @@ ghost use Rattle.std.specs.Prelude.{◌≡◌, ◌<◌, length, IfOk, IfErr};
 ghost use Rattle.sha2.specs.Sha256.{sha256};
 ghost use Rattle.signer_ring.specs.Ring.{Keeps};
 ghost use Rattle.ring_calls.specs.Calls.{after_call, IsVouched, IsStopped, signed_of};
-ghost use Rattle.ring_calls.specs.Calls.Call.{Makes, Signs};
+ghost use Rattle.ring_calls.specs.Calls.Call.{Makes, Signs, Once};
 
 use crate::fault::CallFault;
 use sha2::{Digest as Hasher, Sha256};
@@ -74,9 +74,9 @@ pub fn sign_once<S: Signer>(
 ) -> Result<OneUse, CallFault>
     requires { signer < length ring.old }
     ensures signed { IfOk result (λ once. ring.new
-        ≡ after_call ring.old (Signs signer (signed_of once.key.bytes bytes.now once.signature.bytes))) }
+        ≡ after_call ring.old (Once signer (signed_of once.key.bytes bytes.now once.signature.bytes))) }
     ensures vouched { IfOk result (λ once.
-        IsVouched ring.new (Signs signer (signed_of once.key.bytes bytes.now once.signature.bytes))) }
+        IsVouched ring.new (Once signer (signed_of once.key.bytes bytes.now once.signature.bytes))) }
     ensures stopped { IfErr result (IsStopped signer ring.old ring.new) }
     ensures kept { Keeps ring.old ring.new }
 {

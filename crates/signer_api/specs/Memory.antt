@@ -16,6 +16,7 @@ memory_state m = record {
   vouching = Listed (map signed_of m.signed.items);
   keys = Some (map (λ (key : PublicKey). key.bytes) m.keys.items);
   signatures = length m.signed.items;
+  once = m.once;
   faults = m.faults;
 }
 

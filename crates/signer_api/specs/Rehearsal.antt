@@ -5,7 +5,13 @@ use Rattle.signer_api.specs.State.Vouching.{Hashed}
 use Rattle.signer_api.specs.declared.rehearsal.Rehearsal.{Rehearsal}
 
 abbrev pub rehearsal_state : Rehearsal → SignerState
-rehearsal_state r = record { vouching = Hashed; keys = None; signatures = r.signatures; faults = 0 }
+rehearsal_state r = record {
+  vouching = Hashed;
+  keys = None;
+  signatures = r.signatures;
+  once = r.once;
+  faults = 0;
+}
 
 -- the bytes that its keys come from
 abbrev pub rehearsal_start : Rehearsal → List ℕ

@@ -27,6 +27,8 @@ pub record SignerState : Type 0 where
   pub keys : Option (List (List ℕ))
   -- How many signatures it gave.
   pub signatures : ℕ
+  -- How many of these it gave each with a new key, which signs once.
+  pub once : ℕ
   -- How many of its calls failed.
   pub faults : ℕ
 
@@ -71,6 +73,10 @@ also_vouching one Hashed = Hashed
 -- A signer that gave this signature.
 abbrev pub with_signature : Signed → SignerState → SignerState
 with_signature one signer = record signer { vouching = also_vouching one signer.vouching; signatures = next_count signer.signatures }
+
+-- A signer that gave this signature with a new key, which signed once.
+abbrev pub with_once : Signed → SignerState → SignerState
+with_once one signer = record (with_signature one signer) { once = next_count signer.once }
 
 -- One call more failed. A count stands still at the last value of a u64.
 abbrev pub RisesByOne : ℕ → ℕ → Type 0

@@ -2,7 +2,7 @@
 ghost use Rattle.std.specs.Prelude.{◌≡◌, ◌↔◌, ◌||◌, Err, not, IsTrue, IsErr, IfOk, IfErr};
 ghost use Rattle.signer_api.specs.Hashed as rule;
 ghost use Rattle.signer_api.specs.declared.signer.SignerStop.TheVariants.{Fault, Memory};
-ghost use Rattle.signer_api.specs.State.{SignerState, Answers, DropsKey, RisesByOne, Tells, Vouches, with_key, with_signature, next_count};
+ghost use Rattle.signer_api.specs.State.{SignerState, Answers, DropsKey, RisesByOne, Tells, Vouches, with_key, with_signature, with_once, next_count};
 
 use crate::hashed::{hashed_key, hashed_signature};
 use crate::{Digest, OneUse, PublicKey, Signature, Signer, SignerStop};
@@ -30,6 +30,7 @@ pub struct MemorySigner {
     fails: Vec<u64>,
     keys: Vec<PublicKey>,
     signed: Vec<Remembered>,
+    once: u64,
     faults: u64,
 }
 
@@ -48,7 +49,7 @@ impl MemorySigner {
         ensures next { memory_next result ≡ 0 }
         ensures fails { memory_fails result ≡ fails.items }
         ensures first_call { next_call result ≡ 1 }
-        ensures new { memory_state result ≡ record { vouching = Listed []; keys = Some []; signatures = 0; faults = 0 } }
+        ensures new { memory_state result ≡ record { vouching = Listed []; keys = Some []; signatures = 0; once = 0; faults = 0 } }
     {
         MemorySigner {
             start,
@@ -57,6 +58,7 @@ impl MemorySigner {
             fails,
             keys: Vec::new(alloc),
             signed: Vec::new(alloc),
+            once: 0,
             faults: 0,
         }
     }
@@ -118,7 +120,7 @@ impl Signer for MemorySigner {
     ghost use Rattle.signer_api.specs.Hashed as rule;
     ghost use Rattle.signer_api.specs.declared.signer.SignerStop.TheVariants.{Fault, Memory};
     ghost use Rattle.signer_api.specs.Memory.{memory_state, memory_start, memory_next, fails_next, holds_key, CountsCall, IsSameScript, made_by};
-    ghost use Rattle.signer_api.specs.State.{Signed, Answers, DropsKey, Tells, Vouches, is_other, with_key, with_signature};
+    ghost use Rattle.signer_api.specs.State.{Signed, Answers, DropsKey, Tells, Vouches, is_other, with_key, with_signature, with_once};
 
     ghost state = { λ m. memory_state m };
 
@@ -159,7 +161,7 @@ impl Signer for MemorySigner {
 
     fn sign_once(&mut self, _alloc: Global, digest: &Digest) -> Result<OneUse, SignerStop>
         ensures signed { Answers
-            (λ once. with_signature (record { key = once.key.bytes; digest = digest.now.bytes; signature = once.signature.bytes }))
+            (λ once. with_once (record { key = once.key.bytes; digest = digest.now.bytes; signature = once.signature.bytes }))
             result (memory_state self.old) (memory_state self.new) }
         ensures vouched { IfOk result (λ once. Tells (memory_state self.old)
             → Vouches (memory_state self.new) once.key.bytes digest.now.bytes once.signature.bytes) }
@@ -171,6 +173,7 @@ impl Signer for MemorySigner {
         self.begin()?;
         let key = hashed_key(&self.start, self.next);
         let signature = self.remember(&key, digest)?;
+        self.once = self.once.saturating_add(1);
         self.next = self.next.saturating_add(1);
         Ok(OneUse { key, signature })
     }

@@ -1,7 +1,7 @@
 // A signer for rehearsals, which never fails and keeps no record.
 ghost use Rattle.std.specs.Prelude.{◌≡◌, ◌↔◌, Ok, IsTrue, IsOkAnd, IfOk};
 ghost use Rattle.signer_api.specs.Hashed as rule;
-ghost use Rattle.signer_api.specs.State.{SignerState, Answers, DropsKey, Tells, Vouches, with_key, with_signature, next_count};
+ghost use Rattle.signer_api.specs.State.{SignerState, Answers, DropsKey, Tells, Vouches, with_key, with_signature, with_once, next_count};
 
 use crate::hashed::{hashed_key, hashed_signature};
 use crate::{Digest, OneUse, PublicKey, Signature, Signer, SignerStop};
@@ -17,6 +17,7 @@ pub struct Rehearsal {
     start: [u8; 32],
     next: u64,
     signatures: u64,
+    once: u64,
 }
 
 impl Rehearsal {
@@ -28,11 +29,13 @@ impl Rehearsal {
         ensures start { rehearsal_start result ≡ start }
         ensures next { rehearsal_next result ≡ 0 }
         ensures signatures { (rehearsal_state result).signatures ≡ 0 }
+        ensures once { (rehearsal_state result).once ≡ 0 }
     {
         Rehearsal {
             start,
             next: 0,
             signatures: 0,
+            once: 0,
         }
     }
 
@@ -55,7 +58,7 @@ impl Rehearsal {
 impl Signer for Rehearsal {
     ghost use Rattle.std.specs.Prelude.{◌≡◌, ◌↔◌, Ok, IsTrue, IsOkAnd, IfOk};
     ghost use Rattle.signer_api.specs.Hashed as rule;
-    ghost use Rattle.signer_api.specs.State.{SignerState, Answers, DropsKey, Tells, Vouches, with_key, with_signature, next_count};
+    ghost use Rattle.signer_api.specs.State.{SignerState, Answers, DropsKey, Tells, Vouches, with_key, with_signature, with_once, next_count};
     ghost use Rattle.signer_api.specs.Rehearsal.{rehearsal_start, rehearsal_next, rehearsal_state};
 
     ghost state = { λ r. rehearsal_state r };
@@ -91,7 +94,7 @@ impl Signer for Rehearsal {
 
     fn sign_once(&mut self, _alloc: Global, digest: &Digest) -> Result<OneUse, SignerStop>
         ensures signed { Answers
-            (λ once. with_signature (record { key = once.key.bytes; digest = digest.now.bytes; signature = once.signature.bytes }))
+            (λ once. with_once (record { key = once.key.bytes; digest = digest.now.bytes; signature = once.signature.bytes }))
             result (rehearsal_state self.old) (rehearsal_state self.new) }
         ensures vouched { IfOk result (λ once. Tells (rehearsal_state self.old)
             → Vouches (rehearsal_state self.new) once.key.bytes digest.now.bytes once.signature.bytes) }
@@ -102,6 +105,7 @@ impl Signer for Rehearsal {
         let number = self.take_number();
         let key = hashed_key(&self.start, number);
         self.count_signature();
+        self.once = self.once.saturating_add(1);
         Ok(OneUse {
             key,
             signature: hashed_signature(&key, digest),

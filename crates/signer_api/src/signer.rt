@@ -1,7 +1,7 @@
 // What every signer promises.
 ghost use Rattle.std.specs.Prelude.{◌≡◌, ◌↔◌, IsTrue, IfOk};
 ghost use Rattle.signer_api.specs.declared.signer.SignerStop.TheVariants.{Memory};
-ghost use Rattle.signer_api.specs.State.{SignerState, Signed, Tells, Vouches, Answers, DropsKey, with_key, with_signature};
+ghost use Rattle.signer_api.specs.State.{SignerState, Signed, Tells, Vouches, Answers, DropsKey, with_key, with_signature, with_once};
 
 use crate::{Digest, OneUse, PublicKey, Signature};
 use std::alloc::{AllocError, AllocFailed, Global};
@@ -61,7 +61,7 @@ pub trait Signer: Drop {
     /// Signs a digest with a new key, which it doesn't keep.
     fn sign_once(&mut self, alloc: Global, digest: &Digest) -> Result<OneUse, SignerStop>
         ensures signed { Answers
-            (λ once. with_signature (record { key = once.key.bytes; digest = digest.now.bytes; signature = once.signature.bytes }))
+            (λ once. with_once (record { key = once.key.bytes; digest = digest.now.bytes; signature = once.signature.bytes }))
             result (state self.old) (state self.new) }
         ensures vouched { IfOk result (λ once. Tells (state self.old)
             → Vouches (state self.new) once.key.bytes digest.now.bytes once.signature.bytes) };

@@ -5,7 +5,13 @@ use Rattle.signer_api.specs.State.Vouching.{NotTold}
 use Rattle.signer_line.specs.declared.signer.LineSigner.{LineSigner}
 
 abbrev pub line_state : {R W : Type 0} → LineSigner R W → SignerState
-line_state s = record { vouching = NotTold; keys = None; signatures = s.signatures; faults = s.faults }
+line_state s = record {
+  vouching = NotTold;
+  keys = None;
+  signatures = s.signatures;
+  once = s.once;
+  faults = s.faults;
+}
 
 -- where its answers come from
 abbrev pub line_from : {R W : Type 0} → LineSigner R W → R

@@ -22,6 +22,7 @@ pub struct LineSigner<R, W> {
     from: R,
     to: W,
     signatures: u64,
+    once: u64,
     faults: u64,
 }
 
@@ -38,12 +39,13 @@ impl<R: Read, W: Write> LineSigner<R, W> {
     pub fn new(from: R, to: W) -> Self
         ensures from { line_from result ≡ from }
         ensures to { line_to result ≡ to }
-        ensures new { line_state result ≡ record { vouching = NotTold; keys = None; signatures = 0; faults = 0 } }
+        ensures new { line_state result ≡ record { vouching = NotTold; keys = None; signatures = 0; once = 0; faults = 0 } }
     {
         LineSigner {
             from,
             to,
             signatures: 0,
+            once: 0,
             faults: 0,
         }
     }
@@ -75,13 +77,21 @@ impl<R: Read, W: Write> LineSigner<R, W> {
     {
         self.signatures = self.signatures.saturating_add(1);
     }
+
+    fn count_one_use(&mut self)
+        ensures counted { line_state self.new ≡ record (line_state self.old) { once = next_count self.old.once } }
+        ensures from { line_from self.new ≡ line_from self.old }
+        ensures to { line_to self.new ≡ line_to self.old }
+    {
+        self.once = self.once.saturating_add(1);
+    }
 }
 
 impl<R: Read + Drop, W: Write + Drop> Signer for LineSigner<R, W> {
     ghost use Rattle.std.specs.Prelude.{◌≡◌, ◌↔◌, IsTrue, OnOk, IfOk, IfErr};
     ghost use Rattle.signer_api.specs.declared.signer.SignerStop.TheVariants.{Fault};
     ghost use Rattle.std.specs.Io.KnownBytes.{Appends, Consumes};
-    ghost use Rattle.signer_api.specs.State.{Signed, Answers, DropsKey, Tells, Vouches, with_key, with_signature};
+    ghost use Rattle.signer_api.specs.State.{Signed, Answers, DropsKey, Tells, Vouches, with_key, with_signature, with_once};
     ghost use Rattle.signer_line.specs.Streams.{line_state, line_from, line_to, Succeeds};
     ghost use Rattle.signer_line.specs.Lines.{make_request, sign_request, once_request, check_request, drop_request, key_line, signature_line, once_line, check_line, drop_line, fed};
 
@@ -132,7 +142,7 @@ impl<R: Read + Drop, W: Write + Drop> Signer for LineSigner<R, W> {
     fn sign_once(&mut self, _alloc: Global, digest: &Digest) -> Result<OneUse, SignerStop>
         ensures fault { IfErr result (λ stop. stop ≡ Fault) }
         ensures signed { Answers
-            (λ once. with_signature (record { key = once.key.bytes; digest = digest.now.bytes; signature = once.signature.bytes }))
+            (λ once. with_once (record { key = once.key.bytes; digest = digest.now.bytes; signature = once.signature.bytes }))
             result (line_state self.old) (line_state self.new) }
         ensures vouched { IfOk result (λ once. Tells (line_state self.old)
             → Vouches (line_state self.new) once.key.bytes digest.now.bytes once.signature.bytes) }
@@ -145,6 +155,7 @@ impl<R: Read + Drop, W: Write + Drop> Signer for LineSigner<R, W> {
         match line.ok().and_then(|line| read_once(line.as_bytes())) {
             Some(once) => {
                 self.count_signature();
+                self.count_one_use();
                 Ok(once)
             }
             None => Err(self.failed()),

@@ -7,7 +7,7 @@ use Rattle.std.proofs.lemmas.Option.{same_Some}
 use Rattle.std.proofs.lemmas.Bool.{cases_eq}
 use Rattle.signer_api.specs.declared.signer.SignerStop.{SignerStop}
 use Rattle.signer_api.specs.declared.signer.SignerStop.TheVariants as Stop
-use Rattle.signer_api.specs.State.{SignerState, Signed, Vouching, TellsBy, VouchesBy, Tells, Vouches, Answers, CountsFault, DropsKey, with_key, with_signature, also_vouching}
+use Rattle.signer_api.specs.State.{SignerState, Signed, Vouching, TellsBy, VouchesBy, Tells, Vouches, Answers, CountsFault, DropsKey, with_key, with_signature, with_once, also_vouching}
 use Rattle.signer_api.specs.State.Vouching.{NotTold, Listed, Hashed}
 use Rattle.signer_ring.specs.Ring.{AllTell, Vouched, ChangesOne, CallsOne, CallsAll, Keeps, answer_of}
 use Rattle.signer_ring.specs.declared.fault.RingFault.{RingFault}
@@ -76,6 +76,12 @@ more_vouched one Hashed key digest signature vouched = vouched
 
 pub signature_keeps : (one : Signed) (signer : SignerState) → KeepsOne signer (with_signature one signer)
 signature_keeps one signer = record {
+  told = more_told one signer.vouching;
+  vouched = more_vouched one signer.vouching;
+}
+
+pub once_keeps : (one : Signed) (signer : SignerState) → KeepsOne signer (with_once one signer)
+once_keeps one signer = record {
   told = more_told one signer.vouching;
   vouched = more_vouched one signer.vouching;
 }

@@ -1,6 +1,6 @@
 // Signers in the order in which they were handed in.
 ghost use Rattle.std.specs.Prelude.{◌≡◌, ◌≤◌, ◌<◌, ◌^◌, ◌↔◌, length, vec_len, map, slice_get, IsTrue, IfOk, IfSome, All, MatchBool, Any};
-ghost use Rattle.signer_api.specs.State.{SignerState, Signed, Tells, Vouches, DropsKey, with_key, with_signature};
+ghost use Rattle.signer_api.specs.State.{SignerState, Signed, Tells, Vouches, DropsKey, with_key, with_signature, with_once};
 ghost use Rattle.signer_ring.specs.Ring.{AllTell, Vouched, ChangesOne, CallsOne, CallsAll, Keeps};
 
 use crate::RingFault;
@@ -96,7 +96,7 @@ impl<S: Signer> Ring<S> {
         digest: &Digest,
     ) -> Result<OneUse, RingFault>
         ensures called { CallsOne
-            (λ once. with_signature (record { key = once.key.bytes; digest = digest.now.bytes; signature = once.signature.bytes }))
+            (λ once. with_once (record { key = once.key.bytes; digest = digest.now.bytes; signature = once.signature.bytes }))
             signer result self.old self.new }
         ensures by_signer { IfOk result (λ once. IfSome (slice_get self.old signer) (λ at. Tells at
             → IfSome (slice_get self.new signer) (λ now. Vouches now once.key.bytes digest.now.bytes once.signature.bytes))) }

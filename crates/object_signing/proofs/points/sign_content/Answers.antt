@@ -1,7 +1,7 @@
 use Rattle.std.proofs.Common.{refl, ◌∙◌}
 use Rattle.std.proofs.lemmas.Result.{err_from_is_err_and}
 use Rattle.cms_obj.specs.Formats.{signed_attributes}
-use Rattle.object_signing.proofs.Ends.{kept-all, signed-as}
+use Rattle.object_signing.proofs.Ends.{kept-all, signed-once-as}
 use Rattle.object_signing.proofs.points.sign_content.Goals as goal
 
 pub returns-in_err-attributes-clause-stopped : goal.returns-in_err-attributes-clause-stopped
@@ -14,7 +14,7 @@ returns-in_err-attributes-clause-kept g c = kept-all c.args.ring.now
 
 pub returns-clause-signed : goal.returns-clause-signed
 returns-clause-signed g c =
-    signed-as c.args.signer c.in_ok-once.once.key.bytes c.as_slice-signed.result.now
+    signed-once-as c.args.signer c.in_ok-once.once.key.bytes c.as_slice-signed.result.now
     (signed_attributes c.args.kind c.args.content.now c.args.moment) c.args.ring.now c.sign_once.new.ring
     c.in_ok-once.once.signature.bytes (c.as_slice-signed.ensures.value ∙ c.in_ok-attributes.ensures)
     (record {

@@ -1,7 +1,7 @@
 use Rattle.std.proofs.Common.{◌<◌, length, arith}
 use Rattle.signer_api.specs.State.{SignerState, Vouches}
 use Rattle.signer_api.specs.declared.values.OneUse.{OneUse}
-use Rattle.signer_ring.proofs.Calls.{placed, calls_one, calls_keep, signature_keeps, vouched_by_one, vouched_by_all}
+use Rattle.signer_ring.proofs.Calls.{placed, calls_one, calls_keep, once_keeps, vouched_by_one, vouched_by_all}
 use Rattle.signer_ring.proofs.ring.Ring.sign_once.Goals as goal
 
 pub returns-clause-called : goal.returns-clause-called
@@ -22,4 +22,4 @@ returns-clause-vouched g c =
     (placed _ _ _ _ _ _ c.self.view_is low c.index_mut.ensures.value) c.answered.ensures c.sign_once.ensures.vouched
 
 pub returns-clause-kept : goal.returns-clause-kept
-returns-clause-kept g c = calls_keep _ _ _ _ _ (λ x signer. signature_keeps _ signer) (returns-clause-called g c)
+returns-clause-kept g c = calls_keep _ _ _ _ _ (λ x signer. once_keeps _ signer) (returns-clause-called g c)
