@@ -5,11 +5,13 @@ use Rattle.std.specs.Option.{option_map_or}
 use Rattle.std.proofs.lemmas.List.Elements.{All-nil, All-cons, All-head, All-tail}
 use Rattle.signer_api.specs.State.{SignerState, Tells, Vouches}
 use Rattle.ring_calls.specs.Calls.{Call, signer_of, change, after_call, after_calls, IsVouched}
-use Rattle.ring_calls.specs.Calls.Call.{Makes, Signs}
+use Rattle.ring_calls.specs.Calls.Call.{Makes, Signs, Once}
 use Rattle.res_sets.specs.declared.holdings.Resources.{Resources}
 use Rattle.authority_book.specs.declared.commands.Command.{Command}
 use Rattle.authority_book.specs.Settings.{Settings}
-use Rattle.authority_book.specs.Fold.{fold_of, Taken, first_names}
+use Rattle.names.specs.Name.{IsName}
+use Rattle.authority_book.specs.declared.rows.NameRow.{NameRow}
+use Rattle.authority_book.specs.Fold.{fold_of, Taken}
 use Rattle.entitle.specs.Certified.{names_of, AreCertified}
 use Rattle.entitle.specs.Owed.{AreOwed}
 use Rattle.entitle.specs.declared.trees.Owed.{Owed}
@@ -45,9 +47,13 @@ use Rattle.press_core.specs.Next.{PreparedValue}
 use Rattle.press_core.specs.Signers.{HasAllVouched}
 use Rattle.press_core.specs.Planned.{IsPrepared, basis_for}
 use Rattle.press_core.specs.Stands.{StandsFor}
-use Rattle.press_core.specs.Follows.{edition_of, AreBehind, Follows, IsPublishedAlone}
+use Rattle.press_core.specs.Follows.{edition_of, AreBehind, Follows}
 use Rattle.press_core.proofs.Signing.{calls-of-signers}
 use Rattle.press_core.proofs.Taking.{cut-long}
+
+-- The names after accepted commands are those of a tree.
+abbrev pub IsNamesLaw : Type 0
+IsNamesLaw = (commands : List Command) → Taken 0 commands → AreTree (fold_of 0 commands).names
 
 -- The laws of the layers below.
 pub record Laws : Type 0 where
@@ -66,7 +72,7 @@ pub record Laws : Type 0 where
   pub called : (footing : Ground) (before : State) (stock : StockValue) (cut : List ℕ) (moment : ℕ) (sets : List Resources)
       → before.serial ≡ stock.serial → before.rows ≡ stock.rows → ((desk : ℕ) → cut_at before.cut desk ≡ cut_at stock.cut desk)
       → is_called_for stock cut moment (next_keys (basis_at footing before cut moment sets)) ≡ due.is_called_for footing before cut moment sets stock.issued
-  pub names : (commands : List Command) → Taken 0 commands → AreTree (fold_of 0 commands).names
+  pub names : IsNamesLaw
   pub same : (one other : Contents) → ((uri : List ℕ) → one uri ≡ other uri) → one ≡ other
 
 -- ---- vouching
@@ -98,6 +104,8 @@ vouched-one : (vouched : Vouched) (ring : List SignerState) (call : Call) → Ha
 vouched-one vouched ring (Makes n key) has inside is = tt
 vouched-one vouched ring (Signs n one) has inside is =
     has one.key one.digest one.signature (any-at (λ signer. Tells signer → Vouches signer one.key one.digest one.signature) ring n inside is)
+vouched-one vouched ring (Once n one) has inside is =
+    has one.key one.digest one.signature (any-at (λ signer. Tells signer → Vouches signer one.key one.digest one.signature) ring n inside is)
 
 vouched-all : (vouched : Vouched) (ring : List SignerState) (calls : List Call) → HasAllVouched vouched ring → All (λ call. signer_of call < length ring) calls → All (IsVouched ring) calls → All (IsVouchedBy vouched) calls
 vouched-all vouched ring [] has inside is = All-nil (IsVouchedBy vouched)
@@ -112,11 +120,11 @@ first-name : (configs : List Settings) (n : ℕ) → length configs ≡ suc n �
 first-name [] n long = absurd (omega (arith, long))
 first-name (config ∷ rest) n long = (config, refl, refl)
 
-tree-of : Laws → (configs : List Settings) (cut : List ℕ) → length configs ≡ desks → AreTakenIn configs cut → AreTree (names_of configs)
-tree-of laws configs cut long taken =
+tree-of : IsNamesLaw → (configs : List Settings) (cut : List ℕ) → length configs ≡ desks → AreTakenIn configs cut → AreTree (names_of configs)
+tree-of law configs cut long taken =
     let first = first-name configs 63 long in
     let is = taken 0 first.0 first.1 in
-    subst AreTree (ap (λ (s : Settings). s.names) (sym is.is) ∙ first.2) (laws.names is.commands is.taken)
+    subst AreTree (ap (λ (s : Settings). s.names) (sym is.is) ∙ first.2) (law is.commands is.taken)
 
 -- ---- what it was made over
 
@@ -189,7 +197,7 @@ planned-and-made start ring prepared footing editions g =
       made = record {
         table = stands.table;
         tree = subst (λ (s : Standing). AreTree (names_of s.basis.configs)) same
-            (subst (λ (c : List Settings). AreTree (names_of c)) g.is.configs (tree-of g.laws prepared.next.configs prepared.next.cut g.is.next.kept.configs g.is.next.kept.taken));
+            (subst (λ (c : List Settings). AreTree (names_of c)) g.is.configs (tree-of g.laws.names prepared.next.configs prepared.next.cut g.is.next.kept.configs g.is.next.kept.taken));
         certified = subst (λ (s : Standing). AreCertified s.basis.configs s.basis.sets) same of.planned.called.certified;
         owes = subst (λ (s : Standing). AreOwed s.basis.configs s.owed) same of.planned.plan.1;
         work = of.work;
@@ -294,16 +302,22 @@ prepared-follows laws start ring prepared footing editions is behind =
 
 abbrev pub IsWalkLaw : Type 0
 IsWalkLaw = (footing : Ground) (editions : List Edition) (edition : Edition) (objects : List Object)
-    → AreSteps footing (editions ++ edition ∷ []) → names_of (configs_at footing.lists edition.cut) ≡ first_names → IsAscending objects
+    → AreSteps footing (editions ++ edition ∷ []) → AreTree (names_of (configs_at footing.lists edition.cut))
+    → All (λ row. IsName row.name) (names_of (configs_at footing.lists edition.cut)) → IsAscending objects
     → ((uri : List ℕ) → content_at objects uri ≡ set_after (editions ++ edition ∷ []) uri)
     → IsPublished footing edition (set_after (editions ++ edition ∷ []))
 
-pub published-alone : ((one other : Contents) → ((uri : List ℕ) → one uri ≡ other uri) → one ≡ other) → IsWalkLaw
+pub prepared-published : IsNamesLaw → ((one other : Contents) → ((uri : List ℕ) → one uri ≡ other uri) → one ≡ other) → IsWalkLaw
     → (start : Start) (ring : List SignerState) (prepared : PreparedValue) (footing : Ground) (editions : List Edition)
-    → IsPrepared start ring prepared → Follows footing start.clock editions prepared → IsPublishedAlone footing prepared
-published-alone law walk start ring prepared footing editions is follows alone =
+    → IsPrepared start ring prepared → Follows footing start.clock editions prepared
+    → IsPublished footing (edition_of prepared) (content_at prepared.next.set)
+prepared-published names law walk start ring prepared footing editions is follows =
     let edition = edition_of prepared in
     let set : content_at prepared.next.set ≡ set_after (editions ++ edition ∷ []) =
     law (content_at prepared.next.set) (set_after (editions ++ edition ∷ [])) follows.stands.set in
+    let tree = tree-of names prepared.next.configs prepared.next.cut is.next.kept.configs is.next.kept.taken in
     subst (IsPublished footing edition) (sym set)
-    (walk footing editions edition prepared.next.set follows.stands.steps (ap names_of (sym follows.stands.configs) ∙ alone) is.next.ascending follows.stands.set)
+    (walk footing editions edition prepared.next.set follows.stands.steps
+    (subst (λ (c : List Settings). AreTree (names_of c)) follows.stands.configs tree)
+    (subst (λ (c : List Settings). All (λ (row : NameRow). IsName row.name) (names_of c)) follows.stands.configs is.names)
+    is.next.ascending follows.stands.set)

@@ -8,7 +8,7 @@ use Rattle.std.proofs.lemmas.List.Elements.{Contains-append_left}
 use Rattle.signer_api.specs.State.{SignerState, CountsFault}
 use Rattle.signer_ring.specs.Ring.{ChangesOne}
 use Rattle.ring_calls.specs.Calls.{Call, signer_of, change, after_call, after_calls}
-use Rattle.ring_calls.specs.Calls.Call.{Makes, Signs}
+use Rattle.ring_calls.specs.Calls.Call.{Makes, Signs, Once}
 use Rattle.press_core.specs.Signers.{IsAmong, HoldKeys}
 
 set-same : (xs : List SignerState) (i : ℕ) (x y : SignerState) → slice_get xs i ≡ Some x → slice_get (slice_set xs i y) i ≡ Some y
@@ -36,6 +36,7 @@ among-more (Some keys) one key held = Contains-append_left keys (one ∷ []) key
 call-holds : (call : Call) (signer : SignerState) → HoldsOn signer (change call signer)
 call-holds (Makes n one) signer key held = among-more signer.keys one key held
 call-holds (Signs n one) signer key held = held
+call-holds (Once n one) signer key held = held
 
 fault-holds : (old new : SignerState) → CountsFault old new → HoldsOn old new
 fault-holds old new counted key held = subst (λ (s : SignerState). IsAmong s.keys key) (sym counted.others) held

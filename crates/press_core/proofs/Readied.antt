@@ -131,6 +131,7 @@ made-ready laws start setup work ring made ready typed is =
       is_made = is;
       live = laws.live start.at start.site n basis work start.ring ring made kept follow ready.plan law_is;
       signers = laws.signers start.at start.site n basis work start.ring ring made kept follow ready.plan law_is;
+      names = typed.names;
       clear = λ table after. laws.clear start.at start.site n basis work start.ring ring made table kept follow ready.plan law_is after;
     }
 
@@ -237,4 +238,5 @@ prepared-of start setup work ring made prepared ready is readable few next = rec
     ascending = next.ascending;
   };
   signers = subst (All (λ (row : KeyRow). row.signer < length start.ring)) (sym next.rows) is.signers;
+  names = subst (λ (c : List Settings). All (λ (name : NameRow). IsName name.name) (names_of c)) (sym next.configs) is.names;
 }

@@ -32,7 +32,8 @@ pub record IsNothing (start : Start) (serial : ℕ) : Type 0 where
   pub sets : List Resources
   pub called : IsCalled start sets false
 
--- A fault of the signer was counted after a beginning of the calls that make the plan.
+-- A fault of the signer was counted after the first of the keys that the plan makes, or after all of
+-- them and calls that sign.
 pub record IsSignersFault (start : Start) (ring : List SignerState) (signer : ℕ) : Type 0 where
   pub work : Work
   pub planned : IsPlanned start work

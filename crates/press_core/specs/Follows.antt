@@ -1,13 +1,9 @@
 -- The edition that is prepared, among those before it.
 use Rattle.std.specs.Prelude.{◌≡◌, ℕ, true, List, [], ◌∷◌, ◌++◌}
 use Rattle.signer_api.specs.State.{SignerState}
-use Rattle.authority_book.specs.Fold.{first_names}
-use Rattle.entitle.specs.Certified.{names_of}
-use Rattle.pub_set.specs.Objects.{content_at}
 use Rattle.editions.specs.Edition.{Edition}
 use Rattle.editions.specs.Step.{Ground, IsStep}
 use Rattle.editions.specs.Due.{IsCalledFor}
-use Rattle.editions.specs.Published.{IsPublished}
 use Rattle.press_state.specs.Gathering.{GoOn}
 use Rattle.press_core.specs.Start.{Start}
 use Rattle.press_core.specs.Signers.{HasAllVouched}
@@ -39,9 +35,3 @@ pub record Follows (footing : Ground) (clock : ℕ) (editions : List Edition)
   pub step : IsStep footing clock editions (edition_of prepared)
   pub called : IsCalledFor footing editions prepared.next.cut prepared.next.moment true
   pub stands : StandsFor footing (editions ++ edition_of prepared ∷ []) prepared.next
-
--- Where the trust anchor is the only authority at the cut: the set is sound to relying parties, and
--- yields the origins that are owed.
-abbrev pub IsPublishedAlone : Ground → PreparedValue → Type 0
-IsPublishedAlone footing prepared = names_of prepared.next.configs ≡ first_names
-    → IsPublished footing (edition_of prepared) (content_at prepared.next.set)

@@ -1,6 +1,7 @@
 -- What a press sets out to make, and what comes of it.
 use Rattle.std.specs.Prelude.{◌≡◌, ◌<◌, ◌^◌, ℕ, Bool, true, false, List, All, length}
 use Rattle.signer_api.specs.State.{SignerState}
+use Rattle.names.specs.Name.{IsName}
 use Rattle.res_sets.specs.declared.holdings.Resources.{Resources}
 use Rattle.entitle.specs.Certified.{names_of, AreCertified}
 use Rattle.key_roll.specs.declared.work.Work.{Work}
@@ -75,7 +76,8 @@ pub record IsMadeOf (start : Start) (ring : List SignerState) (prepared : Prepar
   pub table : IsTableAfter start.at.issued made.changes made.issued prepared.next.issued
 
 -- The edition is at the clock's moment or just behind the last one, and takes in all that was
--- gathered. It is made of its plan, and follows what stands; and the signers of its keys are there.
+-- gathered. It is made of its plan, and follows what stands; the signers of its keys are there, and
+-- its names are those that an authority can have.
 pub record IsPrepared (start : Start) (ring : List SignerState) (prepared : PreparedValue)
     : Type 0 where
   pub moment : prepared.next.moment ≡ moment_behind start.clock start.at.moment
@@ -84,3 +86,4 @@ pub record IsPrepared (start : Start) (ring : List SignerState) (prepared : Prep
   pub made : IsMadeOf start ring prepared
   pub next : IsNext start.site start.at prepared
   pub signers : All (λ row. row.signer < length start.ring) prepared.next.rows
+  pub names : All (λ row. IsName row.name) (names_of prepared.next.configs)

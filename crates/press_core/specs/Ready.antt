@@ -2,6 +2,7 @@
 use Rattle.std.specs.Prelude.{◌≡◌, ℕ, ◌+◌, ◌<◌, ◌≤◌, ◌^◌, true, List, All, length}
 use Rattle.signer_api.specs.State.{SignerState}
 use Rattle.key_ids.specs.Places.{Bases}
+use Rattle.names.specs.Name.{IsName}
 use Rattle.authority_book.specs.declared.rows.NameRow.{NameRow}
 use Rattle.entitle.specs.Certified.{names_of, settings_of, AreCertified}
 use Rattle.key_roll.specs.declared.work.Work.{Work}
@@ -86,6 +87,7 @@ pub record IsMadeReady (start : Start) (setup : Setup) (work : Work) (ring : Lis
   pub is_made : IsMade (setting_for start work) start.at.rows start.ring ring made
   pub live : AreLive setup.moment made.rows
   pub signers : All (λ row. row.signer < length start.ring) made.rows
+  pub names : All (λ (name : NameRow). IsName name.name) (names_of (settings_of setup.configs.items))
   pub clear : (table : List IssuedRow)
       → IsTableAfter start.at.issued made.changes made.issued table
       → IsClear start.site made.rows table

@@ -5,7 +5,9 @@ ghost use Rattle.signer_api.specs.State.{SignerState};
 ghost use Rattle.signer_ring.specs.Ring as ring;
 ghost use Rattle.signer_ring.specs.Ring.{AllTell};
 ghost use Rattle.rp_rules.specs.Certificates.{Vouched};
+ghost use Rattle.pub_set.specs.Objects.{content_at};
 ghost use Rattle.editions.specs.Edition.{Edition};
+ghost use Rattle.editions.specs.Published.{IsPublished};
 ghost use Rattle.editions.specs.Step.{Ground, IsMore};
 ghost use Rattle.press_state.specs.Stock.{StockValue, IsFirst, desks};
 ghost use Rattle.press_core.specs.Signers.{HasAllVouched};
@@ -13,14 +15,14 @@ ghost use Rattle.press_core.specs.Start.{Start};
 ghost use Rattle.press_core.specs.Next.{PreparedValue};
 ghost use Rattle.press_core.specs.Planned.{IsPrepared};
 ghost use Rattle.press_core.specs.Stands.{StandsFor};
-ghost use Rattle.press_core.specs.Follows.{AreBehind, Follows, IsPublishedAlone};
+ghost use Rattle.press_core.specs.Follows.{edition_of, AreBehind, Follows};
 
-use anchor_walk::an_anchors_edition_is_published;
 use edition_steps::{the_table_goes_on, what_is_planned_and_made_follows};
 use editions::{
     editions_follow_one_another, same_objects_same_set, steps_come_one_by_one, steps_stay_steps,
 };
 use press_state::{called_for_by_what_stands, gathered_commands_go_on};
+use tree_walk::editions_are_published;
 use work_laws::accepted_names_are_apart;
 
 /// What stands before the first edition is what no editions leave, over whatever commands.
@@ -62,12 +64,14 @@ pub fn prepared_editions_follow()
     what_is_planned_and_made_follows();
 }
 
-/// Where the trust anchor is the only authority, its set is sound to relying parties, and yields what is owed.
+/// The set of what is prepared is sound to relying parties, and yields what is owed.
 pub fn prepared_editions_are_published()
     ensures { (start : Start) (ring : List SignerState) (prepared : PreparedValue) (footing : Ground)
         (editions : List Edition) → IsPrepared start ring prepared
-        → Follows footing start.clock editions prepared → IsPublishedAlone footing prepared }
+        → Follows footing start.clock editions prepared
+        → IsPublished footing (edition_of prepared) (content_at prepared.next.set) }
 {
-    an_anchors_edition_is_published();
+    accepted_names_are_apart();
+    editions_are_published();
     same_objects_same_set();
 }

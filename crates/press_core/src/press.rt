@@ -8,12 +8,14 @@ ghost use Rattle.press_core.specs.Next.{IsNext};
 ghost use Rattle.entitle.specs.Certified.{names_of};
 ghost use Rattle.editions.specs.Edition.{Edition};
 ghost use Rattle.editions.specs.Step.{Ground};
+ghost use Rattle.editions.specs.Published.{IsPublished};
+ghost use Rattle.pub_set.specs.Objects.{content_at};
 ghost use Rattle.press_state.specs.Gathering.{configs_with, AreGathered, AreAccepted};
 ghost use Rattle.press_core.specs.Press.{DropsEach};
 ghost use Rattle.press_core.specs.Signers.{HoldKeys};
 ghost use Rattle.press_core.specs.Start.{start_of};
 ghost use Rattle.press_core.specs.Planned.{IsPrepared};
-ghost use Rattle.press_core.specs.Follows.{AreBehind, Follows, IsPublishedAlone};
+ghost use Rattle.press_core.specs.Follows.{edition_of, AreBehind, Follows};
 ghost use Rattle.press_core.specs.Faults.{IsPressFault};
 
 use crate::fault::PressFault;
@@ -136,7 +138,7 @@ impl<S: Signer> Press<S> {
         // To relying parties it is sound, and yields what is owed.
         ensures published { IfOk result (λ prepared. (footing : Ground) (editions : List Edition)
             → AreBehind (start_of self.old now gathered.items) self.new.ring footing editions
-            → IsPublishedAlone footing prepared) }
+            → IsPublished footing (edition_of prepared) (content_at prepared.next.set)) }
 
         // Each refusal has its cause. On every answer the rest of the press stays as it is, and the signers keep their
         // keys, and vouch for what they vouched for.
