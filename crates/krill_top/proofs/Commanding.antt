@@ -9,7 +9,7 @@ use Rattle.disk_api.specs.declared.disk.Disk.{Ghosts as DiskGhosts}
 use Rattle.authority_book.specs.declared.commands.Command.{Command}
 use Rattle.authority_book.specs.declared.refusals.Refusal.{Refusal}
 use Rattle.authority_book.specs.Settings.{Settings}
-use Rattle.authority_book.specs.Verdict.{IsAccepted, verdict_of, refusal_of, refused_or_ok}
+use Rattle.authority_book.specs.Verdict.{IsAccepted, verdict_of}
 use Rattle.authority_book.specs.Fold.{fold_of, after, after_all, empty_settings, AcceptedInTurn}
 use Rattle.cmd_codec.specs.Spelling.{spelling, IsRecordable}
 use Rattle.gate_journal.specs.Format.{held_by}

@@ -1,17 +1,16 @@
 -- An office that was opened.
-use Rattle.std.proofs.Common.{◌≡◌, ◌≢◌, ℕ, ◌≤◌, ◌<◌, List, [], ◌∷◌, length, refl, sym, ◌∙◌, ap, subst, arith}
-use Rattle.std.specs.Prelude.{max, All}
+use Rattle.std.proofs.Common.{◌≡◌, ℕ, ◌≤◌, ◌<◌, List, [], ◌∷◌, length, refl, sym, ◌∙◌, subst, arith}
+use Rattle.std.specs.Prelude.{All}
 use Rattle.std.proofs.lemmas.List.Elements.{All-nil, All-cons}
 use Rattle.authority_book.specs.declared.rows.NameRow.{NameRow}
 use Rattle.key_roll.specs.declared.rows.KeyRow.{KeyRow}
-use Rattle.signer_api.specs.State.{SignerState}
 use Rattle.rp_rules.specs.Certificates.{Vouched}
 use Rattle.editions.specs.Step.{Ground}
 use Rattle.press_state.specs.Stock.{StockValue, IsFirst, desks}
 use Rattle.press_state.specs.Sheets.{sheet_of}
 use Rattle.press_core.specs.Stands.{StandsFor}
 use Rattle.krill_top.specs.Seen.{Seen, names_in}
-use Rattle.krill_top.specs.World.{World, default_bases, footing_of, AreTrusted}
+use Rattle.krill_top.specs.World.{default_bases, footing_of, AreTrusted}
 use Rattle.krill_top.specs.Stands.{AreIn}
 use Rattle.krill_top.specs.Offices.{OfficeValue, StandsIn}
 use Rattle.krill_top.specs.Run.{signers_needed}

@@ -1,12 +1,11 @@
 -- What the office's calls make of it.
-use Rattle.std.proofs.Common.{◌≡◌, ◌≢◌, ℕ, suc, ◌+◌, ◌≤◌, ◌<◌, true, List, [], ◌∷◌, ◌++◌, length, get_or, refl, sym, ◌∙◌, ap, subst, arith, inl, inr}
+use Rattle.std.proofs.Common.{◌≡◌, ℕ, suc, ◌+◌, ◌≤◌, ◌<◌, true, List, [], ◌∷◌, ◌++◌, length, get_or, refl, sym, ◌∙◌, ap, subst, arith, inl, inr}
 use Rattle.std.specs.Prelude.{◌⊎◌, Ok, Err, All, Some, slice_get}
 use Rattle.std.proofs.lemmas.List.{length-map}
 use Rattle.disk_api.specs.declared.disk.Disk.{Ghosts as DiskGhosts}
 use Rattle.authority_book.specs.declared.commands.Command.{Command}
 use Rattle.authority_book.specs.declared.rows.NameRow.{NameRow}
 use Rattle.authority_book.specs.Settings.{Settings}
-use Rattle.authority_book.specs.Fold.{first_names}
 use Rattle.entitle.specs.Certified.{names_of}
 use Rattle.entitle.specs.Owed.{AreOwed}
 use Rattle.cmd_codec.specs.Spelling.{spelling}
@@ -23,7 +22,7 @@ use Rattle.key_roll.specs.declared.rows.KeyRow.{KeyRow}
 use Rattle.press_state.specs.declared.gathered.Gathered.{Gathered}
 use Rattle.press_state.specs.declared.ended.EndedKey.{EndedKey}
 use Rattle.press_state.specs.declared.stock.Published.{Published}
-use Rattle.press_state.specs.Stock.{StockValue, IsKept, published_of}
+use Rattle.press_state.specs.Stock.{StockValue, IsKept}
 use Rattle.press_state.specs.Sheets.{sheet_of}
 use Rattle.press_state.specs.Ended.{ended_keys}
 use Rattle.press_state.specs.Gathering.{configs_with, cut_with, GoOn, AreGathered, AreAccepted}
@@ -33,20 +32,19 @@ use Rattle.press_core.specs.Press.{PressValue, DropsEach}
 use Rattle.press_core.specs.Signers.{HasAllVouched, AreCalled, HoldKeys}
 use Rattle.press_core.specs.Start.{start_of}
 use Rattle.press_core.specs.Next.{PreparedValue}
-use Rattle.press_core.specs.Planned.{IsPrepared}
 use Rattle.press_core.specs.Stands.{StandsFor}
-use Rattle.press_core.specs.Follows.{AreBehind, Follows, IsPublishedAlone, edition_of}
+use Rattle.press_core.specs.Follows.{AreBehind, Follows, edition_of}
 use Rattle.press_core.specs.Faults.{IsPressFault}
-use Rattle.krill_top.specs.Seen.{Seen, most_desks, commands_of, names_in}
-use Rattle.krill_top.specs.World.{World, lists_of, default_bases, footing_of, AreTrusted}
+use Rattle.krill_top.specs.Seen.{most_desks, commands_of, names_in}
+use Rattle.krill_top.specs.World.{World, lists_of, footing_of, AreTrusted}
 use Rattle.krill_top.specs.Outcomes.{Outcome, Commanded}
 use Rattle.notice_board.specs.declared.sheets.Sheet.{Sheet}
 use Rattle.krill_top.specs.Gathered.{AreSince}
 use Rattle.krill_top.specs.Pressing.{IsPressed, IsNotPressed}
-use Rattle.krill_top.specs.Publishing.{TakesAll, AreNumbersOf, IsAtPress, Publishes, IsMetBy, IsUnpublished, PublishesOrNot}
+use Rattle.krill_top.specs.Publishing.{TakesAll, IsAtPress, Publishes, IsMetBy, PublishesOrNot}
 use Rattle.krill_top.specs.Replies.{CommandedIn}
-use Rattle.krill_top.specs.Stands.{AreIn, GoOn as DesksGoOn, Leads}
-use Rattle.krill_top.specs.Offices.{OfficeValue, StandsIn, IsOffice, Arrives, Moves}
+use Rattle.krill_top.specs.Stands.{Leads}
+use Rattle.krill_top.specs.Offices.{OfficeValue, StandsIn, IsOffice, Moves}
 use Rattle.krill_top.proofs.Standing.{At, at_place, go_on_same}
 use Rattle.krill_top.proofs.Vouching.{vouched_back, trusted_on, keeps_same, keeps_then}
 use Rattle.krill_top.proofs.Lists.{as_many, list_at, lists_long, lists_grow, names_now}
@@ -249,10 +247,6 @@ module _ {D : Type 0} where
     takes : TakesAll before.seen edition.cut
     takes desk = ap (λ (c : List ℕ). cut_at c desk) done.is_prepared.cut ∙ they_take_all old.desks before.seen old.press.at.cut groups sound done.since desk
 
-    names_are : names_of prepared.next.configs ≡ names_in before.seen
-    names_are = ap names_of follows.stands.configs
-        ∙ names_now before.seen prepared.next.cut takes (omega (arith, some_desks vouched old before stands, as_many old.desks before.seen stands.desks))
-
     set_is : content_at prepared.next.set ≡ set_after (before.editions ++ edition ∷ [])
     set_is = λ i uri. follows.stands.set uri i
 
@@ -286,8 +280,8 @@ module _ {D : Type 0} where
         dropped = subst (λ (e : List EndedKey). DropsEach e made new.press.ring)
             (done.is_prepared.next.ended ∙ ap (λ (r : List KeyRow). ended_keys r prepared.next.rows) stands.press.rows) done.dropped;
       };
-      alone = λ first. subst (λ (s : Contents). IsPublished (footing_of vouched before.seen) edition s) set_is
-          (done.alone (footing_of vouched before.seen) before.editions behind (names_are ∙ first));
+      published = subst (λ (s : Contents). IsPublished (footing_of vouched before.seen) edition s) set_is
+          (done.published (footing_of vouched before.seen) before.editions behind);
     }
 
     all_kept : Keeps old.press.ring new.press.ring

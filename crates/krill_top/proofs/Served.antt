@@ -1,11 +1,12 @@
 -- A run over all desks, from what opening found, what the session did, and what closing leaves.
-use Rattle.std.proofs.Common.{◌≡◌, ℕ, zero, suc, true, ◌+◌, ◌≤◌, List, [], ◌∷◌, length, map, refl, sym, ◌∙◌, ap, subst, inl, inr, arith}
+use Rattle.std.proofs.Common.{◌≡◌, ℕ, zero, suc, ◌+◌, ◌≤◌, List, [], ◌∷◌, length, map, refl, sym, ◌∙◌, ap, subst, inl, inr, arith}
 use Rattle.std.specs.Prelude.{Option, None, Some, IfSome, slice_get, ⊤}
 use Rattle.std.specs.Option.{option_map}
 use Rattle.fault_count.specs.Rise.{HasRisen}
 use Rattle.disk_api.specs.declared.disk.Disk.{Ghosts as DiskGhosts}
 use Rattle.line_loop.specs.declared.traits.Source.{Ghosts as SourceGhosts}
 use Rattle.line_loop.specs.declared.traits.Sink.{Ghosts as SinkGhosts}
+use Rattle.line_loop.specs.declared.traits.Clock.{Ghosts as ClockGhosts}
 use Rattle.line_loop.specs.declared.session.SessionEnd.{SessionEnd}
 use Rattle.line_loop.specs.declared.session.SessionEnd.TheVariants.{SourceFault, SinkFault}
 use Rattle.authority_book.specs.declared.commands.Command.{Command}
@@ -16,14 +17,14 @@ use Rattle.krill_top.specs.declared.serving.SessionEnds.{SessionEnds}
 use Rattle.krill_top.specs.declared.running.RunEnd.{RunEnd}
 use Rattle.krill_top.specs.Seen.{Seen, DeskState}
 use Rattle.signer_api.specs.State.{SignerState}
-use Rattle.signer_ring.specs.Ring.{AllTell, Vouched as VouchedBy}
+use Rattle.signer_ring.specs.Ring.{AllTell}
 use Rattle.rp_rules.specs.Certificates.{Vouched}
 use Rattle.press_core.specs.Signers.{HasAllVouched}
 use Rattle.krill_top.specs.declared.faults.OpenFault.{OpenFault}
 use Rattle.krill_top.specs.Seen.{names_in}
 use Rattle.krill_top.specs.World.{World, AreTrusted}
 use Rattle.krill_top.specs.Stands.{IsIn, InAt, AreIn, all_stored, GoesOn, GoesOnAt}
-use Rattle.krill_top.specs.Offices.{OfficeValue, StandsIn}
+use Rattle.krill_top.specs.Offices.{OfficeValue, TimedOffice, StandsIn}
 use Rattle.krill_top.specs.Ends.{run_status, fault_of}
 use Rattle.krill_top.specs.Opened.{IsOpened, IsClosed, AreOpened, AreClosed}
 use Rattle.krill_top.specs.Ended.{Served}
@@ -165,20 +166,24 @@ vouched_of vouched begun ended trusting told = elim trusting [
   | inr every ↦ (λ key digest signature some. every key digest signature)
 ]
 
-module _ {D G S K C : Type 0} (disk_of : DiskGhosts D) (state_of : G → SignerState) (source_of : SourceGhosts S) (sink_of : SinkGhosts K) where
+module _ {D G S K C : Type 0} (disk_of : DiskGhosts D) (state_of : G → SignerState) (source_of : SourceGhosts S) (sink_of : SinkGhosts K) (clock_of : ClockGhosts C) where
+  -- the office, and what the clock tells of a session
+  abbrev pub timed_by : SessionEnds S K C → OfficeValue D → TimedOffice D
+  timed_by ends office = record { office = office; clock = clock_of.readings ends.clock }
+
   pub serves : (vouched : Vouched) (disks : List D) (signers : List G) (before after : SessionEnds S K C) (end : SessionEnd) (run : RunEnd D G S K C) (office served : OfficeValue D)
       → AreOpened disk_of 0 disks office.desks → office.press.ring ≡ map state_of signers
       → ((vouched : Vouched) (seen : Seen) → AreTrusted vouched (map state_of signers) → AreIn office.desks seen
       → StandsIn vouched office (record { seen = seen; editions = []; signers = map state_of signers }))
       → ((seen : Seen) → AreIn office.desks seen → signers_needed (names_in seen) ≤ length (map state_of signers))
-      → Served disk_of source_of sink_of (streams_of before) (streams_of after) office served end → AreClosed disk_of served.desks run.desks.items
+      → Served disk_of source_of sink_of (streams_of before) (streams_of after) (timed_by before office) (timed_by after served) end → AreClosed disk_of served.desks run.desks.items
       → map state_of run.signers.items ≡ served.press.ring
       → run.sessions.items ≡ after ∷ [] → run.status ≡ run_status (fault_of end) → run.fault ≡ fault_of end
       → (end ≡ SourceFault → HasRisen (source_of.fault_count before.source) (source_of.fault_count after.source))
       → (end ≡ SinkFault → HasRisen (sink_of.fault_count before.sink) (sink_of.fault_count after.sink))
       → source_of.fault_count before.source ≤ source_of.fault_count after.source → sink_of.fault_count before.sink ≤ sink_of.fault_count after.sink
       → IsTrusting vouched (map state_of signers) (map state_of run.signers.items)
-      → ServesOne disk_of state_of source_of sink_of vouched disks signers before run
+      → ServesOne disk_of state_of source_of sink_of clock_of vouched disks signers before run
   unfolding opened_seen
   serves vouched disks signers before after end run office served opened ring stands there session closed signers_back sessions status fault source_fault sink_fault source_later sink_later trusting =
       let seen = opened_seen disk_of disks office.desks opened in

@@ -1,6 +1,6 @@
 -- The commands of the desks behind a cut, gathered.
-use Rattle.std.proofs.Common.{◌≡◌, ◌≢◌, ℕ, zero, suc, ◌+◌, ◌≤◌, ◌<◌, true, false, List, [], ◌∷◌, ◌++◌, length, map, take, drop, get_or, refl, sym, ◌∙◌, ap, subst, arith, inl, inr, append-nil}
-use Rattle.std.specs.Prelude.{◌⊎◌, ◌==◌, Bool, Option, None, Some, slice_get, All, AllPairs, if◌then◌else◌}
+use Rattle.std.proofs.Common.{◌≡◌, ◌≢◌, ℕ, zero, suc, ◌+◌, ◌≤◌, ◌<◌, true, false, List, [], ◌∷◌, ◌++◌, length, take, drop, get_or, refl, sym, ◌∙◌, ap, subst, arith, inl, inr, append-nil}
+use Rattle.std.specs.Prelude.{◌==◌, Some, slice_get}
 use Rattle.std.proofs.lemmas.Bool.{cases_lt}
 use Rattle.std.proofs.lemmas.Bool.Decides.{nat_tests}
 use Rattle.std.proofs.lemmas.Option.{none-some, same_Some}
@@ -8,17 +8,16 @@ use Rattle.std.proofs.lemmas.List.{length-drop, drop_all}
 use Rattle.authority_book.specs.declared.commands.Command.{Command}
 use Rattle.authority_book.specs.Settings.{Settings}
 use Rattle.authority_book.specs.Fold.{fold_of, empty_settings, AcceptedInTurn}
-use Rattle.cmd_codec.specs.Spelling.{spelling}
 use Rattle.desk_core.specs.View.{View}
-use Rattle.desk_core.specs.Commands.{Records, HasCommands}
+use Rattle.desk_core.specs.Commands.{HasCommands}
 use Rattle.editions.specs.Edition.{cut_at}
 use Rattle.editions.specs.Step.{configs_at}
 use Rattle.press_state.specs.declared.gathered.Gathered.{Gathered}
 use Rattle.press_state.specs.Gathering as gathering
 use Rattle.press_state.specs.Gathering.{cut_from, cut_with, AreGathered, AreAccepted, GoOn}
-use Rattle.krill_top.specs.Seen.{Seen, DeskState, commands_of, commands_at}
+use Rattle.krill_top.specs.Seen.{Seen, commands_of}
 use Rattle.krill_top.specs.World.{lists_of}
-use Rattle.krill_top.specs.Stands.{InAt, AreIn}
+use Rattle.krill_top.specs.Stands.{AreIn}
 use Rattle.krill_top.specs.Gathered.{IsSince, AreSince}
 use Rattle.krill_top.specs.Publishing.{TakesAll}
 use Rattle.krill_top.proofs.Standing.{At, at_place}

@@ -1,19 +1,18 @@
 -- Desks and their states by their numbers, and how they go on.
-use Rattle.std.proofs.Common.{◌≡◌, ◌≢◌, ℕ, zero, suc, ◌≤◌, ◌⊎◌, List, [], ◌∷◌, ◌++◌, map, refl, sym, ◌∙◌, ap, subst, inl, inr, arith, append_assoc, append-nil}
+use Rattle.std.proofs.Common.{◌≡◌, ◌≢◌, ℕ, zero, suc, ◌⊎◌, List, [], ◌∷◌, ◌++◌, map, refl, sym, ◌∙◌, ap, subst, inl, inr, arith, append_assoc, append-nil}
 use Rattle.std.proofs.lemmas.Option.{none-some, same_Some}
 use Rattle.std.proofs.lemmas.List.{map-append}
 use Rattle.std.specs.Prelude.{Option, None, Some, slice_get, slice_set}
 use Rattle.std.specs.Option.{option_map}
 use Rattle.disk_api.specs.declared.disk.Disk.{Ghosts as DiskGhosts}
 use Rattle.authority_book.specs.declared.commands.Command.{Command}
-use Rattle.authority_book.specs.Settings.{Settings}
 use Rattle.authority_book.specs.Fold.{fold_of}
 use Rattle.cmd_codec.specs.Spelling.{spelling}
 use Rattle.desk_core.specs.View.{View}
 use Rattle.gate_journal.specs.Format.{held_by}
 use Rattle.gate_journal.specs.Storing.{stored, entry_bytes}
 use Rattle.krill_top.specs.Seen.{Seen, DeskState, commands_of, settings_at}
-use Rattle.krill_top.specs.Stands.{IsIn, InAt, AreIn, all_stored, RoseWithin, GoesOn, GoesOnAt, GoOn, Goes, Leads}
+use Rattle.krill_top.specs.Stands.{IsIn, InAt, AreIn, all_stored, RoseWithin, GoesOn, GoesOnAt, GoOn, Leads}
 
 -- ---- places of lists
 

@@ -1,5 +1,5 @@
 -- What signers vouch for, before and after calls that keep it.
-use Rattle.std.proofs.Common.{◌≡◌, ℕ, true, List, subst, refl, sym, ◌∙◌, inl, inr}
+use Rattle.std.proofs.Common.{◌≡◌, ℕ, true, List, subst, refl, ◌∙◌, inl, inr}
 use Rattle.std.specs.Prelude.{Any}
 use Rattle.signer_api.specs.State.{SignerState, Tells, Vouches}
 use Rattle.signer_ring.specs.Ring.{AllTell, Vouched as VouchedBy, Keeps}

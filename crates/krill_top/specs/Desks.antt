@@ -1,5 +1,5 @@
 -- The disks of a run's desks, as they were handed in and as they are handed back.
-use Rattle.std.specs.Prelude.{◌≡◌, ◌⊎◌, ℕ, ◌+◌, ◌≤◌, suc, Option, None, Some, List, [], ◌∷◌, ◌++◌, length, map, IfSome, ⊤}
+use Rattle.std.specs.Prelude.{◌≡◌, ◌⊎◌, ℕ, ◌≤◌, suc, Option, None, Some, List, [], ◌∷◌, ◌++◌, length, map, IfSome, ⊤}
 use Rattle.std.specs.Option.{option_map}
 use Rattle.fault_count.specs.Rise.{HasRisen}
 use Rattle.disk_api.specs.Content.{BothKnown}

@@ -7,9 +7,9 @@ use Rattle.line_loop.specs.declared.traits.Sink.{Ghosts as SinkGhosts}
 use Rattle.line_loop.specs.Session.{Serves}
 use Rattle.line_loop.specs.declared.session.SessionEnd.{SessionEnd}
 use Rattle.rp_rules.specs.Certificates.{Vouched}
-use Rattle.krill_top.specs.World.{World}
+use Rattle.krill_top.specs.World.{TimedWorld}
 use Rattle.krill_top.specs.Replies.{IsReply}
-use Rattle.krill_top.specs.Offices.{OfficeValue, Moves}
+use Rattle.krill_top.specs.Offices.{TimedOffice, MovesTimed}
 
 -- The ends of a session, but for its clock.
 pub record Streams (S K : Type 0) : Type 0 where
@@ -17,9 +17,9 @@ pub record Streams (S K : Type 0) : Type 0 where
   pub sink : K
 
 -- The source gave these bytes, and the sink took the replies to their lines, as far as the session's end
--- says, while the one world became the other.
+-- says, while the one world became the other and the clock was read.
 pub record Converses {S K : Type 0} (source_of : SourceGhosts S) (sink_of : SinkGhosts K)
-    (old new : Streams S K) (end : SessionEnd) (vouched : Vouched) (begun ended : World) : Type 0 where
+    (old new : Streams S K) (end : SessionEnd) (vouched : Vouched) (begun ended : TimedWorld) : Type 0 where
   pub given : List ℕ
   pub written : List ℕ
   pub source : Consumes (source_of.left old.source) (source_of.left new.source) given
@@ -28,6 +28,6 @@ pub record Converses {S K : Type 0} (source_of : SourceGhosts S) (sink_of : Sink
 
 -- The session was served over the office, from each world in which it may be.
 abbrev pub Served : {D S K : Type 0} → DiskGhosts D → SourceGhosts S → SinkGhosts K
-    → Streams S K → Streams S K → OfficeValue D → OfficeValue D → SessionEnd → Type 0
+    → Streams S K → Streams S K → TimedOffice D → TimedOffice D → SessionEnd → Type 0
 Served disk_of source_of sink_of old new before after end =
-    Moves disk_of (Converses source_of sink_of old new end) before after
+    MovesTimed disk_of (Converses source_of sink_of old new end) before after

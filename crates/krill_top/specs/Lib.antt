@@ -7,6 +7,7 @@ pub mod Sheets
 pub mod Replies
 pub mod Stands
 pub mod Offices
+pub mod Handlers
 pub mod Ended
 pub mod Words
 pub mod Ends

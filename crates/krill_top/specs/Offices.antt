@@ -1,5 +1,5 @@
 -- The office as the program has it and as replies see it.
-use Rattle.std.specs.Prelude.{◌≡◌, ◌≢◌, ◌<◌, ℕ, Bool, true, List, [], All, length}
+use Rattle.std.specs.Prelude.{◌≡◌, ◌≢◌, ◌<◌, ℕ, Bool, true, List, [], Option, All, length}
 use Rattle.disk_api.specs.declared.disk.Disk.{Ghosts as DiskGhosts}
 use Rattle.authority_book.specs.declared.rows.NameRow.{NameRow}
 use Rattle.desk_core.specs.View.{View}
@@ -12,7 +12,7 @@ use Rattle.press_core.specs.Press.{PressValue}
 use Rattle.press_core.specs.Signers.{HasAllVouched}
 use Rattle.press_core.specs.Stands.{StandsFor}
 use Rattle.krill_top.specs.Seen.{most_desks, names_in}
-use Rattle.krill_top.specs.World.{World, default_bases, footing_of, AreTrusted}
+use Rattle.krill_top.specs.World.{World, TimedWorld, at_clock, default_bases, footing_of, AreTrusted}
 use Rattle.krill_top.specs.Stands.{AreIn, GoOn}
 use Rattle.krill_top.specs.Replies.{IsReply, IsText}
 
@@ -62,14 +62,25 @@ pub record Moves {D : Type 0} (disk_of : DiskGhosts D) (P : Vouched → World �
   pub arrives : (vouched : Vouched) → HasAllVouched vouched new.press.ring → (before : World)
       → StandsIn vouched old before → Arrives disk_of vouched (P vouched) old new before
 
+-- The office, and what the readings of its session's clock give, where it tells.
+pub record TimedOffice (D : Type 0) : Type 0 where
+  pub office : OfficeValue D
+  pub clock : Option (ℕ → ℕ)
+
+-- What a line may do to the office and the clock.
+abbrev pub MovesTimed : {D : Type 0} → DiskGhosts D → (Vouched → TimedWorld → TimedWorld → Type 0)
+    → TimedOffice D → TimedOffice D → Type 0
+MovesTimed disk_of P old new =
+    Moves disk_of (λ vouched b a. P vouched (at_clock old.clock b) (at_clock new.clock a)) old.office new.office
+
 -- A line that isn't blank may get this text.
-abbrev pub MayText : {D : Type 0} → DiskGhosts D → OfficeValue D → List ℕ → List ℕ → Bool
-    → OfficeValue D → Type 0
+abbrev pub MayText : {D : Type 0} → DiskGhosts D → TimedOffice D → List ℕ → List ℕ → Bool
+    → TimedOffice D → Type 0
 MayText disk_of old line text accepted new =
-    Moves disk_of (λ vouched b a. IsText vouched line b text accepted a) old new
+    MovesTimed disk_of (λ vouched b a. IsText vouched line b text accepted a) old new
 
 -- A line may get this reply.
-abbrev pub MayReply : {D : Type 0} → DiskGhosts D → OfficeValue D → List ℕ → List ℕ → Bool
-    → OfficeValue D → Type 0
+abbrev pub MayReply : {D : Type 0} → DiskGhosts D → TimedOffice D → List ℕ → List ℕ → Bool
+    → TimedOffice D → Type 0
 MayReply disk_of old line reply accepted new =
-    Moves disk_of (λ vouched b a. IsReply vouched b line reply accepted a) old new
+    MovesTimed disk_of (λ vouched b a. IsReply vouched b line reply accepted a) old new

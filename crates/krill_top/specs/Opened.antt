@@ -1,5 +1,5 @@
 -- Desks that were opened from disks, and disks of desks that were closed, place by place.
-use Rattle.std.specs.Prelude.{◌≡◌, ℕ, ◌+◌, ◌≤◌, suc, None, List, [], ◌∷◌, Option, length, vec_capacity, IfSome, ⊤}
+use Rattle.std.specs.Prelude.{◌≡◌, ℕ, ◌≤◌, suc, None, List, [], ◌∷◌, IfSome, ⊤}
 use Rattle.std.specs.Option.{option_map}
 use Rattle.disk_api.specs.declared.disk.Disk.{Ghosts as DiskGhosts}
 use Rattle.gate_journal.specs.Format.{recovered, damaged_at, opened}

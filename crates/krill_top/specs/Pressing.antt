@@ -5,6 +5,8 @@ use Rattle.signer_api.specs.State.{SignerState}
 use Rattle.signer_ring.specs.Ring.{Keeps}
 use Rattle.editions.specs.Edition.{Edition}
 use Rattle.editions.specs.Step.{Ground}
+use Rattle.editions.specs.Published.{IsPublished}
+use Rattle.pub_set.specs.Objects.{content_at}
 use Rattle.notice_board.specs.declared.sheets.Sheet.{Sheet}
 use Rattle.press_state.specs.declared.gathered.Gathered.{Gathered}
 use Rattle.press_state.specs.declared.stock.Published.{Published}
@@ -17,7 +19,7 @@ use Rattle.press_core.specs.Signers.{AreCalled, HoldKeys}
 use Rattle.press_core.specs.Start.{start_of}
 use Rattle.press_core.specs.Next.{PreparedValue}
 use Rattle.press_core.specs.Planned.{IsPrepared}
-use Rattle.press_core.specs.Follows.{AreBehind, Follows, IsPublishedAlone}
+use Rattle.press_core.specs.Follows.{edition_of, AreBehind, Follows}
 use Rattle.press_core.specs.Faults.{IsPressFault}
 use Rattle.krill_top.specs.Gathered.{AreSince}
 
@@ -30,7 +32,7 @@ pub record IsPressed {D : Type 0} (clock : ℕ) (desks : List (View D)) (old new
   pub since : AreSince 0 desks old.at.cut groups
   pub is_prepared : IsPrepared (start_of old clock groups) made prepared
   pub edition : (footing : Ground) (editions : List Edition) → AreBehind (start_of old clock groups) made footing editions → Follows footing clock editions prepared
-  pub alone : (footing : Ground) (editions : List Edition) → AreBehind (start_of old clock groups) made footing editions → IsPublishedAlone footing prepared
+  pub published : (footing : Ground) (editions : List Edition) → AreBehind (start_of old clock groups) made footing editions → IsPublished footing (edition_of prepared) (content_at prepared.next.set)
   pub kept : Keeps old.ring made
   pub held : HoldKeys old.ring made
   pub at : new.at ≡ prepared.next

@@ -1,6 +1,5 @@
 -- What comes of a publication.
 use Rattle.std.specs.Prelude.{◌≡◌, ◌⊎◌, ℕ, true, List, [], ◌∷◌, ◌++◌, length, Result, Ok, Err}
-use Rattle.authority_book.specs.Fold.{first_names}
 use Rattle.entitle.specs.declared.trees.Owed.{Owed}
 use Rattle.entitle.specs.Owed.{AreOwed}
 use Rattle.pub_set.specs.declared.objects.Object.{Object}
@@ -26,7 +25,7 @@ use Rattle.press_core.specs.Planned.{IsPrepared}
 use Rattle.press_core.specs.Stands.{StandsFor}
 use Rattle.press_core.specs.Follows.{edition_of}
 use Rattle.press_core.specs.Faults.{IsPressFault}
-use Rattle.krill_top.specs.Seen.{Seen, names_in, commands_at}
+use Rattle.krill_top.specs.Seen.{Seen, commands_at}
 use Rattle.krill_top.specs.World.{World, lists_of, default_bases, footing_of}
 
 -- All accepted commands of each desk are taken in.
@@ -67,9 +66,9 @@ pub record AreLeft (old made : List SignerState) (before : List Edition) (editio
   pub dropped : DropsEach (ended_keys (state_after before).rows edition.rows) made new
 
 -- An edition was called for, and made by the signers, who were asked for nothing else. It follows those
--- before it at that clock, over all commands that the desks have accepted. Where the trust anchor is the
--- only authority, relying parties find its set sound, and what they get of it are the owed origins.
-pub record Publishes (vouched : Vouched) (clock : ℕ) (published : Published)
+-- before it at that clock, over all commands that the desks have accepted. Relying parties find its set
+-- sound, and what they get of it are the owed origins.
+pub record Publishes (vouched : Vouched) (clock : ℕ) (told : Published)
     (before after : World) : Type 0 where
   pub press : PressValue
   pub gathered : List Gathered
@@ -83,10 +82,10 @@ pub record Publishes (vouched : Vouched) (clock : ℕ) (published : Published)
   pub takes_all : TakesAll before.seen (edition_of prepared).cut
   pub called : IsCalledFor (footing_of vouched before.seen) before.editions
       (edition_of prepared).cut (edition_of prepared).moment true
-  pub numbers : AreNumbersOf before.seen after.editions (edition_of prepared) published
+  pub numbers : AreNumbersOf before.seen after.editions (edition_of prepared) told
   pub signers : AreLeft before.signers made before.editions (edition_of prepared) after.signers
-  pub alone : names_in before.seen ≡ first_names → IsPublished
-      (footing_of vouched before.seen) (edition_of prepared) (set_after after.editions)
+  pub published : IsPublished (footing_of vouched before.seen) (edition_of prepared)
+      (set_after after.editions)
 
 -- ---- none
 

@@ -17,7 +17,8 @@ use Rattle.editions.specs.Edition.{state_after}
 use Rattle.press_state.specs.declared.stock.Published.{Published}
 use Rattle.press_core.specs.declared.fault.PressFault.{PressFault}
 use Rattle.press_core.specs.declared.fault.PressFault.TheVariants as press
-use Rattle.krill_top.specs.World.{World}
+use Rattle.line_loop.specs.Readings.{IsReading}
+use Rattle.krill_top.specs.World.{World, TimedWorld}
 use Rattle.krill_top.specs.declared.command_fault.CommandFault.{CommandFault}
 use Rattle.krill_top.specs.declared.command_fault.CommandFault.TheVariants as faults
 use Rattle.krill_top.specs.Outcomes.{Outcome, Commanded, fault_outcome}
@@ -35,14 +36,14 @@ pub record IsBlank (line : List ℕ) : Type 0 where
   pub short : length line ≤ longest_line
   pub blank : IsTrue (list_all is_blank_byte line)
 
--- A refusal, or a read: such a text is given, and nothing changes.
-pub record IsToldSo (IsIt : List ℕ → Type 0) (before : World) (text : List ℕ) (accepted : Bool) (after : World) : Type 0 where
+-- A refusal, or a read: such a text is given, and nothing changes. The clock isn't read.
+pub record IsToldSo (IsIt : List ℕ → Type 0) (before : TimedWorld) (text : List ℕ) (accepted : Bool) (after : TimedWorld) : Type 0 where
   pub text_is : IsIt text
   pub not_accepted : accepted ≡ false
   pub same : after ≡ before
 
 -- The same, of one text.
-abbrev pub IsTold : List ℕ → World → List ℕ → Bool → World → Type 0
+abbrev pub IsTold : List ℕ → TimedWorld → List ℕ → Bool → TimedWorld → Type 0
 IsTold told before text accepted after = IsToldSo (λ it. it ≡ told) before text accepted after
 
 -- How an outcome is told.
@@ -66,10 +67,11 @@ pub record CommandedIn (name : List ℕ) (command : Command) (outcome : Outcome)
   pub same_editions : after.editions ≡ before.editions
   pub same_signers : after.signers ≡ before.signers
 
--- A command gets the text of what it comes to.
-pub record CommandText (name : List ℕ) (command : Command) (before : World) (text : List ℕ) (accepted : Bool) (after : World) : Type 0 where
+-- A command gets the text of what it comes to. The clock isn't read.
+pub record CommandText (name : List ℕ) (command : Command) (before : TimedWorld) (text : List ℕ) (accepted : Bool) (after : TimedWorld) : Type 0 where
   pub outcome : Outcome
-  pub comes : CommandedIn name command outcome before after
+  pub comes : CommandedIn name command outcome before.world after.world
+  pub same_clock : after.clock ≡ before.clock
   pub text_is : text ≡ outcome_text name outcome
   pub accepted_is : accepted ≡ is_accepted outcome
 
@@ -100,11 +102,12 @@ abbrev pub has_published : Result Published PressFault → Bool
 has_published (Ok published) = true
 has_published (Err fault) = false
 
--- A publication gets the text of what it comes to, at the time that the clock told.
-pub record PublishText (vouched : Vouched) (before : World) (text : List ℕ) (accepted : Bool) (after : World) : Type 0 where
+-- The clock is read once, and a publication gets the text of what it comes to at that time.
+pub record PublishText (vouched : Vouched) (before : TimedWorld) (text : List ℕ) (accepted : Bool) (after : TimedWorld) : Type 0 where
   pub clock : ℕ
+  pub read : IsReading before.clock clock after.clock
   pub outcome : Result Published PressFault
-  pub comes : PublishesOrNot vouched clock outcome before after
+  pub comes : PublishesOrNot vouched clock outcome before.world after.world
   pub text_is : text ≡ publish_text outcome
   pub accepted_is : accepted ≡ has_published outcome
 
@@ -114,17 +117,17 @@ abbrev pub serial_text : World → List ℕ
 serial_text world = serial_spelling (state_after world.editions).serial
 
 -- What a line says gets this text.
-abbrev pub SaidText : Vouched → Line → World → List ℕ → Bool → World → Type 0
+abbrev pub SaidText : Vouched → Line → TimedWorld → List ℕ → Bool → TimedWorld → Type 0
 SaidText vouched (line.Command name command) before text accepted after = CommandText name command before text accepted after
 SaidText vouched line.Publish before text accepted after = PublishText vouched before text accepted after
-SaidText vouched line.Serial before text accepted after = IsTold (serial_text before) before text accepted after
-SaidText vouched line.List before text accepted after = IsTold (list_reply before.seen) before text accepted after
-SaidText vouched (line.Show name) before text accepted after = IsToldSo (IsShowText vouched before name) before text accepted after
-SaidText vouched (line.Roas name) before text accepted after = IsToldSo (IsRoasText vouched before name) before text accepted after
-SaidText vouched (line.History name) before text accepted after = IsTold (history_reply before.seen name) before text accepted after
+SaidText vouched line.Serial before text accepted after = IsTold (serial_text before.world) before text accepted after
+SaidText vouched line.List before text accepted after = IsTold (list_reply before.world.seen) before text accepted after
+SaidText vouched (line.Show name) before text accepted after = IsToldSo (IsShowText vouched before.world name) before text accepted after
+SaidText vouched (line.Roas name) before text accepted after = IsToldSo (IsRoasText vouched before.world name) before text accepted after
+SaidText vouched (line.History name) before text accepted after = IsTold (history_reply before.world.seen name) before text accepted after
 
 -- What the bytes of a line are read as gets this text.
-abbrev pub ReadText : Vouched → Result Line LineFault → World → List ℕ → Bool → World → Type 0
+abbrev pub ReadText : Vouched → Result Line LineFault → TimedWorld → List ℕ → Bool → TimedWorld → Type 0
 ReadText vouched (Ok said) before text accepted after = SaidText vouched said before text accepted after
 ReadText vouched (Err fault) before text accepted after = IsTold (fault_spelling fault) before text accepted after
 
@@ -137,7 +140,7 @@ abbrev pub bad_line_text : List ℕ
 bad_line_text = refused_spelling refused.BadLine
 
 -- The one, or that memory was wanting.
-abbrev pub IsToldOr : (World → List ℕ → Bool → World → Type 0) → World → List ℕ → Bool → World → Type 0
+abbrev pub IsToldOr : (TimedWorld → List ℕ → Bool → TimedWorld → Type 0) → TimedWorld → List ℕ → Bool → TimedWorld → Type 0
 IsToldOr P before text accepted after = P before text accepted after ⊎ IsTold memory_text before text accepted after
 
 -- The text that says why a command isn't accepted. There may be no memory for a verdict's.
@@ -151,23 +154,23 @@ IsTextIn (Ok text) told = told ≡ text.items
 IsTextIn (Err wanting) told = ⊥
 
 -- The bytes are read so, and that gets this text.
-pub record IsReadText (vouched : Vouched) (line : List ℕ) (before : World) (text : List ℕ) (accepted : Bool) (after : World) : Type 0 where
+pub record IsReadText (vouched : Vouched) (line : List ℕ) (before : TimedWorld) (text : List ℕ) (accepted : Bool) (after : TimedWorld) : Type 0 where
   pub said : Result Line LineFault
   pub reads : ReadsLine line said
   pub answer : ReadText vouched said before text accepted after
 
 -- A line gets this text: what its bytes get, or that memory was wanting.
-abbrev pub IsText : Vouched → List ℕ → World → List ℕ → Bool → World → Type 0
+abbrev pub IsText : Vouched → List ℕ → TimedWorld → List ℕ → Bool → TimedWorld → Type 0
 IsText vouched line before text accepted after = IsToldOr (IsReadText vouched line) before text accepted after
 
 -- A text and a line feed.
-pub record IsAnswer (vouched : Vouched) (line : List ℕ) (before : World) (reply : List ℕ) (accepted : Bool) (after : World) : Type 0 where
+pub record IsAnswer (vouched : Vouched) (line : List ℕ) (before : TimedWorld) (reply : List ℕ) (accepted : Bool) (after : TimedWorld) : Type 0 where
   pub not_blank : ¬ IsBlank line
   pub text : List ℕ
   pub reply_is : reply ≡ text ++ 10 ∷ []
   pub answer : IsText vouched line before text accepted after
 
 -- A line gets this reply: none where it is blank, else a text and a line feed.
-abbrev pub IsReply : Vouched → World → List ℕ → List ℕ → Bool → World → Type 0
+abbrev pub IsReply : Vouched → TimedWorld → List ℕ → List ℕ → Bool → TimedWorld → Type 0
 IsReply vouched before line reply accepted after =
     (IsBlank line × IsTold [] before reply accepted after) ⊎ IsAnswer vouched line before reply accepted after

@@ -6,6 +6,7 @@ use Rattle.fault_count.specs.Rise.{HasRisen}
 use Rattle.disk_api.specs.declared.disk.Disk.{Ghosts as DiskGhosts}
 use Rattle.line_loop.specs.declared.traits.Source.{Ghosts as SourceGhosts}
 use Rattle.line_loop.specs.declared.traits.Sink.{Ghosts as SinkGhosts}
+use Rattle.line_loop.specs.declared.traits.Clock.{Ghosts as ClockGhosts}
 use Rattle.line_loop.specs.declared.session.SessionEnd.{SessionEnd}
 use Rattle.line_loop.specs.declared.session.SessionEnd.TheVariants.{SourceFault, SinkFault}
 use Rattle.authority_book.specs.declared.commands.Command.{Command}
@@ -22,7 +23,7 @@ use Rattle.krill_top.specs.declared.faults.RunFault.{RunFault}
 use Rattle.krill_top.specs.declared.serving.SessionEnds.{SessionEnds}
 use Rattle.krill_top.specs.declared.running.RunEnd.{RunEnd}
 use Rattle.krill_top.specs.Seen.{Seen, DeskState, names_in}
-use Rattle.krill_top.specs.World.{World, footing_of, AreAllVouched}
+use Rattle.krill_top.specs.World.{World, at_clock, footing_of, AreAllVouched}
 use Rattle.krill_top.specs.Stands.{all_stored, RoseWithin}
 use Rattle.krill_top.specs.Ended.{Streams, Converses}
 use Rattle.krill_top.specs.Desks.{RecoveredTo, IsSafe, IsOpeningRefused}
@@ -113,10 +114,10 @@ streams_of ends = record { source = ends.source; sink = ends.sink }
 
 -- A run that opened its desks, served its session over them, and hands all back. Each disk holds the
 -- commands that it held and the accepted ones of its authority. Of these the editions were published,
--- each following those before it; before the session there was none. A fault of the source or the sink
--- comes only where it failed in this run.
+-- each following those before it; before the session there was none. The session's clock was read for its
+-- publications alone. A fault of the source or the sink comes only where it failed in this run.
 pub record ServesOne {D G S K C : Type 0} (disk_of : DiskGhosts D) (state_of : G → SignerState) (source_of : SourceGhosts S) (sink_of : SinkGhosts K)
-    (vouched : Vouched) (desks : List D) (signers : List G) (before : SessionEnds S K C) (run : RunEnd D G S K C) : Type 0 where
+    (clock_of : ClockGhosts C) (vouched : Vouched) (desks : List D) (signers : List G) (before : SessionEnds S K C) (run : RunEnd D G S K C) : Type 0 where
   pub after : SessionEnds S K C
   pub end : SessionEnd
   pub begun : World
@@ -124,7 +125,8 @@ pub record ServesOne {D G S K C : Type 0} (disk_of : DiskGhosts D) (state_of : G
   pub handed_back : run.sessions.items ≡ after ∷ []
   pub status : run.status ≡ run_status (fault_of end)
   pub fault : run.fault ≡ fault_of end
-  pub served : Converses source_of sink_of (streams_of before) (streams_of after) end vouched begun ended
+  pub served : Converses source_of sink_of (streams_of before) (streams_of after) end vouched
+      (at_clock (clock_of.readings before.clock) begun) (at_clock (clock_of.readings after.clock) ended)
   pub disks : AreServed disk_of desks run.desks.items begun.seen ended.seen
   pub none_before : begun.editions ≡ []
   pub steps : AreSteps (footing_of vouched ended.seen) ended.editions

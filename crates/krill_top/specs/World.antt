@@ -1,5 +1,5 @@
--- What replies rest on: each desk's commands, what was published of them, and the signers.
-use Rattle.std.specs.Prelude.{◌≡◌, ◌⊎◌, ℕ, true, List, map, codes}
+-- What replies rest on: each desk's commands, what was published of them, the signers, and the clock.
+use Rattle.std.specs.Prelude.{◌≡◌, ◌⊎◌, ℕ, true, List, Option, map, codes}
 use Rattle.authority_book.specs.declared.commands.Command.{Command}
 use Rattle.key_ids.specs.Places.{Bases}
 use Rattle.signer_api.specs.State.{SignerState}
@@ -14,6 +14,14 @@ pub record World : Type 0 where
   pub seen : Seen
   pub editions : List Edition
   pub signers : List SignerState
+
+-- A world, and what the readings of the session's clock give from then on, where it tells.
+pub record TimedWorld : Type 0 where
+  pub world : World
+  pub clock : Option (ℕ → ℕ)
+
+abbrev pub at_clock : Option (ℕ → ℕ) → World → TimedWorld
+at_clock clock world = record { world = world; clock = clock }
 
 abbrev pub lists_of : Seen → List (List Command)
 lists_of seen = map (λ desk. desk.commands) seen

@@ -9,8 +9,8 @@ use std::fmt;
 /// Why opening was refused, before anything was read.
 #[derive(Clone, Copy, Debug, PartialEq, Eq)]
 pub enum OpenFault {
-    /// Another number of things was handed in than is needed. `what` is 0 for the desks' disks and
-    /// 2 for sessions.
+    /// Another number of things was handed in than is needed. `what` is 0 for the desks' disks, 1 for
+    /// signers and 2 for sessions.
     WrongCount { what: u32, needed: u64, found: u64 },
     /// The journal on the disk of that number is damaged, at an offset in bytes.
     Damaged { device: u32, at: u64 },

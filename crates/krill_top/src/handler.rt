@@ -6,7 +6,8 @@ ghost use Rattle.json_api.specs.Reply.{accepted_spelling, published_spelling, se
 ghost use Rattle.json_api.specs.Refused.{verdict_spelling, fault_spelling, refused_spelling};
 ghost use Rattle.krill_top.specs.Replies as spec;
 ghost use Rattle.krill_top.specs.Replies.{is_blank_byte, IsBlank, memory_text, bad_line_text, published_in_reply, serial_text, IsTold, CommandText, PublishText, SaidText, IsToldOr, IsFaultText, IsTextIn};
-ghost use Rattle.krill_top.specs.Offices.{Moves, MayText};
+ghost use Rattle.krill_top.specs.Offices.{MovesTimed, MayText};
+ghost use Rattle.krill_top.specs.Handlers.{timed};
 
 use crate::command_fault::CommandFault;
 use crate::office::Office;
@@ -36,7 +37,8 @@ pub struct Handler<D: Disk, G: Signer, C: Clock> {
 impl<D: Disk, G: Signer, C: Clock> Handler<D, G, C> {
     /// Answers over this office, and publishes by this clock.
     pub fn new(alloc: Global, office: Office<D, G>, clock: C) -> Handler<D, G, C>
-        ensures { result.office ≡ office }
+        ensures office { result.office ≡ office }
+        ensures clock { result.clock ≡ clock }
     {
         Handler {
             office,
@@ -47,7 +49,8 @@ impl<D: Disk, G: Signer, C: Clock> Handler<D, G, C> {
 
     /// The office, with the commands that were accepted and what was published, and the clock.
     pub fn into_parts(self) -> (Office<D, G>, C)
-        ensures { result.0 ≡ self.office }
+        ensures office { result.0 ≡ self.office }
+        ensures clock { result.1 ≡ self.clock }
     {
         (self.office, self.clock)
     }
@@ -62,7 +65,7 @@ impl<D: Disk, G: Signer, C: Clock> Handler<D, G, C> {
         out: &mut Vec<u8>,
     ) -> Result<bool, AllocError>
         ensures ok { IfOk result (λ accepted. (text : List ℕ) × (out.new.items ≡ out.old.items ++ text ++ 10 ∷ [])
-            × Moves D.Disk (λ vouched b a. IsToldOr (CommandText name.now command) b text accepted a) self.old.office self.new.office) }
+            × MovesTimed D.Disk (λ vouched b a. IsToldOr (CommandText name.now command) b text accepted a) (timed C.Clock self.old) (timed C.Clock self.new)) }
         ensures err { OnErr result ((self.new ≡ self.old) × (out.new.items ≡ out.old.items)) }
     {
         out.reserve(REPLY_ROOM)?;
@@ -78,10 +81,11 @@ impl<D: Disk, G: Signer, C: Clock> Handler<D, G, C> {
         }
     }
 
-    // Publishes, and says whether an edition was made. The room for the reply is taken before that.
+    // Publishes at the clock's next reading, and says whether an edition was made. The room for the reply
+    // is taken before that.
     fn answer_publish(&mut self, alloc: Global, out: &mut Vec<u8>) -> Result<bool, AllocError>
         ensures ok { IfOk result (λ accepted. (text : List ℕ) × (out.new.items ≡ out.old.items ++ text ++ 10 ∷ [])
-            × Moves D.Disk (λ vouched b a. PublishText vouched b text accepted a) self.old.office self.new.office) }
+            × MovesTimed D.Disk (λ vouched b a. PublishText vouched b text accepted a) (timed C.Clock self.old) (timed C.Clock self.new)) }
         ensures err { OnErr result ((self.new ≡ self.old) × (out.new.items ≡ out.old.items)) }
     {
         out.reserve(REPLY_ROOM)?;
@@ -101,7 +105,7 @@ impl<D: Disk, G: Signer, C: Clock> Handler<D, G, C> {
     // Answers with the serial of the last edition.
     fn answer_serial(&self, out: &mut Vec<u8>) -> Result<bool, AllocError>
         ensures ok { IfOk result (λ accepted. (text : List ℕ) × (out.new.items ≡ out.old.items ++ text ++ 10 ∷ [])
-            × Moves D.Disk (λ vouched b a. IsTold (serial_text b) b text accepted a) self.now.office self.now.office) }
+            × MovesTimed D.Disk (λ vouched b a. IsTold (serial_text b.world) b text accepted a) (timed C.Clock self.now) (timed C.Clock self.now)) }
         ensures err { OnErr result (out.new.items ≡ out.old.items) }
     {
         out.reserve(REPLY_ROOM)?;
@@ -117,7 +121,7 @@ impl<D: Disk, G: Signer, C: Clock> Handler<D, G, C> {
         out: &mut Vec<u8>,
     ) -> Result<bool, AllocError>
         ensures ok { IfOk result (λ accepted. (text : List ℕ) × (out.new.items ≡ out.old.items ++ text ++ 10 ∷ [])
-            × Moves D.Disk (λ vouched b a. IsToldOr (SaidText vouched said) b text accepted a) self.old.office self.new.office) }
+            × MovesTimed D.Disk (λ vouched b a. IsToldOr (SaidText vouched said) b text accepted a) (timed C.Clock self.old) (timed C.Clock self.new)) }
         ensures err { OnErr result ((self.new ≡ self.old) × (out.new.items ≡ out.old.items)) }
     {
         match said {
@@ -139,7 +143,7 @@ impl<D: Disk, G: Signer, C: Clock> Handler<D, G, C> {
         out: &mut Vec<u8>,
     ) -> Result<bool, AllocError>
         ensures ok { IfOk result (λ accepted. (text : List ℕ) × (out.new.items ≡ out.old.items ++ text ++ 10 ∷ [])
-            × MayText D.Disk self.old.office line.now text accepted self.new.office) }
+            × MayText D.Disk (timed C.Clock self.old) line.now text accepted (timed C.Clock self.new)) }
         ensures err { OnErr result ((self.new ≡ self.old) × (out.new.items ≡ out.old.items)) }
     {
         match self.reader.read(alloc, line) {
@@ -366,10 +370,17 @@ fn is_blank_byte(byte: u8) -> bool
     byte == b' ' || byte == b'\t' || byte == b'\r'
 }
 
+// Whether the line has the word of a publication, which makes many signatures. One that says it with
+// escapes is missed, and another line may have it.
+fn has_publish(line: &[u8]) -> bool {
+    let word = b"\"publish\"";
+    line.windows(word.len()).any(|part| part == word.as_slice())
+}
+
 impl<D: Disk, G: Signer, C: Clock> LineHandler for Handler<D, G, C> {
     ghost use Rattle.krill_top.specs.Offices.{MayReply};
 
-    ghost answers = { λ old line reply accepted new. MayReply D.Disk old.office line reply accepted new.office };
+    ghost answers = { λ old line reply accepted new. MayReply D.Disk (timed C.Clock old) line reply accepted (timed C.Clock new) };
 
     fn answer(
         &mut self,
@@ -381,6 +392,10 @@ impl<D: Disk, G: Signer, C: Clock> LineHandler for Handler<D, G, C> {
             return Ok(false);
         }
         self.answer_text(alloc, line, out)
+    }
+
+    fn takes_long(&self, line: &[u8]) -> bool {
+        has_publish(line)
     }
 
     fn refuse_long(&mut self, _alloc: Global, out: &mut Vec<u8>) -> Result<(), AllocError> {

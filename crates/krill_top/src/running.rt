@@ -31,8 +31,8 @@ const SESSIONS_WRONG: u32 = 2;
 /// How many signers there are at most.
 const MOST_SIGNERS: usize = 8;
 
-/// What a run leaves: its status, why it isn't 0, and the desks' disks and the sessions' ends as they
-/// stand.
+/// What a run leaves: its status, why it isn't 0, and the desks' disks, the signers and the sessions'
+/// ends as they stand.
 #[derive(Drop)]
 pub struct RunEnd<D: Disk, G: Signer, S: Source, K: Sink, C: Clock> {
     /// 0, or that of its fault.
@@ -90,7 +90,7 @@ fn serve_one<D: Disk, G: Signer, S: Source, K: Sink, C: Clock>(
     ensures { (disks : List D) (signers : List G) (before : SessionEnds S K C)
         → IsStarted D.Disk G.state disks signers started → sessions.items ≡ before ∷ []
         → (vouched : Vouched) → IsTrusting vouched (map G.state signers) (map G.state result.signers.items)
-        → ServesOne D.Disk G.state S.Source K.Sink vouched disks signers before result }
+        → ServesOne D.Disk G.state S.Source K.Sink C.Clock vouched disks signers before result }
 {
     let Started { office, disks } = started;
     let mut sessions = sessions;
@@ -154,7 +154,7 @@ fn run_one<D: Disk, G: Signer, S: Source, K: Sink, C: Clock>(
     ensures { (before : SessionEnds S K C) → sessions.items ≡ before ∷ []
         → IsRefusedAtOpening D.Disk G.state devices.disks.items devices.signers.items sessions.items result
         ⊎ ((vouched : Vouched) → IsTrusting vouched (map G.state devices.signers.items) (map G.state result.signers.items)
-        → ServesOne D.Disk G.state S.Source K.Sink vouched devices.disks.items devices.signers.items before result) }
+        → ServesOne D.Disk G.state S.Source K.Sink C.Clock vouched devices.disks.items devices.signers.items before result) }
 {
     match start(alloc, devices) {
         Ok(started) => serve_one(alloc, started, sessions),
@@ -232,7 +232,7 @@ pub fn run_krill<D: Disk, G: Signer, S: Source, K: Sink, C: Clock>(
         → (before : SessionEnds S K C) → sessions.items ≡ before ∷ []
         → IsRefusedAtOpening D.Disk G.state desks.items signers.items sessions.items result
         ⊎ ((vouched : Vouched) → IsTrusting vouched (map G.state signers.items) (map G.state result.signers.items)
-        → ServesOne D.Disk G.state S.Source K.Sink vouched desks.items signers.items before result) }
+        → ServesOne D.Disk G.state S.Source K.Sink C.Clock vouched desks.items signers.items before result) }
 {
     let refused = refusal(words, desks.len(), signers.len(), sessions.len());
     let devices = Devices {

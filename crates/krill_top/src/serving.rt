@@ -2,6 +2,7 @@
 
 ghost use Rattle.std.specs.Prelude.{◌≡◌, ◌≤◌};
 ghost use Rattle.fault_count.specs.Rise.{HasRisen};
+ghost use Rattle.krill_top.specs.Handlers.{timed};
 ghost use Rattle.krill_top.specs.Ended.{Served};
 
 use crate::handler::Handler;
@@ -36,7 +37,7 @@ impl Session {
         sink: &mut K,
     ) -> SessionEnd
         ensures session { Served D.Disk S.Source K.Sink (record { source = source.old; sink = sink.old })
-            (record { source = source.new; sink = sink.new }) handler.old.office handler.new.office result }
+            (record { source = source.new; sink = sink.new }) (timed C.Clock handler.old) (timed C.Clock handler.new) result }
         ensures source_fault { result ≡ SessionEnd.SourceFault →
             HasRisen (S.fault_count source.old) (S.fault_count source.new) }
         ensures sink_fault { result ≡ SessionEnd.SinkFault →

@@ -1,5 +1,5 @@
 -- What a clock gives of its readings.
-use Rattle.std.specs.Prelude.{ℕ, ◌/◌, Option, None, Some, List, [], ◌∷◌, drop}
+use Rattle.std.specs.Prelude.{ℕ, zero, suc, ◌/◌, Option, None, Some, List, [], ◌∷◌, drop}
 use Rattle.std.specs.Option.{option_map}
 use Rattle.std.specs.declared.time.Duration.{Duration}
 use Rattle.std.specs.Duration.{as_nanos}
@@ -11,6 +11,10 @@ abbrev pub seconds_of : Option ℕ → ℕ
 seconds_of None = 0
 seconds_of (Some nanos) = nanos / 1_000_000_000
 
+-- the seconds of each reading
+abbrev pub seconds_given : (ℕ → Option ℕ) → ℕ → ℕ
+seconds_given readings number = seconds_of (readings number)
+
 abbrev pub raw_clock : {C : Type 0} → ClockOver C → C
 raw_clock over = over.clock
 
@@ -18,11 +22,8 @@ raw_clock over = over.clock
 abbrev pub readings_left : PlayedClock → List (Option Duration)
 readings_left clock = drop clock.at clock.readings.items
 
--- the first of them in nanoseconds, or none behind the last
-abbrev pub first_reading : List (Option Duration) → Option ℕ
-first_reading [] = None
-first_reading (reading ∷ readings) = option_map as_nanos reading
-
-abbrev pub later_readings : List (Option Duration) → List (Option Duration)
-later_readings [] = []
-later_readings (reading ∷ readings) = readings
+-- what such readings give in nanoseconds, by their number, and none behind the last
+abbrev pub reading_at : List (Option Duration) → ℕ → Option ℕ
+reading_at [] number = None
+reading_at (reading ∷ readings) zero = option_map as_nanos reading
+reading_at (reading ∷ readings) (suc number) = reading_at readings number

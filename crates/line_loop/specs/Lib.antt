@@ -6,5 +6,6 @@ pub mod Pending
 pub mod Progress
 pub mod Streams
 pub mod Played
+pub mod Readings
 pub mod Clocks
 pub mod Taking

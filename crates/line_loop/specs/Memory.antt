@@ -1,5 +1,5 @@
 -- What is seen of the ends in memory.
-use Rattle.std.specs.Prelude.{◌≡◌, ℕ, ◌+◌, ◌-◌, ◌^◌, min, List, [], ◌∷◌, drop, Contains}
+use Rattle.std.specs.Prelude.{◌≡◌, ℕ, zero, suc, ◌+◌, ◌-◌, ◌^◌, min, List, [], ◌∷◌, drop, Contains}
 use Rattle.line_loop.specs.declared.memory.Schedule.{Schedule}
 use Rattle.line_loop.specs.declared.memory.MemorySource.{MemorySource}
 use Rattle.line_loop.specs.declared.memory.MemorySink.{MemorySink}
@@ -54,8 +54,9 @@ sink_schedule sink = sink.schedule
 abbrev pub clock_moments : ListClock → List ℕ
 clock_moments clock = drop clock.at clock.moments.items
 
--- what is left to give after one moment
-abbrev pub later : List ℕ → List ℕ
-later [] = []
-later (x ∷ []) = x ∷ []
-later (x ∷ y ∷ ys) = y ∷ ys
+-- what such moments give, by the number of the reading
+abbrev pub moment_at : List ℕ → ℕ → ℕ
+moment_at [] number = 0
+moment_at (x ∷ []) number = x
+moment_at (x ∷ y ∷ ys) zero = x
+moment_at (x ∷ y ∷ ys) (suc number) = moment_at (y ∷ ys) number

@@ -1,6 +1,7 @@
 // The system's clock, and clocks that give what a list has.
-ghost use Rattle.std.specs.Prelude.{◌≡◌, ℕ, ◌≤◌, Option, Some, None, IfSome, option_map, vec_len};
+ghost use Rattle.std.specs.Prelude.{◌≡◌, ℕ, ◌≤◌, Option, Some, None, option_map, vec_len};
 ghost use Rattle.std.specs.Duration.{as_nanos};
+ghost use Rattle.line_loop.specs.Readings.{IsReading};
 
 use crate::Clock;
 use std::rt;
@@ -8,13 +9,13 @@ use std::time::{Duration, SystemTime, UNIX_EPOCH};
 
 /// A clock, as the system reads it.
 pub trait RawClock: Drop {
-    /// The nanoseconds since 1970-01-01 UTC that the next reading gives, or none where it fails, where
-    /// the clock tells.
-    ghost next: { Self → Option (Option ℕ) };
+    /// The nanoseconds since 1970-01-01 UTC that its readings give, by their number from the next one
+    /// on, or none where one fails, where the clock tells.
+    ghost readings: { Self → Option (ℕ → Option ℕ) };
 
     /// The time since 1970-01-01 UTC. None where the clock can't be read.
     fn read(&mut self) -> Option<Duration>
-        ensures { IfSome (next self.old) (λ reading. option_map as_nanos result ≡ reading) };
+        ensures { IsReading (readings self.old) (option_map as_nanos result) (readings self.new) };
 }
 
 /// A clock of std. Its readings aren't known.
@@ -24,7 +25,7 @@ pub struct HostClock<R> {
 }
 
 impl<R: rt::Clock + Drop> RawClock for HostClock<R> {
-    ghost next = { λ _. None };
+    ghost readings = { λ _. None };
 
     fn read(&mut self) -> Option<Duration> {
         SystemTime::now(&self.rt)
@@ -64,11 +65,11 @@ impl<C: RawClock> ClockOver<C> {
 }
 
 impl<C: RawClock> Clock for ClockOver<C> {
-    ghost use Rattle.line_loop.specs.Clocks.{raw_clock, seconds_of};
+    ghost use Rattle.line_loop.specs.Clocks.{raw_clock, seconds_given};
 
-    fn now(&mut self) -> u64
-        ensures { IfSome (C.next (raw_clock self.old)) (λ reading. result ≡ seconds_of reading) }
-    {
+    ghost readings = { λ clock. option_map seconds_given (C.readings (raw_clock clock)) };
+
+    fn now(&mut self) -> u64 {
         match self.clock.read() {
             Some(time) => time.as_secs(),
             None => 0,
@@ -96,14 +97,11 @@ impl PlayedClock {
 }
 
 impl RawClock for PlayedClock {
-    ghost use Rattle.line_loop.specs.Clocks.{readings_left, first_reading, later_readings};
+    ghost use Rattle.line_loop.specs.Clocks.{readings_left, reading_at};
 
-    ghost next = { λ clock. Some (first_reading (readings_left clock)) };
+    ghost readings = { λ clock. Some (reading_at (readings_left clock)) };
 
-    fn read(&mut self) -> Option<Duration>
-        ensures reading { option_map as_nanos result ≡ first_reading (readings_left self.old) }
-        ensures later { readings_left self.new ≡ later_readings (readings_left self.old) }
-    {
+    fn read(&mut self) -> Option<Duration> {
         if self.at == self.readings.len() {
             return None;
         }

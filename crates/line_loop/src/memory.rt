@@ -1,5 +1,5 @@
 // Ends in memory, whose calls fail where they are told to.
-ghost use Rattle.std.specs.Prelude.{◌≡◌, ◌≢◌, ◌↔◌, ℕ, ◌+◌, ◌-◌, ◌^◌, ◌<◌, ◌≤◌, Some, Err, List, [], ◌++◌, length, take, drop, min, slice_index, vec_len, IsTrue, IfOk, OnOk, OnErr};
+ghost use Rattle.std.specs.Prelude.{◌≡◌, ◌≢◌, ◌↔◌, ℕ, ◌+◌, ◌-◌, ◌^◌, ◌<◌, ◌≤◌, Some, Err, List, [], ◌++◌, length, take, drop, min, vec_len, IsTrue, IfOk, OnOk, OnErr};
 ghost use Rattle.std.specs.Bool.{OnTrue, OnFalse};
 ghost use Rattle.std.specs.Io.KnownBytes.{ReadConsumes};
 ghost use Rattle.line_loop.specs.Taking.{TakesFront};
@@ -226,12 +226,11 @@ impl ListClock {
 }
 
 impl Clock for ListClock {
-    ghost use Rattle.line_loop.specs.Memory.{clock_moments, later};
+    ghost use Rattle.line_loop.specs.Memory.{clock_moments, moment_at};
 
-    fn now(&mut self) -> u64
-        ensures moment { result ≡ slice_index (clock_moments self.old) 0 }
-        ensures later { clock_moments self.new ≡ later (clock_moments self.old) }
-    {
+    ghost readings = { λ clock. Some (moment_at (clock_moments clock)) };
+
+    fn now(&mut self) -> u64 {
         let rest = &self.moments[self.at..];
         match rest {
             [] => 0,

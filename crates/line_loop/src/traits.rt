@@ -2,6 +2,7 @@
 ghost use Rattle.std.specs.Prelude.{◌≡◌, ℕ, ◌<◌, ◌≤◌, List, Option, Err, length, IfOk};
 ghost use Rattle.std.specs.Io.KnownBytes.{ReadConsumes};
 ghost use Rattle.line_loop.specs.Taking.{TakesFront};
+ghost use Rattle.line_loop.specs.Readings.{IsReading};
 ghost use Rattle.fault_count.specs.Rise.{HasRisen};
 
 use std::alloc::Global;
@@ -62,6 +63,10 @@ pub trait Sink: Drop {
 
 /// What tells the time.
 pub trait Clock: Drop {
+    /// What its readings give, by their number from the next one on, where it tells.
+    ghost readings: { Self → Option (ℕ → ℕ) };
+
     /// Seconds since 1970-01-01 UTC.
-    fn now(&mut self) -> u64;
+    fn now(&mut self) -> u64
+        ensures { IsReading (readings self.old) result (readings self.new) };
 }

@@ -1,4 +1,4 @@
-use Rattle.std.proofs.Common.{◌≡◌, ◌≤◌, ◌+◌, [], ◌∷◌, ◌++◌, List, refl, sym, ◌∙◌, ap, arith, append_assoc, vec_len, vec_capacity, rules}
+use Rattle.std.proofs.Common.{[], ◌∷◌, ◌++◌, List, refl, ◌∙◌, ap, arith, append_assoc, rules}
 use Rattle.desk_core.specs.View.{View}
 use Rattle.krill_top.proofs.opening.close_in_front.Goals as goal
 

@@ -1,8 +1,8 @@
-use Rattle.std.proofs.Common.{◌≡◌, ◌≤◌, ◌<◌, ◌+◌, [], ◌∷◌, ◌++◌, List, ℕ, length, refl, sym, ◌∙◌, ap, subst, inl, inr, arith, append_assoc, vec_len, vec_capacity, rules}
+use Rattle.std.proofs.Common.{◌≡◌, ◌+◌, [], ◌∷◌, ◌++◌, List, ℕ, length, sym, ◌∙◌, ap, subst, inr, arith, append_assoc, vec_len, rules}
 use Rattle.std.proofs.lemmas.List.{length-append}
 use Rattle.desk_core.specs.View.{View}
 use Rattle.krill_top.specs.Desks.{IsOpeningRefused}
-use Rattle.krill_top.specs.Opened.{IsOpened, AreOpened, opening_fault_of}
+use Rattle.krill_top.specs.Opened.{IsOpened, AreOpened}
 use Rattle.krill_top.specs.declared.faults.OpenFault.{OpenFault}
 use Rattle.krill_top.proofs.InTurn.{opened_more, opened_length, stopped}
 use Rattle.krill_top.proofs.opening.open_desks.Goals as goal

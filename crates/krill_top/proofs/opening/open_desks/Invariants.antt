@@ -1,4 +1,4 @@
-use Rattle.std.proofs.Common.{◌≡◌, ◌≤◌, ◌+◌, ◌++◌, List, length, vec_len, vec_capacity}
+use Rattle.std.proofs.Common.{◌≡◌, ◌≤◌, ◌++◌, List, length, vec_len, vec_capacity}
 use Rattle.krill_top.specs.Opened.{AreOpened}
 use Rattle.krill_top.proofs.opening.open_desks.Given as goal
 

@@ -1,4 +1,4 @@
-use Rattle.std.proofs.Common.{◌≡◌, ◌⊎◌, List, length, map, inl, inr, sym, ◌∙◌, ap, subst}
+use Rattle.std.proofs.Common.{◌⊎◌, List, length, map, inl, inr, sym, ◌∙◌, ap, subst}
 use Rattle.std.specs.Prelude.{Some}
 use Rattle.krill_top.specs.Desks.{IsOpeningRefused}
 use Rattle.krill_top.specs.Ends.{fault_status}

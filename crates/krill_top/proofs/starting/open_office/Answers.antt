@@ -1,10 +1,9 @@
-use Rattle.std.proofs.Common.{◌≡◌, ℕ, ◌≤◌, ◌<◌, ◌∙◌, List, [], length, map, sym, ap, subst, inl, inr, arith, rules, vec_len, vec_capacity}
+use Rattle.std.proofs.Common.{◌≡◌, ℕ, ◌≤◌, ◌∙◌, List, [], length, map, sym, ap, subst, inl, inr, arith, rules, vec_len}
 use Rattle.std.proofs.lemmas.List.{length-map}
 use Rattle.desk_core.specs.View.{View}
 use Rattle.signer_api.specs.State.{SignerState}
-use Rattle.rp_rules.specs.Certificates.{Vouched}
 use Rattle.krill_top.specs.declared.faults.OpenFault.TheVariants.{WrongCount}
-use Rattle.krill_top.specs.Seen.{Seen, names_in}
+use Rattle.krill_top.specs.Seen.{names_in}
 use Rattle.krill_top.specs.World.{AreTrusted}
 use Rattle.krill_top.specs.Stands.{AreIn}
 use Rattle.krill_top.specs.Offices.{StandsIn}

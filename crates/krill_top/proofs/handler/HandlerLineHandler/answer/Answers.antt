@@ -1,5 +1,6 @@
 use Rattle.std.proofs.Common.{◌≡◌, [], ◌++◌, ◌∷◌, ◌∙◌, sym, subst, append_assoc, append-nil, true, false}
 use Rattle.std.specs.Prelude.{IsTrue}
+use Rattle.krill_top.specs.Handlers.{timed}
 use Rattle.krill_top.proofs.Answering.{if_ok_so, text_replies, blank_replies}
 use Rattle.krill_top.proofs.handler.HandlerLineHandler.answer.Goals as goal
 
@@ -14,4 +15,4 @@ returns-clause-ok g c = if_ok_so c.answer_text.result _ _ c.answer_text.ensures.
 
 pub returns-then-is_blank-clause-ok : goal.returns-then-is_blank-clause-ok
 returns-then-is_blank-clause-ok g c =
-    ([], blank_replies g.D.Disk c.args.self.now.office c.args.line.now (c.is_blank.ensures.0 c.if-is_blank.true), sym (append-nil c.args.out.now.items))
+    ([], blank_replies g.D.Disk (timed g.C.Clock c.args.self.now) c.args.line.now (c.is_blank.ensures.0 c.if-is_blank.true), sym (append-nil c.args.out.now.items))

@@ -1,4 +1,4 @@
-use Rattle.std.proofs.Common.{◌≡◌, sym, subst}
+use Rattle.std.proofs.Common.{subst}
 use Rattle.krill_top.specs.Outcomes.{outcome_of}
 use Rattle.krill_top.specs.Replies.{CommandedIn}
 use Rattle.krill_top.specs.Offices.{OfficeValue, Moves}

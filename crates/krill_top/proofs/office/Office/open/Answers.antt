@@ -1,9 +1,7 @@
 use Rattle.std.proofs.Common.{◌≡◌, ◌≤◌, ◌∙◌, [], List, length, true, refl, sym, ap, subst, inr}
 use Rattle.signer_api.specs.State.{SignerState}
-use Rattle.rp_rules.specs.Certificates.{Vouched}
-use Rattle.krill_top.specs.Seen.{Seen, names_in}
+use Rattle.krill_top.specs.Seen.{names_in}
 use Rattle.krill_top.specs.World.{AreTrusted}
-use Rattle.krill_top.specs.Stands.{AreIn}
 use Rattle.krill_top.specs.Run.{signers_needed}
 use Rattle.krill_top.specs.Offices.{OfficeValue, StandsIn}
 use Rattle.krill_top.proofs.FirstWorld.{first_stands}

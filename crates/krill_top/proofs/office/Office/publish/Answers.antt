@@ -1,4 +1,4 @@
-use Rattle.std.proofs.Common.{◌≡◌, sym, subst}
+use Rattle.std.proofs.Common.{subst}
 use Rattle.std.specs.Prelude.{Ok, Err}
 use Rattle.krill_top.specs.Publishing.{PublishesOrNot}
 use Rattle.krill_top.specs.Offices.{OfficeValue, Moves}

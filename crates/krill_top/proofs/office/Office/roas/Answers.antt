@@ -1,4 +1,4 @@
-use Rattle.std.proofs.Common.{◌≡◌, sym, subst}
+use Rattle.std.proofs.Common.{sym, subst}
 use Rattle.krill_top.specs.Offices.{OfficeValue, StandsIn}
 use Rattle.krill_top.proofs.Answering.{if_ok_so}
 use Rattle.krill_top.proofs.office.Office.roas.Goals as goal

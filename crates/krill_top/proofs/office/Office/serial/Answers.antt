@@ -1,4 +1,4 @@
-use Rattle.std.proofs.Common.{◌≡◌, ◌∙◌, ap, sym, subst}
+use Rattle.std.proofs.Common.{◌∙◌, ap, sym, subst}
 use Rattle.notice_board.specs.declared.sheets.Sheet.{Sheet}
 use Rattle.krill_top.specs.Offices.{OfficeValue, StandsIn}
 use Rattle.krill_top.proofs.office.Office.serial.Goals as goal
