@@ -1,0 +1,10 @@
+pub mod Besides
+pub mod Counts
+pub mod Entries
+pub mod Exports
+pub mod Keeping
+pub mod Lasts
+pub mod Places
+pub mod Removals
+pub mod Runs
+pub mod Sizes

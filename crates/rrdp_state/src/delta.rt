@@ -1,0 +1,10 @@
+//! A delta that is kept.
+
+use crate::text::FileText;
+
+/// The delta that leads to a serial.
+#[derive(Debug, Drop)]
+pub struct Delta {
+    pub serial: u64,
+    pub text: FileText,
+}

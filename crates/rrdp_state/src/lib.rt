@@ -1,0 +1,22 @@
+//! The RRDP files of an edition (RFC 8182): its snapshot, its delta, the notification that names
+//! them, and what an export puts and removes.
+#![tactic(auto)]
+
+mod delta;
+mod laws;
+mod leaving;
+mod named;
+mod next;
+mod paths;
+mod putting;
+mod state;
+mod text;
+
+pub use delta::Delta;
+pub use laws::{
+    exports_keep_files_coherent, named_deltas_are_the_longest_run,
+    named_deltas_lead_to_the_snapshot, notifications_name_what_is_put,
+};
+pub use next::NextFiles;
+pub use state::Rrdp;
+pub use text::FileText;
