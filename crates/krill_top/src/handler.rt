@@ -370,11 +370,14 @@ fn is_blank_byte(byte: u8) -> bool
     byte == b' ' || byte == b'\t' || byte == b'\r'
 }
 
-// Whether the line has the word of a publication, which makes many signatures. One that says it with
-// escapes is missed, and another line may have it.
+// How long a line is at most that is looked at for a publication, which has no other member.
+const LONGEST_PUBLISH: usize = 64;
+
+// Whether a short line has the word of a publication, which makes many signatures. One that says it with
+// escapes or among many blanks is missed, and another line may have it.
 fn has_publish(line: &[u8]) -> bool {
     let word = b"\"publish\"";
-    line.windows(word.len()).any(|part| part == word.as_slice())
+    line.len() <= LONGEST_PUBLISH && line.windows(word.len()).any(|part| part == word.as_slice())
 }
 
 impl<D: Disk, G: Signer, C: Clock> LineHandler for Handler<D, G, C> {
