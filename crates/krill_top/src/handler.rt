@@ -371,7 +371,7 @@ fn is_blank_byte(byte: u8) -> bool
 }
 
 // How long a line is at most that is looked at for a publication, which has no other member.
-const LONGEST_PUBLISH: usize = 64;
+const LONGEST_PUBLISH: usize = 32;
 
 // Whether a short line has the word of a publication, which makes many signatures. One that says it with
 // escapes or among many blanks is missed, and another line may have it.
