@@ -4,7 +4,8 @@
 # bench: the measurements, each as a ratio to a baseline of the same run.
 # seconds: what the gate costs, crate by crate, from nothing; takes hours.
 # allocations: every test with each of its allocations failing in turn, outside the gate.
-.PHONY: run build test bench seconds allocations
+# refused: the wrong bodies that the gate doesn't try (crates/*/refused), of one crate (CRATE=names) or of all.
+.PHONY: run build test bench seconds allocations refused
 
 run:
 	@sh examples/run-first-session
@@ -27,3 +28,6 @@ seconds:
 
 allocations:
 	python3 checks/allocations.py
+
+refused:
+	@python3 checks/refused.py $(CRATE)

@@ -51,11 +51,11 @@ def cases():
 
 def main():
     lines, answers = zip(*cases())
-    ran = subprocess.run([PROGRAM], input="".join(lines), capture_output=True, text=True)
-    expected = [answer for answer in answers if answer]
-    if ran.returncode or ran.stdout.splitlines() != expected:
-        for told, want in zip(ran.stdout.splitlines(), expected):
-            for one, other in zip(told.split("\t"), want.split("\t")):
+    ran = subprocess.run([PROGRAM], input="".join(["# audits\n", *lines]), capture_output=True, text=True)
+    told, expected = ran.stdout.splitlines()[1:], [answer for answer in answers if answer]
+    if ran.returncode or told != expected:
+        for said, want in zip(told, expected):
+            for one, other in zip(said.split("\t"), want.split("\t")):
                 if one != other:
                     print(f"checks/audits: {one}\n  and not: {other}")
         sys.exit(f"checks/audits: status {ran.returncode}")

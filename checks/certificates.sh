@@ -1,12 +1,17 @@
 #!/bin/sh
-# The certificates among the cases of crates/cert_cases, read by openssl and compared field by field. The
+# The certificates among the cases of crates/test_formats, read by openssl and compared field by field. The
 # gate sees that the program writes and reads just these. Skipped where openssl or python3 is missing.
 set -eu
 top=$(cd "$(dirname "$0")/.." && pwd)
 for tool in openssl python3; do
     command -v "$tool" >/dev/null || { echo "checks/certificates: $tool is missing, skipped"; exit 0; }
 done
-exec python3 - "$top/crates/cert_cases" <<'END'
+scratch=$(mktemp -d)
+trap 'rm -rf "$scratch"' EXIT
+for file in stdin stdout; do
+    sh "$top/checks/part" "$top/crates/test_formats/$file" certificates >"$scratch/$file"
+done
+python3 - "$scratch" <<'END'
 import datetime, hashlib, ipaddress, subprocess, sys
 
 folder = sys.argv[1]

@@ -1,5 +1,5 @@
 #!/bin/sh
-# The extensions among the cases of crates/format_cases that openssl spelled, made anew by it and
+# The extensions among the cases of crates/test_formats that openssl spelled, made anew by it and
 # compared. Skipped where openssl is missing. With the word `print` it prints the lines that it made.
 set -eu
 top=$(cd "$(dirname "$0")/.." && pwd)
@@ -24,6 +24,9 @@ extension() {
     od -An -v -tx1 value | tr -d ' \n'
 }
 
+for file in stdin stdout; do
+    sh "$top/checks/part" "$top/crates/test_formats/$file" formats >"$file"
+done
 failed=0
 # The sets of each case, and the extension that is its answer.
 awk -F '\t' '
@@ -33,7 +36,7 @@ awk -F '\t' '
     $1 !~ /^openssl/ { next }
     $2 == "res_ext write_ip" { print "v4=" $3 ";v6=" $4 ";" answer[FNR] }
     $2 == "res_ext write_as" { gsub("AS", "", $3); print "asn=" $3 ";" answer[FNR] }
-' "$top/crates/format_cases/stdout" "$top/crates/format_cases/stdin" >lines
+' stdout stdin >lines
 while IFS= read -r line; do
     case $line in
     v4=*)

@@ -8,7 +8,7 @@ import subprocess
 import sys
 import tempfile
 
-CRATES = sys.argv[1]
+CASES = sys.argv[1]
 
 # The head of the extension subjectKeyIdentifier.
 SUBJECT_KEY = "0603551d0e04160414"
@@ -20,9 +20,9 @@ def openssl(*words, given):
     return ran.stdout.decode("latin-1") if ran.returncode == 0 else None
 
 
-def cases(crate):
-    """Name, call, arguments and answer of each case."""
-    with open(f"{CRATES}/{crate}/stdin") as given, open(f"{CRATES}/{crate}/stdout") as answers:
+def cases(part):
+    """Name, call, arguments and answer of each case of a part."""
+    with open(f"{CASES}/{part}.stdin") as given, open(f"{CASES}/{part}.stdout") as answers:
         for case, answer in zip(given, answers, strict=True):
             name, call, *arguments = case.rstrip("\n").split("\t")
             told, answer = answer.rstrip("\n").split("\t", 1)
@@ -158,17 +158,17 @@ def check_manifest(name, fields, body):
 
 crls = objects = bodies = 0
 fields = {}
-for name, call, arguments, answer in cases("crl_cases"):
+for name, call, arguments, answer in cases("crls"):
     kind = name.rsplit(": ", 1)[0]
     if call == "tbs":
         fields[kind] = arguments
     if call == "write":
         check_crl(name, fields[kind], bytes.fromhex(answer), arguments[1])
         crls += 1
-for name, call, arguments, answer in cases("cms_cases"):
+for name, call, arguments, answer in cases("signed"):
     if call == "write" and answer != "no spelling":
         objects += check_object(name, arguments, bytes.fromhex(answer))
-for name, call, arguments, answer in cases("body_cases"):
+for name, call, arguments, answer in cases("bodies"):
     if call == "write roa":
         check_roa(name, arguments, bytes.fromhex(answer))
         bodies += 1

@@ -9,12 +9,22 @@ trap 'rm -rf "$scratch"' EXIT
 cd "$scratch"
 failed=0
 
+# What standard error has first where a run finds no signer's pipes.
+note="krillc: no signer's pipes stand in krill-data: signatures are a rehearsal's, which no relying party accepts"
+
+# Leaves out of the file `error` that signatures are a rehearsal's.
+without_note() {
+    grep -vxF "$note" error >error-else || :
+    mv error-else error
+}
+
 # expect STATUS OUTPUT ERROR WORDS..: runs the program on the file `input`.
 expect() {
     status=$1 output=$2 error=$3
     shift 3
     got=0
     "$krillc" "$@" <input >output 2>error || got=$?
+    without_note
     printf '%s' "$output" >want-output
     printf '%s' "$error" >want-error
     if [ "$got" != "$status" ] || ! cmp -s output want-output || ! cmp -s error want-error; then
@@ -56,6 +66,11 @@ mkdir copied
 }
 [ -e krill-data ] && { echo "checks/program: --help made the store's folder"; failed=1; }
 expect 0 '' '' run
+# A rehearsal is never silent, and a faulty command line is none.
+"$krillc" run <input 2>error
+[ "$(cat error)" = "$note" ] || { echo "checks/program: a rehearsal says: $(cat error)"; failed=1; }
+"$krillc" runs <input 2>error && failed=1
+grep -qxF "$note" error && { echo "checks/program: a faulty command line tells of a rehearsal"; failed=1; }
 expect 2 '' "$usage"
 expect 2 '' "$usage" runs
 expect 2 '' "$usage" run run
@@ -79,6 +94,7 @@ printf '{"command":"roas update","ca":"ta"}' >input
 
 # fails WHAT STATUS: says so unless the program ended with status 4 and its message.
 fails() {
+    without_note
     if [ "$2" != 4 ] || [ "$(cat error)" != 'krillc: device failed' ]; then
         echo "checks/program: $1: status $2, expected 4"
         failed=1
@@ -131,10 +147,30 @@ if python3 -c 'import cryptography' 2>python-said; then
         failed=1
     }
     [ "$(ls keys | grep -c '\.key$')" = 2 ] || { echo "checks/program: the signer kept: $(ls keys)"; failed=1; }
-    rm -f krill-data/signer-0.out
 fi
-: >krill-data/signer-1.in
-expect 4 '' 'krillc: device failed
+
+# Pipes that can't be used are named: one of a pair, a file, a dangling link, a gap in the numbers.
+: >input
+rm -f krill-data/signer-*
+mkfifo krill-data/signer-0.in
+expect 4 '' "krillc: krill-data/signer-0.out is missing: the other pipe of the signer stands
+krillc: device failed
+" run
+rm krill-data/signer-0.in
+: >krill-data/signer-0.in
+: >krill-data/signer-0.out
+expect 4 '' 'krillc: krill-data/signer-0.in: no FIFO
+krillc: device failed
+' run
+rm krill-data/signer-*
+ln -s nowhere krill-data/signer-0.in
+expect 4 '' 'krillc: krill-data/signer-0.in: no FIFO
+krillc: device failed
+' run
+rm krill-data/signer-0.in
+mkfifo krill-data/signer-1.in krill-data/signer-1.out
+expect 4 '' 'krillc: krill-data/signer-0.in is missing: there is a signer of a greater number
+krillc: device failed
 ' run
 
 # One origin more than a configuration may have.

@@ -1,51 +1,51 @@
 #!/bin/sh
 # Threads share a word, and then a notice board, for some seconds each, as many as there are processors: one bumps the
 # word, or shows sheets, and the others look, by each call in turn, until they find the last count or sheet. The
-# programs end by themselves. One that isn't built is skipped (rt run in crates/word_threads and crates/board_threads
-# builds them).
+# races end by themselves. Skipped where the program isn't built (rt run in crates/test_threads builds it).
 set -eu
 top=$(cd "$(dirname "$0")/.." && pwd)
+program=$top/crates/test_threads/out/test_threads
+[ -x "$program" ] || { echo "checks/races: crates/test_threads isn't built, skipped"; exit 0; }
 processors=$(nproc 2>/dev/null || getconf _NPROCESSORS_ONLN)
 readers=$((processors > 1 ? processors - 1 : 1))
 scratch=$(mktemp -d)
 trap 'rm -rf "$scratch"' EXIT
 
-# wanted_of_words BUMPS, wanted_of_board SHEETS: what a race of as many has to print. The word counts from 3.
-wanted_of_words() {
-    printf '%s readers: no count fell, and each reader found %s\nclosed at %s\n' \
+# wanted_of_word_races BUMPS, wanted_of_board_races SHEETS: what a race of as many has to print. The word counts from 3.
+wanted_of_word_races() {
+    printf '# word_races\n%s readers: no count fell, and each reader found %s\nclosed at %s\n' \
         "$readers" "$(($1 + 3))" "$(($1 + 3))"
 }
-wanted_of_board() {
-    printf '%s readers: no serial fell, each sheet and row was whole, and each reader found %s\nclosed at %s\n' \
+wanted_of_board_races() {
+    printf '# board_races\n%s readers: no serial fell, each sheet and row was whole, and each reader found %s\nclosed at %s\n' \
         "$readers" "$1" "$1"
 }
 
-# race_of NAME WHAT CRATE COUNT: one race.
+# race_of PART COUNT WHAT: one race.
 race_of() {
-    "$top/crates/$3/out/$3" "$readers" "$4" >"$scratch/said" || {
-        echo "checks/$1: $readers readers, $4 $2: status $?"
+    printf '# %s\n%s %s\n' "$1" "$readers" "$2" | "$program" >"$scratch/said" || {
+        echo "checks/races: $readers readers, $2 $3: status $?"
         exit 1
     }
-    "wanted_of_$1" "$4" >"$scratch/wanted"
+    "wanted_of_$1" "$2" >"$scratch/wanted"
     cmp -s "$scratch/wanted" "$scratch/said" || {
-        echo "checks/$1: $readers readers, $4 $2:"
+        echo "checks/races: $readers readers, $2 $3:"
         diff "$scratch/wanted" "$scratch/said" || true
         exit 1
     }
 }
 
-# races NAME WHAT CRATE LONG: two long races, and many short ones, in which threads start and end beside the rest.
+# races PART LONG WHAT: two long races, and many short ones, in which threads start and end beside the rest.
 races() {
-    [ -x "$top/crates/$3/out/$3" ] || { echo "checks/$1: $3 isn't built, skipped"; return 0; }
-    race_of "$1" "$2" "$3" "$4"
-    race_of "$1" "$2" "$3" "$4"
+    race_of "$1" "$2" "$3"
+    race_of "$1" "$2" "$3"
     turn=0
     while [ "$turn" -lt 200 ]; do
-        race_of "$1" "$2" "$3" "$turn"
+        race_of "$1" "$turn" "$3"
         turn=$((turn + 1))
     done
-    echo "checks/$1: 202 races of $readers readers"
+    echo "checks/races: 202 $1 of $readers readers"
 }
 
-races words bumps word_threads 20000000
-races board sheets board_threads 40000
+races word_races 20000000 bumps
+races board_races 40000 sheets

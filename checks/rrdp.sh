@@ -1,11 +1,16 @@
 #!/bin/sh
-# The texts of RRDP that rrdp_cases prints, parsed as XML and compared with their cases field by field;
+# The texts of RRDP that test_repository prints, parsed as XML and compared with their cases field by field;
 # a locator's key is read by openssl where it is there. The gate sees that the program prints just
-# crates/rrdp_cases/stdout. Skipped where python3 is missing.
+# crates/test_repository/stdout. Skipped where python3 is missing.
 set -eu
 top=$(cd "$(dirname "$0")/.." && pwd)
 command -v python3 >/dev/null || { echo "checks/rrdp: python3 is missing, skipped"; exit 0; }
-exec python3 - "$top/crates/rrdp_cases" <<'END'
+scratch=$(mktemp -d)
+trap 'rm -rf "$scratch"' EXIT
+for file in stdin stdout; do
+    sh "$top/checks/part" "$top/crates/test_repository/$file" rrdp >"$scratch/$file"
+done
+python3 - "$scratch" <<'END'
 import base64, shutil, subprocess, sys
 import xml.etree.ElementTree as xml
 

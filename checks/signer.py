@@ -1,11 +1,13 @@
 """Tries signer/krill-signer: what it answers, what openssl says of it, what outlives a kill, and what it refuses. And
-Krill's own side of the lines with it, where a second program is named: crates/signer_cases over the signer's FIFOs.
+Krill's own side of the lines with it, where a second program is named: crates/test_signers over the signer's FIFOs.
 
-Usage: signer.py PROGRAM [SIGNER_CASES], in a scratch folder."""
-import hashlib, os, random, re, signal, subprocess, sys, threading, time
+Krill's side and the signer are killed in turn, ROUNDS times each, at random moments, and started again.
 
-SIGNER = os.path.abspath(sys.argv[1])
-CALLER = os.path.abspath(sys.argv[2]) if len(sys.argv) > 2 else None
+Usage: signer.py ROUNDS PROGRAM TEST_SIGNERS KRILLC, in a scratch folder. '-' stands for a program that isn't there."""
+import hashlib, json, os, random, re, signal, socket, subprocess, sys, threading, time
+
+ROUNDS = int(sys.argv[1])
+SIGNER, CALLER, KRILLC = (None if word == "-" else os.path.abspath(word) for word in sys.argv[2:])
 DIGEST = hashlib.sha256(b"what is signed").hexdigest()
 OTHER = hashlib.sha256(b"something else").hexdigest()
 # SEQUENCE { rsaEncryption with NULL, BIT STRING }: what stands before the 270 bytes of a key in a public key file.
@@ -89,6 +91,98 @@ def answers():
     end(program, 0)
     if os.listdir("answers"):
         fail(f"after a dropped key there is {os.listdir('answers')}")
+
+
+def hello():
+    """A meeting is answered by its own words, also behind a line that was cut off; requests that arrive together are
+    answered in their order."""
+    word = "hello " + "0123456789abcdef" * 2
+    program = start("hello")
+    for line in (word, "sign 3082" + word, "hello 00" + word):
+        if ask(program, line) != word:
+            fail(f"{line} isn't answered by {word}")
+    program.stdin.write(f"make\n{word}\nonce {DIGEST}\nmake\n")
+    program.stdin.flush()
+    for pattern in (f"key {KEY}", word, f"once {KEY} [0-9a-f]{{512}}", f"key {KEY}"):
+        want(pattern, program.stdout.readline().rstrip("\n"))
+    end(program, 0)
+    for line in ("hello", "hello 00", word + "0", word.upper()):
+        program = start("hello")
+        program.stdin.write(line + "\n")
+        end(program, 2, "request 1 is none")
+
+
+def strange_files():
+    """What is not the signer's own in its folder is refused, and stays as it is."""
+    program = start("strange")
+    ask(program, "make")
+    end(program, 0)
+    (name,) = os.listdir("strange")
+    content = open(f"strange/{name}", "rb").read()
+    with open("treasure", "wb") as file:
+        file.write(content)
+    os.chmod("treasure", 0o600)
+    strange = {
+        "new-link": lambda path: os.symlink("../treasure", path),
+        "gone-link": lambda path: os.symlink("../treasure", path),
+        "new-same": lambda path: os.link("treasure", path),
+        "new-pipe": os.mkfifo,
+        "new-folder": os.mkdir,
+        "pipe.key": os.mkfifo,
+    }
+    for name_of_it, make in strange.items():
+        make(f"strange/{name_of_it}")
+        end(start("strange"), 3, f"{name_of_it}: not a file of this user alone")
+        (os.rmdir if name_of_it == "new-folder" else os.unlink)(f"strange/{name_of_it}")
+    os.chmod(f"strange/{name}", 0o640)
+    end(start("strange"), 3, f"{name}: not a file of this user alone")
+    os.unlink(f"strange/{name}")
+    os.symlink("../treasure", f"strange/{name}")
+    end(start("strange"), 3, f"{name}: not a file of this user alone")
+    if open("treasure", "rb").read() != content:
+        fail("a file behind a link was written")
+
+
+def strange_pipes():
+    """What stands in the place of a FIFO is refused, and stays as it is; two signers don't serve one pair."""
+    os.mkdir("pipes")
+    with open("target", "w") as file:
+        file.write("kept")
+    strange = (
+        lambda path: os.link("target", path),
+        lambda path: os.symlink("../target", path),
+        lambda path: os.symlink("nothing", path),
+        lambda path: os.symlink("other", path),
+        os.mkdir,
+        lambda path: socket.socket(socket.AF_UNIX).bind(path),
+    )
+    os.mkfifo("pipes/other")
+    for make in strange:
+        for pipe in ("pipes/signer-0.in", "pipes/signer-0.out"):
+            make(pipe)
+            end(start("pipe-keys", "--fifos", "pipes/signer-0"), 3, f"{pipe}: no FIFO")
+            (os.rmdir if make is os.mkdir else os.unlink)(pipe)
+            for left in ("pipes/signer-0.in", "pipes/signer-0.out"):
+                if os.path.lexists(left):
+                    os.unlink(left)
+    if open("target").read() != "kept":
+        fail("a file in the place of a FIFO was written")
+    first = start("pipe-keys", "--fifos", "pipes/signer-0")
+    while not os.path.exists("pipes/signer-0.out") or not holds(first, "pipes/signer-0.out"):
+        time.sleep(0.02)
+    time.sleep(0.2)
+    end(start("other-keys", "--fifos", "pipes/signer-0"), 3, "another krill-signer serves it")
+    first.terminate()
+    first.wait()
+
+
+def holds(program, path):
+    """Whether the program has the file open."""
+    opened = f"/proc/{program.pid}/fd"
+    try:
+        return os.path.abspath(path) in {os.path.realpath(os.path.join(opened, it)) for it in os.listdir(opened)}
+    except FileNotFoundError:
+        return False
 
 
 def modes():
@@ -226,16 +320,190 @@ def beside():
     signer.wait()
 
 
+def start_caller(folder):
+    return subprocess.Popen(
+        [CALLER, f"{folder}/signer-0.in", f"{folder}/signer-0.out"],
+        stdin=subprocess.PIPE, stdout=subprocess.PIPE, stderr=subprocess.PIPE, text=True,
+    )
+
+
+def call(caller, line):
+    """An answer to a call, which is made again for a second: a signer may still leave an earlier caller."""
+    for _ in range(20):
+        answered = ask(caller, line)
+        if answered != "signer 0 failed":
+            return answered
+        time.sleep(0.05)
+    return answered
+
+
+def signs_again(caller):
+    """Makes a key and signs, and lets openssl judge both kinds of signatures."""
+    (key,) = want(KEY, call(caller, "make 0"))
+    (signature,) = want("([0-9a-f]{512})", ask(caller, f"sign 0 {key} {DIGEST}"))
+    verify(key, DIGEST, signature)
+    once_key, once = want(f"{KEY} ([0-9a-f]{{512}})", ask(caller, f"once 0 {OTHER}"))
+    verify(once_key, OTHER, once)
+    want("yes", ask(caller, f"check {key} {DIGEST} {signature}"))
+    want("no", ask(caller, f"check {key} {OTHER} {signature}"))
+
+
+def keep_asking(caller):
+    """Calls until an end is gone. Standard output isn't read, so that kills come anywhere."""
+    try:
+        for turn in range(40):
+            caller.stdin.write(("make 0\n", f"once 0 {DIGEST}\n")[turn % 2])
+        caller.stdin.flush()
+    except BrokenPipeError:
+        pass
+
+
+def kill(program):
+    program.kill()
+    program.wait()
+
+
+def kill_callers():
+    """Callers are killed at random moments, and the next one is there at once."""
+    os.mkdir("callers")
+    signer = start("callers-keys", "--fifos", "callers/signer-0")
+    while not os.path.exists("callers/signer-0.out"):
+        time.sleep(0.02)
+    for _ in range(ROUNDS):
+        caller = start_caller("callers")
+        keep_asking(caller)
+        time.sleep(random.uniform(0, 0.4))
+        kill(caller)
+        time.sleep(random.choice((0, 0, 0.001, 0.01, 0.1)))
+        caller = start_caller("callers")
+        signs_again(caller)
+        kill(caller)
+    kill(signer)
+
+
+def kill_signers():
+    """A signer is killed and started again under a running caller, sometimes with a request that it has not read."""
+    os.mkdir("signers")
+    signer = start("signers-keys", "--fifos", "signers/signer-0")
+    while not os.path.exists("signers/signer-0.out"):
+        time.sleep(0.02)
+    caller = start_caller("signers")
+    signs_again(caller)
+    for turn in range(ROUNDS):
+        if turn % 3 == 0:
+            signer.send_signal(signal.SIGSTOP)
+        caller.stdin.write("make 0\n")
+        caller.stdin.flush()
+        time.sleep(random.uniform(0, 0.2))
+        kill(signer)
+        signer = serve_fifos("signers-keys", "signers/signer-0", caller)
+        caller.stdout.readline()  # The call that was cut off, or answered just before.
+        signs_again(caller)
+    kill(caller)
+    kill(signer)
+
+
+class Daemon:
+    """A krillc in a folder of its own."""
+
+    def __init__(self, folder):
+        self.folder = folder
+        self.program = subprocess.Popen(
+            [KRILLC, "run"], cwd=folder,
+            stdin=subprocess.PIPE, stdout=subprocess.PIPE, stderr=subprocess.PIPE, text=True,
+        )
+
+    def ask(self, **command):
+        reply = ask(self.program, json.dumps(command))
+        return json.loads(reply) if reply else {}
+
+    def publish(self):
+        return self.ask(command="publish")
+
+    def ended(self, status, *messages):
+        """It has ended by itself, and said why."""
+        self.program.stdin.close()
+        self.program.wait()
+        said = self.program.stderr.read()
+        if self.program.returncode != status or any(message not in said for message in messages):
+            fail(f"krillc: status {self.program.returncode} and {said!r}, expected {status} and {messages}")
+
+
+def kill_publications():
+    """krillc and its signer are killed in publications, in turn, and the next publication is right at once."""
+    os.makedirs("daemon/krill-data")
+    path = "daemon/krill-data/signer-0"
+    for end_of_it in (".in", ".out"):
+        os.mkfifo(path + end_of_it, 0o600)
+    signer = start("daemon-keys", "--fifos", path)
+    daemon = Daemon("daemon")
+    daemon.ask(command="roas update", ca="ta", add=["10.0.0.0/16-24 => 64496", "10.1.0.0/16 => 64497"])
+    for turn in range(2 * ROUNDS):
+        daemon.program.stdin.write(json.dumps({"command": "publish"}) + "\n")
+        daemon.program.stdin.flush()
+        time.sleep(random.uniform(0, 0.3))
+        if turn % 2:
+            kill(daemon.program)
+            daemon = Daemon("daemon")
+        else:
+            kill(signer)
+            signer = start("daemon-keys", "--fifos", path)
+            while not (holds(signer, path + ".in") and holds(signer, path + ".out")):
+                time.sleep(0.01)
+            daemon.program.stdout.readline()
+        origins = [f"10.2.{turn % 256}.0/24 => {64500 + turn}"]
+        daemon.ask(command="roas update", ca="ta", add=origins)
+        reply = daemon.publish()
+        if "published" not in json.dumps(reply):
+            fail(f"turn {turn}: {reply}")
+        daemon.ask(command="roas update", ca="ta", remove=origins)
+    kill(daemon.program)
+    kill(signer)
+
+
+def pipes_of_krillc():
+    """What krillc says of pipes that it can't use, and of none at all."""
+    os.makedirs("krillc-pipes/krill-data")
+    pipe = "krillc-pipes/krill-data/signer-"
+    Daemon("krillc-pipes").ended(0, "signatures are a rehearsal's")
+    os.mkfifo(pipe + "0.in")
+    Daemon("krillc-pipes").ended(4, "signer-0.out is missing")
+    for make in (lambda path: open(path, "w").close(), lambda path: os.symlink("signer-0.in", path), lambda path: os.symlink("x", path)):
+        make(pipe + "0.out")
+        Daemon("krillc-pipes").ended(4, "signer-0.out: no FIFO")
+        os.unlink(pipe + "0.out")
+    os.rename(pipe + "0.in", pipe + "1.in")
+    os.mkfifo(pipe + "1.out")
+    Daemon("krillc-pipes").ended(4, "signer-0.in is missing")
+    for end_of_it in (".in", ".out"):
+        os.rename(f"{pipe}1{end_of_it}", f"{pipe}0{end_of_it}")
+    waiting = Daemon("krillc-pipes")
+    want("krillc: waiting for signer 0 .*", waiting.program.stderr.readline().rstrip("\n"))
+    with open(pipe + "0.in", "w"), open(pipe + "0.out"):
+        pass  # A signer that ends without a word.
+    waiting.ended(4, "signer 0 gave no answer to `hello`")
+
+
 def main():
     answers()
+    hello()
     modes()
+    strange_files()
+    strange_pipes()
     faulty_lines()
     made = kills()
     fifos()
+    said = []
     if CALLER:
         beside()
-    said = "and Krill's side met it" if CALLER else "Krill's side isn't built, skipped"
-    print(f"checks/signer: ok ({made} keys outlived kills; {said})")
+        kill_callers()
+        kill_signers()
+        said.append(f"Krill's side met it, {ROUNDS} kills of each")
+    if KRILLC:
+        pipes_of_krillc()
+        kill_publications()
+        said.append(f"krillc met it, {ROUNDS} kills of each")
+    print(f"checks/signer: ok ({made} keys outlived kills; {'; '.join(said) or 'Krill is not built, skipped'})")
 
 
 main()

@@ -9,7 +9,7 @@ use Rattle.std.specs.List.Sorted.{IsStrictlySortedBy}
 use Rattle.std.proofs.lemmas.List.{take_more, append-nil}
 use Rattle.std.proofs.lemmas.List.Folds.{list_any-append}
 use Rattle.origins.specs.declared.Origin.{Origin}
-use Rattle.origins.specs.Ordered.{exact_origin}
+use Rattle.origins.specs.laws.Ordered.{exact_origin}
 use Rattle.authority_book.specs.Origins.{origin_cmp, is_same, is_there, IsAscending, with_one, with_each}
 use Rattle.authority_book.proofs.OriginOrder.{origin_total, same_laws}
 use Rattle.authority_book.proofs.Same.{is_same-iff}

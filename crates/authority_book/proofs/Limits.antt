@@ -1,8 +1,9 @@
--- An accepted command keeps the lists within their limits, and the origins in order.
+-- An accepted command keeps the lists within their limits, their names plain, and the origins in order.
 use Rattle.std.proofs.Common.{◌≡◌, ◌≤◌, ◌+◌, ℕ, suc, Bool, true, false, refl, ap, arith, length, List, [], ◌∷◌, cond}
 use Rattle.std.specs.Prelude.{None, Some, not, nat_le, nat_lt, filter}
 use Rattle.std.specs.Ordering.{is_lt}
 use Rattle.std.proofs.lemmas.List.{length-append}
+use Rattle.std.proofs.lemmas.List.Elements.{All-nil, All-cons, All-append}
 use Rattle.std.specs.Str.{bytes_eq}
 use Rattle.origins.specs.declared.Origin.{Origin}
 use Rattle.authority_book.specs.declared.rows.Child.{Child}
@@ -13,11 +14,14 @@ use Rattle.authority_book.specs.declared.refusals.Refusal.TheVariants.{Deleted, 
 use Rattle.authority_book.specs.Origins.{origin_cmp, without, with_one, with_each, first_repeated, IsAscending}
 use Rattle.authority_book.specs.Listed.{is_listed, is_child, with_changed, granted, suspended_as}
 use Rattle.authority_book.specs.Settings.{Settings}
-use Rattle.authority_book.specs.Limits.{AreKept}
+use Rattle.authority_book.specs.inner.Limits.{AreKept, AddsName}
+use Rattle.authority_book.specs.declared.rows.NameRow.{NameRow}
+use Rattle.names.specs.Name.{IsName}
 use Rattle.authority_book.specs.Verdict.{first_cause, refused_if, refused_at, is_anchor, most_authorities, most_children, most_origins, there_already, missing, count_with, too_many, roas_refusal, refusal_in_force, IsAccepted}
-use Rattle.authority_book.specs.Fold.{after}
+use Rattle.authority_book.specs.Fold.{after, after_all, empty_settings, fold_of, AcceptedInTurn, Taken}
 use Rattle.authority_book.proofs.Changes.{none_first, accepted-distinct, ascending-without, distinct_from_ascending}
 use Rattle.authority_book.proofs.Ascending.{ascending-with_each}
+use Rattle.authority_book.proofs.Sorted.{ascending-nil}
 
 not_refused : (cause : Bool) (refusal : Refusal) → refused_if cause refusal ≡ None → cause ≡ false
 not_refused true refusal none = absurd (cc)
@@ -86,61 +90,88 @@ changed_up configured added removed up accepted =
     ascending-with_each (without configured removed) added (ascending-without configured removed up)
     (accepted-distinct configured added removed (distinct_from_ascending configured up) accepted)
 
-pub kept-after : (s : Settings) (command : Command) → AreKept s.names s.children s.origins → IsAccepted s command →
+pub kept-after : (s : Settings) (command : Command) → AreKept s.names s.children s.origins → AddsName command → IsAccepted s command →
     AreKept (after s command).names (after s command).children (after s command).origins
-kept-after s (Add name signer) kept accepted =
+kept-after s (Add name signer) kept named accepted =
     let free = none_first (refused_if (not (is_anchor s)) AnchorOnly) _ (in_force s (Add name signer) accepted) in
     let fresh = none_first (refused_if (is_listed s.names name) NameTaken) _ free.1 in
     let few = none_first (refused_if (nat_le most_authorities (length s.names)) TooManyAuthorities) _ fresh.1 in
     let within = below_limit most_authorities (length s.names) (not_refused _ TooManyAuthorities few.0) in
     record {
       few_names = rw (length-append s.names (record { name = name; signer = signer } ∷ [])) within;
+      plain = All-append (λ (row : NameRow). IsName row.name) s.names (record { name = name; signer = signer } ∷ [])
+          kept.plain (All-cons (λ (row : NameRow). IsName row.name) (record { name = name; signer = signer }) [] named (All-nil (λ (row : NameRow). IsName row.name)));
       few_children = kept.few_children;
       few_origins = kept.few_origins;
       ascending = kept.ascending;
     }
-kept-after s Delete kept accepted = kept
-kept-after s (AddParent parent) kept accepted = kept
-kept-after s (AddChild child grant) kept accepted =
+kept-after s Delete kept named accepted = kept
+kept-after s (AddParent parent) kept named accepted = kept
+kept-after s (AddChild child grant) kept named accepted =
     let fresh = none_first (refused_if (is_child s.children child) ChildThere) _ (in_force s (AddChild child grant) accepted) in
     let within = below_limit most_children (length s.children) (not_refused _ TooManyChildren fresh.1) in
     record {
       few_names = kept.few_names;
+      plain = kept.plain;
       few_children = rw (length-append s.children (record { name = child; grant = grant; suspended = false } ∷ [])) within;
       few_origins = kept.few_origins;
       ascending = kept.ascending;
     }
-kept-after s (UpdateChild child grant) kept accepted = record {
+kept-after s (UpdateChild child grant) kept named accepted = record {
   few_names = kept.few_names;
+  plain = kept.plain;
   few_children = rw (length-with_changed s.children child (granted grant)) kept.few_children;
   few_origins = kept.few_origins;
   ascending = kept.ascending;
 }
-kept-after s (RemoveChild child) kept accepted =
+kept-after s (RemoveChild child) kept named accepted =
     let fewer = length-filter_le (λ c. not (bytes_eq c.name child)) s.children in
     record {
       few_names = kept.few_names;
+      plain = kept.plain;
       few_children = omega (arith, kept.few_children, fewer);
       few_origins = kept.few_origins;
       ascending = kept.ascending;
     }
-kept-after s (SuspendChild child) kept accepted = record {
+kept-after s (SuspendChild child) kept named accepted = record {
   few_names = kept.few_names;
+  plain = kept.plain;
   few_children = rw (length-with_changed s.children child (suspended_as true)) kept.few_children;
   few_origins = kept.few_origins;
   ascending = kept.ascending;
 }
-kept-after s (UnsuspendChild child) kept accepted = record {
+kept-after s (UnsuspendChild child) kept named accepted = record {
   few_names = kept.few_names;
+  plain = kept.plain;
   few_children = rw (length-with_changed s.children child (suspended_as false)) kept.few_children;
   few_origins = kept.few_origins;
   ascending = kept.ascending;
 }
-kept-after s (UpdateRoas added removed) kept accepted =
+kept-after s (UpdateRoas added removed) kept named accepted =
     let roas = in_force s (UpdateRoas added removed) accepted in
     record {
       few_names = kept.few_names;
+      plain = kept.plain;
       few_children = kept.few_children;
       few_origins = changed_few s.origins added removed roas;
       ascending = changed_up s.origins added removed kept.ascending roas;
     }
+
+up-after : (s : Settings) (command : Command) → IsAscending s.origins → IsAccepted s command → IsAscending (after s command).origins
+up-after s (Add name signer) up accepted = up
+up-after s Delete up accepted = up
+up-after s (AddParent parent) up accepted = up
+up-after s (AddChild child grant) up accepted = up
+up-after s (UpdateChild child grant) up accepted = up
+up-after s (RemoveChild child) up accepted = up
+up-after s (SuspendChild child) up accepted = up
+up-after s (UnsuspendChild child) up accepted = up
+up-after s (UpdateRoas added removed) up accepted = changed_up s.origins added removed up (in_force s (UpdateRoas added removed) accepted)
+
+up-all : (s : Settings) (commands : List Command) → IsAscending s.origins → AcceptedInTurn s commands → IsAscending (after_all s commands).origins
+up-all s [] up accepted = up
+up-all s (command ∷ commands) up accepted = up-all (after s command) commands (up-after s command up accepted.0) accepted.1
+
+-- The origins that accepted commands come to ascend.
+pub up-fold : (desk : ℕ) (commands : List Command) → Taken desk commands → IsAscending (fold_of desk commands).origins
+up-fold desk commands taken = up-all (empty_settings desk) commands ascending-nil taken

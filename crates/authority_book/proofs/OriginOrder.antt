@@ -11,7 +11,7 @@ use Rattle.std.proofs.lemmas.Cmp.{eq_by_cmp_equiv, tied_back}
 use Rattle.std.proofs.lemmas.List.Folds.{list_any_none, list_any_at}
 use Rattle.std.proofs.lemmas.List.Sorted.{searchable_from_sorted}
 use Rattle.std.proofs.lemmas.Map.Keys.{Less-from_sorted}
-pub use Rattle.origins.specs.Ordered.{origin_total}
+pub use Rattle.origins.specs.laws.Ordered.{origin_total}
 use Rattle.origins.specs.declared.Origin.{Origin}
 use Rattle.authority_book.specs.Origins.{origin_cmp, is_same, is_there, IsAscending}
 

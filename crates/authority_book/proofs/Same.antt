@@ -3,7 +3,7 @@ use Rattle.std.proofs.Common.{◌≡◌, true, subst, List}
 use Rattle.std.specs.Prelude.{◌↔◌, IsTrue, Contains}
 use Rattle.std.proofs.lemmas.Map.Views.{tells_apart, Contains-from_any, list_any-from_Contains}
 use Rattle.origins.specs.declared.Origin.{Origin}
-use Rattle.origins.specs.Ordered.{exact_origin}
+use Rattle.origins.specs.laws.Ordered.{exact_origin}
 use Rattle.authority_book.specs.Origins.{is_same, is_there}
 use Rattle.authority_book.proofs.OriginOrder.{same_laws}
 

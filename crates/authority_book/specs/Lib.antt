@@ -1,9 +1,7 @@
 pub mod Origins
-pub mod Index
 pub mod Listed
 pub mod Settings
 pub mod Refusals
 pub mod Verdict
 pub mod Fold
-pub mod Limits
-pub mod Kept
+pub mod inner

@@ -1,6 +1,8 @@
 //! The commands of an authority.
 
 ghost use Rattle.std.specs.Prelude.{◌≡◌, IfOk};
+ghost use Rattle.names.specs.Name.{IsName};
+ghost use Rattle.authority_book.specs.inner.Limits.{AddsName};
 
 use crate::origin_lists::OriginList;
 use names::Name;
@@ -78,5 +80,22 @@ impl Command {
                 removed: removed.copy(alloc)?,
             },
         })
+    }
+}
+
+// What the type says: a name is one.
+fn is_name(name: &Name)
+    ensures { IsName name.now }
+{
+    let _bytes = name.as_bytes();
+}
+
+/// What the type says: a name that the command adds is one.
+pub fn adds_name(command: &Command)
+    ensures { AddsName command.now }
+{
+    match command {
+        Command::Add { name, .. } => is_name(name),
+        _ => {}
     }
 }

@@ -1,17 +1,18 @@
 //! The configuration of an authority.
 
-ghost use Rattle.std.specs.Prelude.{◌≡◌, ◌≤◌, ◌<◌, ◌^◌, ◌-◌, ◌+◌, ◌++◌, ◌∷◌, [], ℕ, List, Option, length, IfOk, OnOk, OnErr, IsOk, option_map};
+ghost use Rattle.std.specs.Prelude.{◌≡◌, ◌≤◌, ◌<◌, ◌^◌, ◌-◌, ◌+◌, ◌++◌, ◌∷◌, [], ℕ, List, Option, length, All, IfOk, OnOk, OnErr, IsOk, option_map};
 ghost use Rattle.std.specs.Vec.{vec_capacity, vec_len};
 ghost use Rattle.authority_book.specs.Origins.{is_there, IsAscending};
 ghost use Rattle.authority_book.specs.Listed.{place_of, child_of};
-ghost use Rattle.authority_book.specs.Limits.{AreKept};
+ghost use Rattle.authority_book.specs.inner.Limits.{AreKept, AddsName};
+ghost use Rattle.names.specs.Name.{IsName};
 ghost use Rattle.authority_book.specs.Settings.{ConfigValue, Covers, plus};
 
 use crate::children::{copy_children, push_child, remove_child, set_grant, set_suspended};
-use crate::commands::Command;
+use crate::commands::{Command, adds_name};
 use crate::rows::{Child, NameRow};
 use crate::sorted_origins::SortedOrigins;
-use names::Name;
+use names::{ANCHOR, Name};
 use origins::Origin;
 use std::alloc::{AllocError, Global};
 use std::marker::Model;
@@ -67,7 +68,7 @@ impl Config {
         let mut names = Vec::new(alloc);
         if desk == 0 {
             names.push(NameRow {
-                name: Name::read("ta").unwrap(),
+                name: Name::read(ANCHOR).unwrap(),
                 signer: 0,
             })?;
         }
@@ -95,11 +96,13 @@ impl Config {
     pub fn names(&self) -> &[NameRow]
         ensures names { result.now ≡ self.now.settings.names }
         ensures limit { length result.now ≤ most_authorities }
+        ensures plain { All (λ row. IsName row.name) result.now }
     {
         self.names.as_slice()
     }
 
-    /// The place of the name among the names of the tree.
+    /// The place of the name among the names of the tree. An index from 0, which is the number of
+    /// its desk.
     pub fn place_of(&self, name: &Name) -> Option<usize>
         ensures { result ≡ place_of self.now.settings.names name.now }
     {
@@ -223,6 +226,17 @@ impl Config {
             → self.new.settings ≡ fold_of desk (commands ++ command ∷ []) }
         ensures taken { (desk : ℕ) (commands : List Command) → self.old.settings ≡ fold_of desk commands
             → Taken desk commands → Taken desk (commands ++ command ∷ []) }
+    {
+        adds_name(&command);
+        self.carry_out(command);
+    }
+
+    fn carry_out(&mut self, command: Command)
+        requires named { AddsName command }
+        requires accepted { IsAccepted self.old.settings command }
+        requires reserved { Covers self.old.room (needs command) }
+        ensures settings { self.new.settings ≡ after self.old.settings command }
+        ensures room { Covers (plus self.new.room (needs command)) self.old.room }
     {
         match command {
             Command::Add { name, signer } => self.names.push(NameRow { name, signer }).unwrap(),

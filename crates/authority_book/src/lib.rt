@@ -14,8 +14,8 @@ mod verdicts;
 
 pub use commands::Command;
 pub use configs::Config;
-pub use laws::membership_is_by_equality;
+pub use laws::{accepted_origins_ascend, membership_is_by_equality};
 pub use origin_lists::OriginList;
 pub use refusals::Refusal;
 pub use rows::{Child, NameRow};
-pub use verdicts::{verdict, verdict_unasked};
+pub use verdicts::{MOST_AUTHORITIES, verdict, verdict_unasked};

@@ -4,7 +4,7 @@ ghost use Rattle.std.specs.Prelude.{◌≡◌, ◌↔◌, ◌<◌, ◌^◌, [], 
 ghost use Rattle.origins.specs.declared.Origin.{Origin};
 ghost use Rattle.std.specs.List.Sorted.{IsSorted};
 ghost use Rattle.authority_book.specs.Origins.{origin_cmp, is_there, first_repeated, IsAscending};
-ghost use Rattle.authority_book.specs.Index.{IsIndexed};
+ghost use Rattle.authority_book.specs.inner.Index.{IsIndexed};
 
 use origins::Origin;
 use std::alloc::{AllocError, Global};

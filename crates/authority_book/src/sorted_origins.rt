@@ -4,7 +4,7 @@ ghost use Rattle.std.specs.Prelude.{◌≡◌, ◌+◌, ◌-◌, ◌<◌, ◌≤
 ghost use Rattle.std.specs.List.{IsDistinct};
 ghost use Rattle.std.specs.Vec.{vec_capacity, vec_len};
 ghost use Rattle.authority_book.specs.Origins.{is_same, is_there, without, with_one, with_each, IsAscending};
-ghost use Rattle.authority_book.specs.Kept.{KeptOrigins};
+ghost use Rattle.authority_book.specs.inner.Kept.{KeptOrigins};
 ghost use Rattle.authority_book.specs.Verdict.{roas_refusal};
 
 use crate::origin_lists::OriginList;

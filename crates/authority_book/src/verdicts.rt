@@ -18,7 +18,7 @@ use origins::Origin;
 const ANCHOR: u32 = 0;
 
 /// How many authorities a tree has at most, the anchor among them.
-const MOST_AUTHORITIES: usize = 64;
+pub const MOST_AUTHORITIES: usize = 64;
 
 /// How many children an authority has at most.
 const MOST_CHILDREN: usize = 63;

@@ -5,13 +5,13 @@ use Rattle.std.specs.List.{list_all}
 use Rattle.std.proofs.lemmas.Bool.{and_parts, ltb-true}
 use Rattle.std.proofs.lemmas.Str.{IsUtf8-from_ascii}
 use Rattle.res_sets.specs.declared.numbers.Range.{Range}
-use Rattle.res_forms.specs.Formats.{span_of}
+use Rattle.res_ext.specs.Formats.{span_of}
 use Rattle.std.specs.Prelude.{◌↔◌, IsSome, IfSome}
 use Rattle.std.specs.Option.{option_map}
 use Rattle.signer_api.specs.declared.values.PublicKey.{PublicKey}
 use Rattle.signer_api.specs.PublicKey.{IsPublicKey}
 use Rattle.cert_obj.specs.Formats.{is_public_key}
-use Rattle.cert_obj.specs.Laws.{key-tested, tested-key}
+use Rattle.cert_obj.specs.laws.CertLaws.{key-tested, tested-key}
 use Rattle.cert_obj.specs.Values.{is_empty_list, is_ascii_byte, is_uri}
 
 -- Whether a set is empty.

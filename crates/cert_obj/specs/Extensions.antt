@@ -2,9 +2,9 @@
 -- section 4.8), in the order in which they stand.
 use Rattle.std.specs.Prelude.{ℕ, if◌then◌else◌, Option, Some, None, List, [], ◌∷◌}
 use Rattle.der.specs.Tags as tag
-use Rattle.der_forms.specs.Form.{Whole, Front}
-use Rattle.der_forms.specs.Forms.{content, within, sole, both, only, preceded, tested}
-use Rattle.der_forms.specs.Leaves.{exactly}
+use Rattle.der.specs.Form.{Whole, Front}
+use Rattle.der.specs.Forms.{content, within, sole, both, only, preceded, tested}
+use Rattle.der.specs.Leaves.{exactly}
 use Rattle.object_parts.specs.declared.identifiers.TheConstants.{BASIC_CONSTRAINTS, SUBJECT_KEY_IDENTIFIER, KEY_USAGE, DISTRIBUTION_POINTS, AUTHORITY_INFORMATION, SUBJECT_INFORMATION, POLICIES, CA_ISSUERS, CA_REPOSITORY, RPKI_MANIFEST, RPKI_NOTIFY, SIGNED_OBJECT}
 use Rattle.object_parts.specs.FrameFormats.{identifier, extension, critical_extension}
 use Rattle.cert_obj.specs.Values.{is_uri}
@@ -52,28 +52,28 @@ unfoldable pub access : List ℕ → Front (List ℕ)
 access method = within tag.sequence (preceded (identifier method) (sole tag.primitive_6 uri))
 
 -- Authority information access: the issuer's certificate (RFC 6487 section 4.8.7).
-unfoldable pub issuer_places : Whole (List ℕ)
-issuer_places = sole tag.sequence (only (access CA_ISSUERS))
+unfoldable pub issuer_access_uris : Whole (List ℕ)
+issuer_access_uris = sole tag.sequence (only (access CA_ISSUERS))
 
 abbrev pub issuer_information : Front (List ℕ)
-issuer_information = extension AUTHORITY_INFORMATION issuer_places
+issuer_information = extension AUTHORITY_INFORMATION issuer_access_uris
 
 -- Subject information access of an authority: its folder, its manifest (section 4.8.8.1) and the
 -- notification file (RFC 8182 section 3.2).
-unfoldable pub authority_places : Whole (List ℕ × (List ℕ × List ℕ))
-authority_places =
+unfoldable pub authority_access_uris : Whole (List ℕ × (List ℕ × List ℕ))
+authority_access_uris =
     sole tag.sequence (both (access CA_REPOSITORY)
     (both (access RPKI_MANIFEST) (only (access RPKI_NOTIFY))))
 
 abbrev pub authority_information : Front (List ℕ × (List ℕ × List ℕ))
-authority_information = extension SUBJECT_INFORMATION authority_places
+authority_information = extension SUBJECT_INFORMATION authority_access_uris
 
 -- Subject information access of an end-entity: its object (section 4.8.8.2).
-unfoldable pub entity_places : Whole (List ℕ)
-entity_places = sole tag.sequence (only (access SIGNED_OBJECT))
+unfoldable pub entity_access_uris : Whole (List ℕ)
+entity_access_uris = sole tag.sequence (only (access SIGNED_OBJECT))
 
 abbrev pub entity_information : Front (List ℕ)
-entity_information = extension SUBJECT_INFORMATION entity_places
+entity_information = extension SUBJECT_INFORMATION entity_access_uris
 
 -- Policies: the RPKI's, without qualifiers (section 4.8.9, RFC 6484 section 1.2).
 abbrev pub rpki_policies : List ℕ

@@ -6,9 +6,9 @@ use Rattle.sha2.specs.Sha256.{sha256}
 use Rattle.signer_api.specs.PublicKey.{key_header, key_exponent}
 use Rattle.der.specs.Tags as tag
 use Rattle.der.specs.Spelling.{spelled}
-use Rattle.der_forms.specs.Form.{Whole, Front}
-use Rattle.der_forms.specs.Forms.{within, sole, both, after, preceded, tested, choice, mapped}
-use Rattle.der_forms.specs.Leaves.{number, constant, octet_bits, are_same}
+use Rattle.der.specs.Form.{Whole, Front}
+use Rattle.der.specs.Forms.{within, sole, both, after, preceded, tested, choice, mapped}
+use Rattle.der.specs.Leaves.{number, constant, octet_bits, are_same}
 use Rattle.object_parts.specs.TimeFormats.{period}
 use Rattle.object_parts.specs.NameFormats.{name}
 use Rattle.object_parts.specs.FrameFormats.{signature_algorithm, key_algorithm, issuer_key, signed}
@@ -18,7 +18,7 @@ use Rattle.cert_obj.specs.Values.{Sets, UriTexts, CertValue, SignedCert, IsHeld,
 use Rattle.cert_obj.specs.Extensions.{basic_constraints, subject_key, authority_usage, entity_usage, key_usage, distribution, issuer_information, authority_information, entity_information, policies}
 use Rattle.cert_obj.specs.Holdings.{held, entity_held}
 
--- ---- the extensions of each kind
+-- ---- the extensions of each kind (RFC 6487 section 4.8)
 
 -- What an authority's extensions say behind keyUsage: its places and its resources.
 abbrev pub Published : Type 0
@@ -30,7 +30,8 @@ published = both authority_information (preceded policies held)
 unfoldable pub anchor_rest : Whole Published
 anchor_rest = preceded (key_usage authority_usage) published
 
--- The URIs of the issuer's CRL and certificate, and what stands behind them.
+-- The URIs of the issuer's CRL and certificate, and what stands behind them (RFC 6487 sections
+-- 4.8.6 and 4.8.7).
 abbrev pub IssuedAuthority : Type 0
 IssuedAuthority = List ℕ × (List ℕ × Published)
 
@@ -76,40 +77,40 @@ abbrev pub Kinds : Type 0
 Kinds = (Published ⊎ IssuedAuthority) ⊎ IssuedEntity
 
 abbrev pub of_kinds : Kinds → Extended
-of_kinds (inl (inl p)) = record {
+of_kinds (inl (inl ((folder, (manifest, notify)), held))) = record {
   kind = Anchor;
-  held = p.1;
+  held = held;
   uris = record {
     crl = [];
     issuer = [];
-    folder = p.0.0;
-    manifest = p.0.1.0;
-    notify = p.0.1.1;
+    folder = folder;
+    manifest = manifest;
+    notify = notify;
     object = [];
   };
 }
-of_kinds (inl (inr x)) = record {
+of_kinds (inl (inr (crl, (issuer, ((folder, (manifest, notify)), held))))) = record {
   kind = Authority;
-  held = x.1.1.1;
+  held = held;
   uris = record {
-    crl = x.0;
-    issuer = x.1.0;
-    folder = x.1.1.0.0;
-    manifest = x.1.1.0.1.0;
-    notify = x.1.1.0.1.1;
+    crl = crl;
+    issuer = issuer;
+    folder = folder;
+    manifest = manifest;
+    notify = notify;
     object = [];
   };
 }
-of_kinds (inr x) = record {
+of_kinds (inr (crl, (issuer, (object, held)))) = record {
   kind = EndEntity;
-  held = x.1.1.1;
+  held = held;
   uris = record {
-    crl = x.0;
-    issuer = x.1.0;
+    crl = crl;
+    issuer = issuer;
     folder = [];
     manifest = [];
     notify = [];
-    object = x.1.1.0;
+    object = object;
   };
 }
 
@@ -133,7 +134,7 @@ kinds issuer subject =
 unfoldable pub extensions : List ℕ → List ℕ → Whole Extended
 extensions issuer subject = sole tag.context_3 (sole tag.sequence (kinds issuer subject))
 
--- ---- the certificate
+-- ---- the certificate (RFC 5280 section 4.1)
 
 -- Whether 270 bytes are a public key (RFC 7935 section 3).
 unfoldable pub is_public_key : List ℕ → Bool
@@ -145,7 +146,8 @@ is_public_key bytes =
 abbrev pub is_key_of : List ℕ → List ℕ → Bool
 is_key_of subject bytes = are_same (sha1 bytes) subject && is_public_key bytes
 
--- The subject's key, whose identifier the subject's name has.
+-- The subject's key (RFC 6487 section 4.7), whose identifier the subject's name has (section
+-- 4.5).
 unfoldable pub key_of : List ℕ → Front (List ℕ)
 key_of subject =
     within tag.sequence (preceded key_algorithm
@@ -159,7 +161,7 @@ subject issuer = after name (λ subject. both (key_of subject) (extensions issue
 unfoldable pub body : List ℕ → Whole ((ℕ × ℕ) × (List ℕ × (List ℕ × Extended)))
 body issuer = both period (subject issuer)
 
--- Version 3.
+-- Version 3 (RFC 6487 section 4.1).
 abbrev pub version : Front (Unit {0})
 version = constant tag.context_0 (0x02 ∷ 0x01 ∷ 0x02 ∷ [])
 
@@ -167,15 +169,15 @@ abbrev pub Parts : Type 0
 Parts = ℕ × (List ℕ × ((ℕ × ℕ) × (List ℕ × (List ℕ × Extended))))
 
 abbrev pub of_parts : Parts → CertValue
-of_parts x = record {
-  serial = x.0;
-  issuer = x.1.0;
-  not_before = x.1.1.0.0;
-  not_after = x.1.1.0.1;
-  key = x.1.1.1.1.0;
-  kind = x.1.1.1.1.1.kind;
-  held = x.1.1.1.1.1.held;
-  uris = x.1.1.1.1.1.uris;
+of_parts (serial, (issuer, ((not_before, not_after), (subject, (key, extended))))) = record {
+  serial = serial;
+  issuer = issuer;
+  not_before = not_before;
+  not_after = not_after;
+  key = key;
+  kind = extended.kind;
+  held = extended.held;
+  uris = extended.uris;
 }
 
 abbrev pub extended_of : CertValue → Extended
@@ -185,7 +187,7 @@ abbrev pub parts_of : CertValue → Parts
 parts_of c =
     (c.serial, (c.issuer, ((c.not_before, c.not_after), (sha1 c.key, (c.key, extended_of c)))))
 
--- The content of what is signed.
+-- The content of what is signed (RFC 5280 section 4.1.2).
 unfoldable pub tbs_content : Whole CertValue
 tbs_content =
     mapped (preceded version (both number (preceded signature_algorithm (after name body))))
@@ -196,7 +198,7 @@ unfoldable pub signed_bytes : CertValue → List ℕ
 signed_bytes c = spelled tag.sequence (tbs_content.spelling c)
 
 abbrev pub of_signed : CertValue × List ℕ × List ℕ → SignedCert
-of_signed x = record { cert = x.0; digest = sha256 x.1; signature = x.2 }
+of_signed (cert, bytes, signature) = record { cert = cert; digest = sha256 bytes; signature = signature }
 
 abbrev pub signed_of : SignedCert → CertValue × List ℕ × List ℕ
 signed_of y = (y.cert, signed_bytes y.cert, y.signature)
@@ -208,6 +210,6 @@ pub record IsSignedCert (y : SignedCert) : Type 0 where
   pub digest : y.digest ≡ sha256 (signed_bytes y.cert)
   pub signature : length y.signature ≡ 256
 
--- A certificate with its signature.
+-- A certificate with its signature (RFC 5280 section 4.1.1).
 unfoldable pub signed_cert : Whole SignedCert
 signed_cert = mapped (signed tbs_content) of_signed signed_of IsSignedCert

@@ -1,10 +1,10 @@
 -- The formats of a certificate's resources (RFC 6487 sections 4.8.10 and 4.8.11).
 use Rattle.std.specs.Prelude.{ℕ, Bool, true, not, ◌&&◌, if◌then◌else◌, Option, Some, None, List, []}
-use Rattle.der_forms.specs.Form.{Whole, Front}
-use Rattle.der_forms.specs.Forms.{ends, tested, possibly, through}
+use Rattle.der.specs.Form.{Whole, Front}
+use Rattle.der.specs.Forms.{ends, tested, possibly, through}
 use Rattle.object_parts.specs.declared.identifiers.TheConstants.{IP_BLOCKS, AS_IDENTIFIERS}
 use Rattle.object_parts.specs.FrameFormats.{critical_extension}
-use Rattle.res_forms.specs.Formats.{as_identifiers, ip_blocks, has_numbers}
+use Rattle.res_ext.specs.Formats.{as_identifiers, ip_blocks, has_numbers}
 use Rattle.cert_obj.specs.declared.values.CertKind.TheVariants.{EndEntity}
 use Rattle.cert_obj.specs.Values.{Sets, is_empty_list, IsHeld, may_hold}
 
@@ -22,11 +22,11 @@ abbrev pub has_addresses : Addresses → Bool
 has_addresses None = true
 has_addresses (Some ip) = not (is_empty_list ip.0 && is_empty_list ip.1)
 
--- IP address blocks, which aren't empty.
+-- IP address blocks, which aren't empty (RFC 6487 section 4.8.10).
 abbrev pub addresses : Front Addresses
 addresses = critical_extension IP_BLOCKS (tested ip_blocks has_addresses)
 
--- AS identifiers, which aren't empty.
+-- AS identifiers, which aren't empty (RFC 6487 section 4.8.11).
 abbrev pub numbers : Front Numbers
 numbers = critical_extension AS_IDENTIFIERS (tested as_identifiers has_numbers)
 
@@ -47,7 +47,7 @@ joined (Some (Some ip)) (Some None) = None
 joined (Some (Some ip)) (Some (Some asn)) = some_sets asn ip.0 ip.1
 
 unfoldable pub held_in : Option Addresses × (Option Numbers × Unit {0}) → Option (Option Sets)
-held_in x = joined x.0 x.1.0
+held_in (addresses, (numbers, end)) = joined addresses numbers
 
 -- Sets without a number have no extension.
 abbrev pub listed_addresses : List (ℕ × ℕ) → List (ℕ × ℕ) → Option Addresses
@@ -65,6 +65,6 @@ held_out (Some sets) = (listed_addresses sets.v4 sets.v6, (listed_numbers sets.a
 unfoldable pub held : Whole (Option Sets)
 held = through (possibly addresses (possibly numbers ends)) held_in held_out IsHeld
 
--- Those of an end-entity.
+-- Those of an end-entity (RFC 9582 section 5).
 unfoldable pub entity_held : Whole (Option Sets)
 entity_held = tested held (may_hold EndEntity)

@@ -1,9 +1,6 @@
 pub mod Values
 pub mod Extensions
-pub mod ExtensionLaws
 pub mod Holdings
-pub mod HoldingLaws
-pub mod IdentifierLaws
 pub mod Formats
-pub mod Laws
-pub mod Views
+pub mod inner
+pub mod laws

@@ -1,4 +1,4 @@
--- What a certificate says, and which certificates have a spelling.
+-- What a certificate says, and which certificates have a spelling (RFC 6487 section 4).
 use Rattle.std.specs.Prelude.{◌≡◌, ℕ, ◌<◌, ◌^◌, Bool, true, false, nat_lt, Option, Some, None, List, [], ◌∷◌, length, ⊤, string_bytes}
 use Rattle.std.specs.List.{list_all}
 use Rattle.der.specs.Grammar.{AreBytes}
@@ -8,8 +8,8 @@ use Rattle.res_sets.specs.declared.numbers.Family.{Family}
 use Rattle.res_sets.specs.declared.numbers.Family.TheVariants.{Asn, V4, V6}
 use Rattle.res_sets.specs.declared.holdings.Resources.{Resources}
 use Rattle.res_sets.specs.Numbers.{family_end}
-use Rattle.res_forms.specs.Formats.{are_canonical}
-use Rattle.res_forms.specs.Views.{set_view}
+use Rattle.res_ext.specs.Formats.{are_canonical}
+use Rattle.res_ext.specs.Views.{set_view}
 use Rattle.cert_obj.specs.declared.values.CertKind.{CertKind}
 use Rattle.cert_obj.specs.declared.values.CertKind.TheVariants.{Anchor, Authority, EndEntity}
 use Rattle.cert_obj.specs.declared.values.Held.{Held}
@@ -35,7 +35,7 @@ pub record UriTexts : Type 0 where
 
 -- What is signed (RFC 5280 section 4.1.2): serial, the 20 bytes of the identifier of the issuer's
 -- key, the times, the 270 bytes of the key, and what the extensions say. The resources are None
--- where they are the issuer's.
+-- where they are the issuer's. Times are in seconds since 1970.
 pub record CertValue : Type 0 where
   pub serial : ℕ
   pub issuer : List ℕ
@@ -100,19 +100,20 @@ abbrev pub IsUriIf : Bool → List ℕ → Type 0
 IsUriIf true uri = is_uri uri ≡ true
 IsUriIf false uri = uri ≡ []
 
--- Another key signs it, whose CRL and certificate it names.
+-- Another key signs it, whose CRL and certificate it names (RFC 6487 sections 4.8.6 and 4.8.7).
 abbrev pub is_issued : CertKind → Bool
 is_issued Anchor = false
 is_issued Authority = true
 is_issued EndEntity = true
 
--- Its key signs certificates, a CRL and a manifest, and it says where they are published.
+-- Its key signs certificates, a CRL and a manifest, and it says where they are published (RFC
+-- 6487 section 4.8.8.1).
 abbrev pub is_authority : CertKind → Bool
 is_authority Anchor = true
 is_authority Authority = true
 is_authority EndEntity = false
 
--- Its key signs one object, which it names.
+-- Its key signs one object, which it names (RFC 6487 section 4.8.8.2).
 abbrev pub is_entity : CertKind → Bool
 is_entity Anchor = false
 is_entity Authority = false

@@ -1,10 +1,11 @@
-//! Writers of the extensions but for the resources.
+//! Writers of the extensions but for the resources (RFC 5280 section 4.2, RFC 6487 sections 4.8.1
+//! to 4.8.9).
 
 ghost use Rattle.std.specs.Prelude.{◌≡◌, ◌++◌, OnOk};
-ghost use Rattle.cert_obj.specs.Extensions.{basic_constraints, subject_key, key_usage, distribution_points, distribution, access, issuer_places, issuer_information, authority_places, authority_information, entity_places, entity_information, policies};
+ghost use Rattle.cert_obj.specs.Extensions.{basic_constraints, subject_key, key_usage, distribution_points, distribution, access, issuer_access_uris, issuer_information, authority_access_uris, authority_information, entity_access_uris, entity_information, policies};
 
 use crate::fixed::{CA_TRUE, RPKI_POLICIES};
-use der_forms::tags::{CONTEXT_0, OCTET_STRING, PRIMITIVE_6, SEQUENCE};
+use der::tags::{CONTEXT_0, OCTET_STRING, PRIMITIVE_6, SEQUENCE};
 use object_parts::identifiers::{
     AUTHORITY_INFORMATION, BASIC_CONSTRAINTS, CA_ISSUERS, CA_REPOSITORY, DISTRIBUTION_POINTS,
     KEY_USAGE, POLICIES, RPKI_MANIFEST, RPKI_NOTIFY, SIGNED_OBJECT, SUBJECT_INFORMATION,
@@ -13,14 +14,14 @@ use object_parts::identifiers::{
 use object_parts::{push_critical_extension, push_identifier, push_key_identifier};
 use std::alloc::{AllocError, Global};
 
-/// Appends that it is an authority's.
+/// Appends that it is an authority's (RFC 6487 section 4.8.1).
 pub fn push_basic_constraints(alloc: Global, out: &mut Vec<u8>) -> Result<(), AllocError>
     ensures { OnOk result (out.new.items ≡ out.old.items ++ basic_constraints.spelling tt) }
 {
     push_critical_extension(alloc, out, &BASIC_CONSTRAINTS, &CA_TRUE)
 }
 
-/// Appends the identifier of the subject's key.
+/// Appends the identifier of the subject's key (RFC 6487 section 4.8.2).
 #[tactic(auto, using(std::proofs::Common::append_assoc))]
 pub fn push_subject_key(
     alloc: Global,
@@ -37,7 +38,7 @@ pub fn push_subject_key(
     der::enclose(alloc, out, from, SEQUENCE)
 }
 
-/// Appends the usage of the key.
+/// Appends the usage of the key (RFC 6487 section 4.8.4).
 pub fn push_key_usage(alloc: Global, out: &mut Vec<u8>, usage: &[u8; 4]) -> Result<(), AllocError>
     ensures { OnOk result (out.new.items ≡ out.old.items ++ (key_usage usage.now).spelling tt) }
 {
@@ -57,7 +58,7 @@ fn push_distribution_points(alloc: Global, out: &mut Vec<u8>, crl: &str) -> Resu
     der::enclose(alloc, out, from, SEQUENCE)
 }
 
-/// Appends where the issuer's CRL is.
+/// Appends where the issuer's CRL is (RFC 6487 section 4.8.6).
 #[tactic(auto, using(std::proofs::Common::append_assoc))]
 pub fn push_distribution(alloc: Global, out: &mut Vec<u8>, crl: &str) -> Result<(), AllocError>
     ensures { OnOk result (out.new.items ≡ out.old.items ++ distribution.spelling crl.now) }
@@ -87,16 +88,16 @@ fn push_access(
 }
 
 /// Appends the value of the issuer's information.
-#[tactic(auto, unfolding(crate::specs::Extensions::issuer_places))]
-fn push_issuer_places(alloc: Global, out: &mut Vec<u8>, issuer: &str) -> Result<(), AllocError>
-    ensures { OnOk result (out.new.items ≡ out.old.items ++ issuer_places.spelling issuer.now) }
+#[tactic(auto, unfolding(crate::specs::Extensions::issuer_access_uris))]
+fn push_issuer_access_uris(alloc: Global, out: &mut Vec<u8>, issuer: &str) -> Result<(), AllocError>
+    ensures { OnOk result (out.new.items ≡ out.old.items ++ issuer_access_uris.spelling issuer.now) }
 {
     let from = out.len();
     push_access(alloc, out, &CA_ISSUERS, issuer)?;
     der::enclose(alloc, out, from, SEQUENCE)
 }
 
-/// Appends where the issuer's certificate is.
+/// Appends where the issuer's certificate is (RFC 6487 section 4.8.7).
 #[tactic(auto, using(std::proofs::Common::append_assoc))]
 pub fn push_issuer_information(
     alloc: Global,
@@ -109,14 +110,14 @@ pub fn push_issuer_information(
     let from = out.len();
     push_identifier(alloc, out, &AUTHORITY_INFORMATION)?;
     let value = out.len();
-    push_issuer_places(alloc, out, issuer)?;
+    push_issuer_access_uris(alloc, out, issuer)?;
     der::enclose(alloc, out, value, OCTET_STRING)?;
     der::enclose(alloc, out, from, SEQUENCE)
 }
 
 /// Appends the value of an authority's information.
-#[tactic(auto, using(std::proofs::Common::append_assoc), unfolding(crate::specs::Extensions::authority_places))]
-fn push_authority_places(
+#[tactic(auto, using(std::proofs::Common::append_assoc), unfolding(crate::specs::Extensions::authority_access_uris))]
+fn push_authority_access_uris(
     alloc: Global,
     out: &mut Vec<u8>,
     folder: &str,
@@ -124,7 +125,7 @@ fn push_authority_places(
     notify: &str,
 ) -> Result<(), AllocError>
     ensures { OnOk result (out.new.items ≡ out.old.items
-        ++ authority_places.spelling (folder.now, (manifest.now, notify.now))) }
+        ++ authority_access_uris.spelling (folder.now, (manifest.now, notify.now))) }
 {
     let from = out.len();
     push_access(alloc, out, &CA_REPOSITORY, folder)?;
@@ -133,7 +134,7 @@ fn push_authority_places(
     der::enclose(alloc, out, from, SEQUENCE)
 }
 
-/// Appends where an authority publishes.
+/// Appends where an authority publishes (RFC 6487 section 4.8.8.1, RFC 8182 section 3.2).
 #[tactic(auto, using(std::proofs::Common::append_assoc))]
 pub fn push_authority_information(
     alloc: Global,
@@ -148,22 +149,22 @@ pub fn push_authority_information(
     let from = out.len();
     push_identifier(alloc, out, &SUBJECT_INFORMATION)?;
     let value = out.len();
-    push_authority_places(alloc, out, folder, manifest, notify)?;
+    push_authority_access_uris(alloc, out, folder, manifest, notify)?;
     der::enclose(alloc, out, value, OCTET_STRING)?;
     der::enclose(alloc, out, from, SEQUENCE)
 }
 
 /// Appends the value of an end-entity's information.
-#[tactic(auto, unfolding(crate::specs::Extensions::entity_places))]
-fn push_entity_places(alloc: Global, out: &mut Vec<u8>, object: &str) -> Result<(), AllocError>
-    ensures { OnOk result (out.new.items ≡ out.old.items ++ entity_places.spelling object.now) }
+#[tactic(auto, unfolding(crate::specs::Extensions::entity_access_uris))]
+fn push_entity_access_uris(alloc: Global, out: &mut Vec<u8>, object: &str) -> Result<(), AllocError>
+    ensures { OnOk result (out.new.items ≡ out.old.items ++ entity_access_uris.spelling object.now) }
 {
     let from = out.len();
     push_access(alloc, out, &SIGNED_OBJECT, object)?;
     der::enclose(alloc, out, from, SEQUENCE)
 }
 
-/// Appends where an end-entity's object is.
+/// Appends where an end-entity's object is (RFC 6487 section 4.8.8.2).
 #[tactic(auto, using(std::proofs::Common::append_assoc))]
 pub fn push_entity_information(
     alloc: Global,
@@ -176,12 +177,12 @@ pub fn push_entity_information(
     let from = out.len();
     push_identifier(alloc, out, &SUBJECT_INFORMATION)?;
     let value = out.len();
-    push_entity_places(alloc, out, object)?;
+    push_entity_access_uris(alloc, out, object)?;
     der::enclose(alloc, out, value, OCTET_STRING)?;
     der::enclose(alloc, out, from, SEQUENCE)
 }
 
-/// Appends the policy.
+/// Appends the policy (RFC 6487 section 4.8.9).
 pub fn push_policies(alloc: Global, out: &mut Vec<u8>) -> Result<(), AllocError>
     ensures { OnOk result (out.new.items ≡ out.old.items ++ policies.spelling tt) }
 {

@@ -1,29 +1,29 @@
-//! The extensions that a kind and a key fix.
+//! The extensions that a kind and a key fix (RFC 6487 sections 4.8.1, 4.8.2, 4.8.4 and 4.8.9).
 
-ghost use Rattle.der_forms.specs.Place.{place};
-ghost use Rattle.der_forms.specs.Outcome.{Gives};
+ghost use Rattle.der.specs.Part.{place};
+ghost use Rattle.der.specs.Outcome.{Gives};
 ghost use Rattle.cert_obj.specs.Extensions.{basic_constraints, subject_key, key_usage, policies};
 
-use der_forms::tags::OCTET_STRING;
-use der_forms::{Part, ShapeFault, exactly};
+use der::tags::OCTET_STRING;
+use der::{Part, ShapeFault, exactly};
 use object_parts::identifiers::{BASIC_CONSTRAINTS, KEY_USAGE, POLICIES, SUBJECT_KEY_IDENTIFIER};
 use object_parts::{critical_extension, extension};
 
-/// The value of basicConstraints: an authority, and no length of paths.
+/// The value of basicConstraints: an authority, and no length of paths (RFC 6487 section 4.8.1).
 pub const CA_TRUE: [u8; 5] = [0x30, 0x03, 0x01, 0x01, 0xff];
 
-/// The usage of an authority's key: keyCertSign and cRLSign.
+/// The usage of an authority's key: keyCertSign and cRLSign (RFC 6487 section 4.8.4).
 pub const AUTHORITY_USAGE: [u8; 4] = [0x03, 0x02, 0x01, 0x06];
 
-/// The usage of an end-entity's key: digitalSignature.
+/// The usage of an end-entity's key: digitalSignature (RFC 6487 section 4.8.4).
 pub const ENTITY_USAGE: [u8; 4] = [0x03, 0x02, 0x07, 0x80];
 
-/// The one policy of the RPKI.
+/// The one policy of the RPKI (RFC 6487 section 4.8.9, RFC 6484 section 1.2).
 pub const RPKI_POLICIES: [u8; 14] = [
     0x30, 0x0c, 0x30, 0x0a, 0x06, 0x08, 0x2b, 0x06, 0x01, 0x05, 0x05, 0x07, 0x0e, 0x02,
 ];
 
-/// That it is an authority's; what stands behind.
+/// That it is an authority's; what stands behind (RFC 6487 section 4.8.1).
 pub fn basic_constraints(part: Part<'_>) -> Result<Part<'_>, ShapeFault>
     ensures { Gives (λ q. (tt, place q)) result (basic_constraints.read (place part.entry)) }
 {
@@ -32,7 +32,7 @@ pub fn basic_constraints(part: Part<'_>) -> Result<Part<'_>, ShapeFault>
     Ok(rest)
 }
 
-/// The identifier of the subject's key; what stands behind it.
+/// The identifier of the subject's key; what stands behind it (RFC 6487 section 4.8.2).
 pub fn subject_key<'a>(part: Part<'a>, subject: &[u8; 20]) -> Result<Part<'a>, ShapeFault>
     ensures { Gives (λ q. (tt, place q))
         result ((subject_key subject.now).read (place part.entry)) }
@@ -42,7 +42,7 @@ pub fn subject_key<'a>(part: Part<'a>, subject: &[u8; 20]) -> Result<Part<'a>, S
     Ok(rest)
 }
 
-/// The usage of the key; what stands behind it.
+/// The usage of the key; what stands behind it (RFC 6487 section 4.8.4).
 pub fn key_usage<'a>(part: Part<'a>, usage: &[u8; 4]) -> Result<Part<'a>, ShapeFault>
     ensures { Gives (λ q. (tt, place q)) result ((key_usage usage.now).read (place part.entry)) }
 {
@@ -51,7 +51,7 @@ pub fn key_usage<'a>(part: Part<'a>, usage: &[u8; 4]) -> Result<Part<'a>, ShapeF
     Ok(rest)
 }
 
-/// The policy; what stands behind it.
+/// The policy; what stands behind it (RFC 6487 section 4.8.9).
 pub fn policies(part: Part<'_>) -> Result<Part<'_>, ShapeFault>
     ensures { Gives (λ q. (tt, place q)) result (policies.read (place part.entry)) }
 {

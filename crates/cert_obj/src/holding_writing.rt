@@ -1,18 +1,18 @@
-//! Writers of the resources.
+//! Writers of the resources (RFC 6487 sections 4.8.10 and 4.8.11).
 
 ghost use Rattle.std.specs.Prelude.{◌≡◌, ◌++◌, Some, None, OnOk};
-ghost use Rattle.der_forms.specs.Forms.{spelled_some};
+ghost use Rattle.der.specs.Forms.{spelled_some};
 ghost use Rattle.res_sets.specs.declared.numbers.Family.TheVariants.{Asn, V4, V6};
-ghost use Rattle.res_forms.specs.Views.{set_view};
+ghost use Rattle.res_ext.specs.Views.{set_view};
 ghost use Rattle.cert_obj.specs.Values.{sets_of, held_value};
 ghost use Rattle.cert_obj.specs.Holdings.{addresses, numbers, listed_addresses, listed_numbers, held as held_form};
 
 use crate::holdings::is_empty;
 use crate::values::Held;
-use der_forms::tags::{BOOLEAN, OCTET_STRING, SEQUENCE};
+use der::tags::{BOOLEAN, OCTET_STRING, SEQUENCE};
 use object_parts::identifiers::{AS_IDENTIFIERS, IP_BLOCKS};
 use object_parts::push_identifier;
-use res_forms::{push_as_identifiers, push_inherited_as, push_inherited_ip, push_ip_blocks};
+use res_ext::{push_as_identifiers, push_inherited_as, push_inherited_ip, push_ip_blocks};
 use res_sets::{Ranges, Resources};
 use std::alloc::{AllocError, Global};
 
@@ -115,7 +115,7 @@ fn push_inherited_numbers(alloc: Global, out: &mut Vec<u8>) -> Result<(), AllocE
 }
 
 /// Appends that all resources are the issuer's.
-#[tactic(auto, using(std::proofs::Common::append_assoc, crate::specs::HoldingLaws::nothing_behind), unfolding(crate::specs::Holdings::held))]
+#[tactic(auto, using(std::proofs::Common::append_assoc, crate::specs::laws::HoldingLaws::nothing_behind), unfolding(crate::specs::Holdings::held))]
 fn push_inherited(alloc: Global, out: &mut Vec<u8>) -> Result<(), AllocError>
     ensures { OnOk result (out.new.items ≡ out.old.items ++ held_form.spelling None) }
 {
@@ -124,7 +124,7 @@ fn push_inherited(alloc: Global, out: &mut Vec<u8>) -> Result<(), AllocError>
 }
 
 /// Appends resources.
-#[tactic(auto, using(std::proofs::Common::append_assoc, crate::specs::HoldingLaws::nothing_behind), unfolding(crate::specs::Holdings::held))]
+#[tactic(auto, using(std::proofs::Common::append_assoc, crate::specs::laws::HoldingLaws::nothing_behind), unfolding(crate::specs::Holdings::held))]
 fn push_sets(alloc: Global, out: &mut Vec<u8>, resources: &Resources) -> Result<(), AllocError>
     ensures { OnOk result (out.new.items ≡ out.old.items
         ++ held_form.spelling (Some (sets_of resources.now))) }
@@ -133,7 +133,7 @@ fn push_sets(alloc: Global, out: &mut Vec<u8>, resources: &Resources) -> Result<
     push_listed_numbers(alloc, out, &resources.asn)
 }
 
-/// Appends the extensions of the resources.
+/// Appends the extensions of the resources (RFC 6487 sections 4.8.10 and 4.8.11).
 pub fn push_held(alloc: Global, out: &mut Vec<u8>, held: &Held) -> Result<(), AllocError>
     ensures { OnOk result (out.new.items ≡ out.old.items
         ++ held_form.spelling (held_value held.now)) }

@@ -1,21 +1,21 @@
-//! The resources of a certificate.
+//! The resources of a certificate (RFC 6487 sections 4.8.10 and 4.8.11).
 
 ghost use Rattle.std.specs.Prelude.{◌≡◌};
 ghost use Rattle.std.specs.Option.{option_map};
-ghost use Rattle.der_forms.specs.Place.{place};
-ghost use Rattle.der_forms.specs.Forms.{ends, possibly};
-ghost use Rattle.der_forms.specs.Outcome.{GivesUnlessMemory};
+ghost use Rattle.der.specs.Part.{place};
+ghost use Rattle.der.specs.Forms.{ends, possibly};
+ghost use Rattle.der.specs.Outcome.{GivesUnlessMemory};
 ghost use Rattle.res_sets.specs.declared.numbers.Family.TheVariants.{Asn, V4, V6};
-ghost use Rattle.res_forms.specs.Formats.{has_numbers};
-ghost use Rattle.res_forms.specs.Views.{as_view, ip_view, set_view};
+ghost use Rattle.res_ext.specs.Formats.{has_numbers};
+ghost use Rattle.res_ext.specs.Views.{as_view, ip_view, set_view};
 ghost use Rattle.cert_obj.specs.Values.{is_empty_list, held_value, has_no_numbers};
 ghost use Rattle.cert_obj.specs.Holdings.{has_addresses, addresses, numbers, joined, held, entity_held};
 
 use crate::values::Held;
-use der_forms::{Part, ShapeFault};
+use der::{Part, ShapeFault};
 use object_parts::critical_extension;
 use object_parts::identifiers::{AS_IDENTIFIERS, IP_BLOCKS};
-use res_forms::{AsRead, IpRead, as_identifiers, ip_blocks};
+use res_ext::{AsRead, IpRead, as_identifiers, ip_blocks};
 use res_sets::{Family, Ranges, Resources};
 use std::alloc::Global;
 
@@ -51,7 +51,7 @@ fn addresses<'a>(alloc: Global, part: Part<'a>) -> Result<(IpRead, Part<'a>), Sh
 }
 
 /// Whether there is an AS number, or the issuer's are meant.
-#[tactic(auto, using(crate::specs::HoldingLaws::some_numbers))]
+#[tactic(auto, using(crate::specs::laws::HoldingLaws::some_numbers))]
 fn has_numbers(read: &AsRead) -> bool
     ensures { result ≡ has_numbers (as_view read.now) }
 {
@@ -156,7 +156,7 @@ fn joined(alloc: Global, ip: Option<IpRead>, asn: Option<AsRead>) -> Option<Held
     }
 }
 
-/// The resources, behind which nothing stands.
+/// The resources, behind which nothing stands (RFC 6487 sections 4.8.10 and 4.8.11).
 #[tactic(auto, unfolding(crate::specs::Holdings::held, crate::specs::Holdings::held_in))]
 pub fn held(alloc: Global, part: Part<'_>) -> Result<Held, ShapeFault>
     ensures { GivesUnlessMemory held_value result (held.read (place part.entry)) }
@@ -168,7 +168,7 @@ pub fn held(alloc: Global, part: Part<'_>) -> Result<Held, ShapeFault>
     }
 }
 
-/// Whether no AS number is held but the issuer's.
+/// Whether no AS number is held but the issuer's (RFC 6487 section 4.8.11).
 pub fn has_no_numbers(held: &Held) -> bool
     ensures { result ≡ has_no_numbers (held_value held.now) }
 {
@@ -178,7 +178,7 @@ pub fn has_no_numbers(held: &Held) -> bool
     }
 }
 
-/// The resources of an end-entity.
+/// The resources of an end-entity (RFC 9582 section 5).
 #[tactic(auto, unfolding(crate::specs::Holdings::entity_held))]
 pub fn entity_held(alloc: Global, part: Part<'_>) -> Result<Held, ShapeFault>
     ensures { GivesUnlessMemory held_value result (entity_held.read (place part.entry)) }

@@ -1,13 +1,13 @@
-//! The extensions of each kind of certificate.
+//! The extensions of each kind of certificate (RFC 6487 section 4.8).
 
 ghost use Rattle.std.specs.Prelude.{◌≡◌, string_bytes};
 ghost use Rattle.std.proofs.Common.{inl, inr};
-ghost use Rattle.der_forms.specs.Place.{place};
-ghost use Rattle.der_forms.specs.Forms.{choice, preceded};
-ghost use Rattle.der_forms.specs.Outcome.{GivesUnlessMemory};
+ghost use Rattle.der.specs.Part.{place};
+ghost use Rattle.der.specs.Forms.{choice, preceded};
+ghost use Rattle.der.specs.Outcome.{GivesUnlessMemory};
 ghost use Rattle.cert_obj.specs.Values.{held_value};
 ghost use Rattle.object_parts.specs.FrameFormats.{issuer_key};
-ghost use Rattle.cert_obj.specs.Views.{published_value, issued_value, authority_value, entity_value, extended_value};
+ghost use Rattle.cert_obj.specs.inner.Views.{published_value, issued_value, authority_value, entity_value, extended_value};
 ghost use Rattle.cert_obj.specs.Formats.{published, anchor_rest, issued_authority, entity, issued_entity, authority_extensions, entity_extensions, of_kinds, kinds, extensions};
 
 use crate::fixed::{
@@ -15,22 +15,22 @@ use crate::fixed::{
 };
 use crate::holdings::{entity_held, held};
 use crate::uris::{
-    Places, authority_information, distribution, entity_information, issuer_information,
+    AccessUris, authority_information, distribution, entity_information, issuer_information,
 };
 use crate::values::{CertKind, CertUris, Held};
-use der_forms::tags::{CONTEXT_3, SEQUENCE};
-use der_forms::{Part, ShapeFault};
+use der::tags::{CONTEXT_3, SEQUENCE};
+use der::{Part, ShapeFault};
 use object_parts::issuer_key;
 use std::alloc::Global;
 
-/// What an authority's extensions say behind keyUsage.
+/// What an authority's extensions say behind keyUsage (RFC 6487 sections 4.8.8.1 to 4.8.11).
 #[derive(Drop)]
 pub struct PublishedRead {
-    pub places: Places,
+    pub places: AccessUris,
     pub held: Held,
 }
 
-/// The same of an authority that isn't the anchor.
+/// The same of an authority that isn't the anchor (RFC 6487 sections 4.8.6 to 4.8.11).
 #[derive(Drop)]
 pub struct IssuedRead {
     pub crl: String,
@@ -45,7 +45,8 @@ pub enum AuthorityRead {
     Issued(IssuedRead),
 }
 
-/// What an end-entity's extensions say.
+/// What an end-entity's extensions say (RFC 6487 sections 4.8.6, 4.8.7, 4.8.8.2, 4.8.10 and
+/// 4.8.11).
 #[derive(Drop)]
 pub struct EntityRead {
     pub crl: String,
@@ -261,7 +262,8 @@ fn kinds(
     }
 }
 
-/// The extensions under an issuer of a subject.
+/// The extensions under an issuer of a subject (RFC 6487 section 4.8). `issuer` and `subject` are
+/// the identifiers of their keys.
 #[tactic(auto, unfolding(crate::specs::Formats::extensions))]
 pub fn extensions(
     alloc: Global,

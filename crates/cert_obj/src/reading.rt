@@ -1,23 +1,23 @@
-//! Readers of certificates.
+//! Readers of certificates (RFC 5280 section 4.1, RFC 6487 section 4).
 
 ghost use Rattle.std.specs.Prelude.{◌≡◌, if◌then◌else◌, Some, None, IfOk, IfErr};
 ghost use Rattle.std.specs.Option.{option_map};
 ghost use Rattle.sha1.specs.Sha1.{sha1};
 ghost use Rattle.sha2.specs.Sha256.{sha256};
-ghost use Rattle.der_forms.specs.Place.{place};
-ghost use Rattle.der_forms.specs.Forms.{tested};
-ghost use Rattle.der_forms.specs.Leaves.{octet_bits, are_same};
-ghost use Rattle.der_forms.specs.Outcome.{Gives, GivesUnlessMemory, UnlessMemory};
-ghost use Rattle.der_forms.specs.Object.{Spells, read_object, IsTrueFault};
+ghost use Rattle.der.specs.Part.{place};
+ghost use Rattle.der.specs.Forms.{tested};
+ghost use Rattle.der.specs.Leaves.{octet_bits, are_same};
+ghost use Rattle.der.specs.Outcome.{Gives, GivesUnlessMemory, UnlessMemory};
+ghost use Rattle.der.specs.Object.{Spells, read_object, IsTrueFault};
 ghost use Rattle.cert_obj.specs.Values.{SignedCert, cert_value, read_value};
-ghost use Rattle.cert_obj.specs.Views.{subject_value, body_value};
+ghost use Rattle.cert_obj.specs.inner.Views.{subject_value, body_value};
 ghost use Rattle.cert_obj.specs.Formats.{is_public_key, is_key_of, key_of, subject, body, tbs_content, signed_cert};
-ghost use Rattle.cert_obj.specs.Laws.{signed_cert-law};
+ghost use Rattle.cert_obj.specs.laws.CertLaws.{signed_cert-law};
 
 use crate::kinds::{ExtendedRead, extensions};
 use crate::values::{Cert, ReadCert};
-use der_forms::tags::{BIT_STRING, CONTEXT_0, SEQUENCE};
-use der_forms::{Part, ShapeFault, WholeReader, are_same, constant, number, object, octet_bits};
+use der::tags::{BIT_STRING, CONTEXT_0, SEQUENCE};
+use der::{Part, ShapeFault, WholeReader, are_same, constant, number, object, octet_bits};
 use key_ids::KeyId;
 use object_parts::{key_algorithm, name, period, signature_algorithm, signed};
 use sha2::{Digest as Hasher, Sha256};
@@ -75,7 +75,7 @@ fn key_of<'a>(part: Part<'a>, subject: &[u8; 20]) -> Result<(PublicKey, Part<'a>
     Ok((key, rest))
 }
 
-/// The subject and the extensions.
+/// The subject and the extensions (RFC 6487 sections 4.5, 4.7 and 4.8).
 #[derive(Drop)]
 pub struct SubjectRead {
     pub id: [u8; 20],
@@ -95,7 +95,8 @@ fn subject(alloc: Global, part: Part<'_>, issuer: &[u8; 20]) -> Result<SubjectRe
     Ok(SubjectRead { id, key, extended })
 }
 
-/// What stands behind the issuer's name.
+/// What stands behind the issuer's name (RFC 6487 sections 4.5 to 4.8). Times are seconds since
+/// 1970.
 #[derive(Drop)]
 pub struct BodyRead {
     pub not_before: u64,
@@ -184,7 +185,10 @@ impl<'a> WholeReader<'a> for CertReader {
     ghost is_whole = { λ reader. signed_cert-law };
 }
 
-/// The certificate that the bytes are.
+/// The certificate that the bytes are (RFC 5280 section 4.1, RFC 6487 section 4).
+///
+/// The place in `Shape` is an offset in bytes. Whether the signature holds and whether the
+/// certificate is valid at some time isn't asked here.
 pub fn read(alloc: Global, bytes: &[u8]) -> Result<ReadCert, ShapeFault>
     // What is read is spelled so, each byte of it, and what is spelled so is read.
     ensures found { IfOk result (λ x. Spells signed_cert (read_value x) bytes.now) }

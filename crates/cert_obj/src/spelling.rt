@@ -1,10 +1,10 @@
-//! Which certificates have a spelling.
+//! Which certificates have a spelling (RFC 6487 section 4).
 
-ghost use Rattle.std.specs.Prelude.{◌≡◌, ◌↔◌, ◌<◌, ◌^◌, true, length, IsTrue};
+ghost use Rattle.std.specs.Prelude.{◌≡◌, ◌↔◌, ◌<◌, ◌^◌, true, Some, length, IsTrue};
 ghost use Rattle.der.specs.Grammar.{AreBytes};
 ghost use Rattle.moments.specs.Civil.{IsMoment};
 ghost use Rattle.res_sets.specs.declared.holdings.Resources.{Resources};
-ghost use Rattle.cert_obj.specs.Values.{IsUriIf, is_issued, is_authority, is_entity, AreUris, AreSets, IsHeld, may_hold, IsCert, sets_of, held_value, uris_value, cert_value};
+ghost use Rattle.cert_obj.specs.Values.{IsUriIf, is_issued, is_authority, is_entity, AreUris, IsHeld, may_hold, IsCert, sets_of, held_value, uris_value, cert_value};
 
 use crate::holdings::has_no_numbers;
 use crate::uris::is_uri;
@@ -20,7 +20,8 @@ fn are_moments(one: u64, other: u64) -> bool
 }
 
 impl CertKind {
-    /// Whether another key signs it.
+    /// Whether another key signs it. It names that key's CRL and certificate (RFC 6487 sections
+    /// 4.8.6 and 4.8.7).
     pub fn is_issued(self) -> bool
         ensures { result ≡ is_issued self }
     {
@@ -30,7 +31,8 @@ impl CertKind {
         }
     }
 
-    /// Whether its key signs certificates, a CRL and a manifest.
+    /// Whether its key signs certificates, a CRL and a manifest. It says where they stand (RFC 6487
+    /// section 4.8.8.1).
     pub fn is_authority(self) -> bool
         ensures { result ≡ is_authority self }
     {
@@ -40,7 +42,7 @@ impl CertKind {
         }
     }
 
-    /// Whether its key signs one object.
+    /// Whether its key signs one object. It names the object (RFC 6487 section 4.8.8.2).
     pub fn is_entity(self) -> bool
         ensures { result ≡ is_entity self }
     {
@@ -87,8 +89,8 @@ fn may_hold(kind: CertKind, held: &Held) -> bool
 }
 
 /// What the types say: resources are canonical sets.
-fn are_sets(resources: &Resources)
-    ensures { AreSets (sets_of resources.now) }
+pub fn are_sets(resources: &Resources)
+    ensures { IsHeld (Some (sets_of resources.now)) }
 {
     let _asn = resources.asn.as_slice();
     let _v4 = resources.v4.as_slice();

@@ -1,16 +1,16 @@
-//! URIs, and the extensions that hold them.
+//! URIs, and the extensions that hold them (RFC 6487 sections 4.8.6 to 4.8.8).
 
 ghost use Rattle.std.specs.Prelude.{◌≡◌, IfOk, string_bytes};
 ghost use Rattle.std.specs.Option.{option_map};
-ghost use Rattle.der_forms.specs.Place.{place};
-ghost use Rattle.der_forms.specs.Outcome.{GivesUnlessMemory};
+ghost use Rattle.der.specs.Part.{place};
+ghost use Rattle.der.specs.Outcome.{GivesUnlessMemory};
 ghost use Rattle.std.specs.List.{list_all};
 ghost use Rattle.cert_obj.specs.Values.{is_ascii_byte, is_uri};
-ghost use Rattle.cert_obj.specs.Views.{places_value};
-ghost use Rattle.cert_obj.specs.Extensions.{uri, uri_in, distribution_points, distribution, access, issuer_places, issuer_information, authority_places, authority_information, entity_places, entity_information};
+ghost use Rattle.cert_obj.specs.inner.Views.{access_uris_value};
+ghost use Rattle.cert_obj.specs.Extensions.{uri, uri_in, distribution_points, distribution, access, issuer_access_uris, issuer_information, authority_access_uris, authority_information, entity_access_uris, entity_information};
 
-use der_forms::tags::{CONTEXT_0, PRIMITIVE_6, SEQUENCE};
-use der_forms::{Part, ShapeFault};
+use der::tags::{CONTEXT_0, PRIMITIVE_6, SEQUENCE};
+use der::{Part, ShapeFault};
 use object_parts::identifiers::{
     AUTHORITY_INFORMATION, CA_ISSUERS, CA_REPOSITORY, DISTRIBUTION_POINTS, RPKI_MANIFEST,
     RPKI_NOTIFY, SIGNED_OBJECT, SUBJECT_INFORMATION,
@@ -32,7 +32,8 @@ fn are_ascii(bytes: &[u8]) -> bool
     bytes.iter().all(|byte| is_ascii_byte(*byte))
 }
 
-/// Whether bytes are ASCII, and there are some.
+/// Whether bytes are ASCII, and there are some (an IA5String that isn't empty, RFC 5280 section
+/// 4.2.1.6).
 pub fn is_uri(bytes: &[u8]) -> bool
     ensures { result ≡ is_uri bytes.now }
 {
@@ -85,7 +86,7 @@ fn distribution_points(alloc: Global, part: Part<'_>) -> Result<String, ShapeFau
     uri(alloc, names.sole(PRIMITIVE_6)?)
 }
 
-/// Where the issuer's CRL is.
+/// Where the issuer's CRL is (RFC 6487 section 4.8.6).
 pub fn distribution<'a>(alloc: Global, part: Part<'a>) -> Result<(String, Part<'a>), ShapeFault>
     ensures { GivesUnlessMemory (λ x. (string_bytes x.0, place x.1))
         result (distribution.read (place part.entry)) }
@@ -112,16 +113,16 @@ fn access<'a>(
 }
 
 /// Where the issuer's certificate is, in an extension's value.
-#[tactic(auto, unfolding(crate::specs::Extensions::issuer_places))]
-fn issuer_places(alloc: Global, part: Part<'_>) -> Result<String, ShapeFault>
-    ensures { GivesUnlessMemory string_bytes result (issuer_places.read (place part.entry)) }
+#[tactic(auto, unfolding(crate::specs::Extensions::issuer_access_uris))]
+fn issuer_access_uris(alloc: Global, part: Part<'_>) -> Result<String, ShapeFault>
+    ensures { GivesUnlessMemory string_bytes result (issuer_access_uris.read (place part.entry)) }
 {
     let (issuer, end) = access(alloc, part.sole(SEQUENCE)?, &CA_ISSUERS)?;
     end.end()?;
     Ok(issuer)
 }
 
-/// Where the issuer's certificate is.
+/// Where the issuer's certificate is (RFC 6487 section 4.8.7).
 pub fn issuer_information<'a>(
     alloc: Global,
     part: Part<'a>,
@@ -130,58 +131,58 @@ pub fn issuer_information<'a>(
         result (issuer_information.read (place part.entry)) }
 {
     let (value, rest) = extension(part, &AUTHORITY_INFORMATION)?;
-    let issuer = issuer_places(alloc, value)?;
+    let issuer = issuer_access_uris(alloc, value)?;
     Ok((issuer, rest))
 }
 
-/// Where an authority publishes.
+/// Where an authority publishes (RFC 6487 section 4.8.8.1, RFC 8182 section 3.2).
 #[derive(Drop)]
-pub struct Places {
+pub struct AccessUris {
     pub folder: String,
     pub manifest: String,
     pub notify: String,
 }
 
 /// Where an authority publishes, in an extension's value.
-#[tactic(auto, unfolding(crate::specs::Extensions::authority_places))]
-fn authority_places(alloc: Global, part: Part<'_>) -> Result<Places, ShapeFault>
-    ensures { GivesUnlessMemory places_value result (authority_places.read (place part.entry)) }
+#[tactic(auto, unfolding(crate::specs::Extensions::authority_access_uris))]
+fn authority_access_uris(alloc: Global, part: Part<'_>) -> Result<AccessUris, ShapeFault>
+    ensures { GivesUnlessMemory access_uris_value result (authority_access_uris.read (place part.entry)) }
 {
     let (folder, rest) = access(alloc, part.sole(SEQUENCE)?, &CA_REPOSITORY)?;
     let (manifest, rest) = access(alloc, rest, &RPKI_MANIFEST)?;
     let (notify, end) = access(alloc, rest, &RPKI_NOTIFY)?;
     end.end()?;
-    Ok(Places {
+    Ok(AccessUris {
         folder,
         manifest,
         notify,
     })
 }
 
-/// Where an authority publishes.
+/// Where an authority publishes (RFC 6487 section 4.8.8.1, RFC 8182 section 3.2).
 pub fn authority_information<'a>(
     alloc: Global,
     part: Part<'a>,
-) -> Result<(Places, Part<'a>), ShapeFault>
-    ensures { GivesUnlessMemory (λ x. (places_value x.0, place x.1))
+) -> Result<(AccessUris, Part<'a>), ShapeFault>
+    ensures { GivesUnlessMemory (λ x. (access_uris_value x.0, place x.1))
         result (authority_information.read (place part.entry)) }
 {
     let (value, rest) = extension(part, &SUBJECT_INFORMATION)?;
-    let places = authority_places(alloc, value)?;
+    let places = authority_access_uris(alloc, value)?;
     Ok((places, rest))
 }
 
 /// Where an end-entity's object is, in an extension's value.
-#[tactic(auto, unfolding(crate::specs::Extensions::entity_places))]
-fn entity_places(alloc: Global, part: Part<'_>) -> Result<String, ShapeFault>
-    ensures { GivesUnlessMemory string_bytes result (entity_places.read (place part.entry)) }
+#[tactic(auto, unfolding(crate::specs::Extensions::entity_access_uris))]
+fn entity_access_uris(alloc: Global, part: Part<'_>) -> Result<String, ShapeFault>
+    ensures { GivesUnlessMemory string_bytes result (entity_access_uris.read (place part.entry)) }
 {
     let (object, end) = access(alloc, part.sole(SEQUENCE)?, &SIGNED_OBJECT)?;
     end.end()?;
     Ok(object)
 }
 
-/// Where an end-entity's object is.
+/// Where an end-entity's object is (RFC 6487 section 4.8.8.2).
 pub fn entity_information<'a>(
     alloc: Global,
     part: Part<'a>,
@@ -190,6 +191,6 @@ pub fn entity_information<'a>(
         result (entity_information.read (place part.entry)) }
 {
     let (value, rest) = extension(part, &SUBJECT_INFORMATION)?;
-    let object = entity_places(alloc, value)?;
+    let object = entity_access_uris(alloc, value)?;
     Ok((object, rest))
 }

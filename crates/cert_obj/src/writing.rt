@@ -1,11 +1,11 @@
-//! Writers of certificates.
+//! Writers of certificates (RFC 5280 section 4.1, RFC 6487 section 4).
 
 ghost use Rattle.std.specs.Prelude.{◌≡◌, ◌<◌, ◌^◌, ◌++◌, length, IfOk, OnOk};
 ghost use Rattle.sha1.specs.Sha1.{sha1};
 ghost use Rattle.sha2.specs.Sha256.{sha256};
 ghost use Rattle.der.specs.Tags as tag;
 ghost use Rattle.der.specs.Spelling.{spelled};
-ghost use Rattle.der_forms.specs.Object.{Spells};
+ghost use Rattle.der.specs.Object.{Spells};
 ghost use Rattle.object_parts.specs.FrameFormats.{signature as signature_form};
 ghost use Rattle.cert_obj.specs.declared.values.CertKind.TheVariants.{Anchor, Authority, EndEntity};
 ghost use Rattle.cert_obj.specs.Values.{CertValue, IsCert, held_value, uris_value, cert_value};
@@ -18,7 +18,7 @@ use crate::extension_writing::{
 use crate::fixed::{AUTHORITY_USAGE, ENTITY_USAGE};
 use crate::holding_writing::push_held;
 use crate::values::{Cert, CertKind};
-use der_forms::tags::{CONTEXT_0, CONTEXT_3, SEQUENCE};
+use der::tags::{CONTEXT_0, CONTEXT_3, SEQUENCE};
 use key_ids::KeyId;
 use object_parts::{
     push_issuer_key, push_key_info, push_name, push_period, push_signature_algorithm, write_signed,
@@ -225,7 +225,8 @@ fn push_content(alloc: Global, out: &mut Vec<u8>, cert: &Cert) -> Result<(), All
 }
 
 impl Cert {
-    /// The bytes that are signed. Whether there are any, `has_spelling` says.
+    /// The bytes that are signed (tbsCertificate, RFC 5280 section 4.1.2). Whether there are any,
+    /// `has_spelling` says.
     #[tactic(auto, unfolding(crate::specs::Formats::signed_bytes))]
     pub fn tbs(&self, alloc: Global) -> Result<Vec<u8>, AllocError>
         requires { IsCert (cert_value self.now) }
@@ -243,7 +244,7 @@ fn is_whole(bytes: &[u8; 256])
     ensures { length bytes.now ≡ 256 }
 {}
 
-/// The certificate of the bytes that are signed, and their signature.
+/// The certificate of the bytes that are signed, and their signature (RFC 5280 section 4.1).
 pub fn write(alloc: Global, tbs: &[u8], signature: &Signature) -> Result<Vec<u8>, AllocError>
     // An element around what is signed, the algorithm and the signature.
     ensures bytes { IfOk result (λ out.

@@ -1,18 +1,15 @@
 -- No two commands have one spelling.
 use Rattle.std.proofs.Common.{◌≡◌, ℕ, ◌<◌, ◌≤◌, ◌^◌, Bool, true, false, List, [], ◌∷◌, ◌++◌, length, map, get_or, take, drop, refl, sym, ap, ◌∙◌, append_assoc, arith}
-use mathlib.Core.HLevel.{is_prop→PathP}
 use Rattle.std.proofs.Common.{Some}
-use Rattle.std.proofs.Props.{props}
 use Rattle.std.specs.List.{flat_map, AllByRecursion}
 use Rattle.std.proofs.Math.Seq.{take-append_seam, drop-append_seam}
-use Rattle.origins.specs.Same.{same_prefix, same_origin}
+use Rattle.origins.specs.laws.Same.{same_prefix, same_origin}
 use Rattle.origins.specs.declared.Origin.{Origin}
 use Rattle.res_sets.specs.declared.numbers.Family.{Family}
-use Rattle.res_sets.specs.declared.numbers.Family.TheVariants.{Asn, V4, V6}
 use Rattle.res_sets.specs.declared.numbers.Range.{Range}
 use Rattle.res_sets.specs.declared.holdings.Resources.{Resources}
 use Rattle.res_sets.specs.Numbers.{family_end, any_spans}
-use Rattle.res_sets.specs.Laws.{same_range}
+use Rattle.res_sets.specs.laws.SetLaws.{same_range, same_resources}
 use Rattle.authority_book.specs.declared.commands.Command.{Command}
 use Rattle.authority_book.specs.declared.commands.Command.TheVariants.{Add, Delete, AddParent, AddChild, UpdateChild, RemoveChild, SuspendChild, UnsuspendChild, UpdateRoas}
 use Rattle.cmd_codec.specs.Spelling.{Part, IsSound, IsRecordable, row, granted, spelling, family_byte, bytes_32, bytes_128, origin_spelling, range_spelling, part_spelling}
@@ -136,19 +133,6 @@ same_parts (a ∷ ps) (b ∷ qs) r s kinds x y e =
     let one = same_part a b (flat_map part_spelling ps ++ r) (flat_map part_spelling qs ++ s) head x.0 y.0 whole in
     let rest = same_parts ps qs r s tail x.1 y.1 one.1 in
     (λ i. one.0 i ∷ rest i)
-
-family_prop : (f g : Family) → IsProp (f ≡ g)
-family_prop f g = hlevel props
-
-pub same_resources : (g h : Resources) → g.asn ≡ h.asn → g.v4 ≡ h.v4 → g.v6 ≡ h.v6 → g ≡ h
-same_resources g h a b d = λ i. record {
-  asn = a i;
-  v4 = b i;
-  v6 = d i;
-  asn_family = is_prop→PathP (λ j. (a j).family ≡ Asn) (λ j. family_prop (a j).family Asn) g.asn_family h.asn_family i;
-  v4_family = is_prop→PathP (λ j. (b j).family ≡ V4) (λ j. family_prop (b j).family V4) g.v4_family h.v4_family i;
-  v6_family = is_prop→PathP (λ j. (d j).family ≡ V6) (λ j. family_prop (d j).family V6) g.v6_family h.v6_family i;
-}
 
 same_name : (a b : List ℕ) (r s : List Part) → TheName a ∷ r ≡ TheName b ∷ s → (a ≡ b) × (r ≡ s)
 same_name a b r s e = (cc, cc)

@@ -10,3 +10,4 @@ pub mod Records
 pub mod Good
 pub mod Apart
 pub mod Sizes
+mod Named

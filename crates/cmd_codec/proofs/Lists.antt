@@ -7,7 +7,7 @@ use Rattle.res_sets.specs.declared.numbers.Range.{Range}
 use Rattle.res_sets.specs.Merging.{room_from}
 use Rattle.res_sets.specs.Sets.{RangeSet, IsCanonical, GoesBehind, no_numbers, with_range}
 use Rattle.std.proofs.lemmas.Bool.{false≢true}
-use Rattle.res_sets.specs.Laws.{canonical_with}
+use Rattle.res_sets.specs.laws.SetLaws.{canonical_with}
 use Rattle.cmd_codec.specs.declared.faults.RecordFault.{RecordFault}
 use Rattle.cmd_codec.specs.Spelling.{origin_spelling, range_spelling}
 use Rattle.cmd_codec.specs.Fault.{Place, Way, and_then, field, front_128, is_origin, is_range, origin_fields, range_fields}

@@ -23,11 +23,13 @@ mod cursor;
 mod faults;
 mod fields;
 mod format;
+mod laws;
 mod origin_field;
 mod parts;
 mod reading;
 mod writing;
 
 pub use faults::RecordFault;
+pub use laws::listed_names_are_names;
 pub use reading::read;
 pub use writing::{record_len, spelled_apart, write};

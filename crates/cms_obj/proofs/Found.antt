@@ -2,14 +2,14 @@
 use Rattle.std.proofs.Common.{◌≡◌, ℕ, List, Result, Ok, Err}
 use Rattle.std.specs.Prelude.{IfOk, IfErr}
 use Rattle.der.specs.Grammar.{AreBytes}
-use Rattle.der_forms.specs.declared.fault.ShapeFault.{ShapeFault}
-use Rattle.der_forms.specs.Outcome.{Gives, GivesUnlessMemory, UnlessMemory}
-use Rattle.der_forms.specs.Object.{Spells, read_object, IsTrueFault}
-use Rattle.der_forms.specs.ObjectLaws.{found_from, only_from, fault_from}
+use Rattle.der.specs.declared.shape_fault.ShapeFault.{ShapeFault}
+use Rattle.der.specs.Outcome.{Gives, GivesUnlessMemory, UnlessMemory}
+use Rattle.der.specs.Object.{Spells, read_object, IsTrueFault}
+use Rattle.der.specs.laws.ObjectLaws.{found_from, only_from, fault_from}
 use Rattle.cms_obj.specs.declared.values.SignedObject.{SignedObject}
 use Rattle.cms_obj.specs.Values.{ObjectValue, object_value}
 use Rattle.cms_obj.specs.Formats.{signed_object}
-use Rattle.cms_obj.specs.Laws.{signed_object-law}
+use Rattle.cms_obj.specs.laws.ObjectLaws.{signed_object-law}
 
 unless : (result : Result SignedObject ShapeFault) (read : Result ObjectValue ShapeFault) → Gives object_value result read → GivesUnlessMemory object_value result read
 unless (Ok x) read gives = gives

@@ -5,11 +5,11 @@ use Rattle.sha2.specs.Sha256.{sha256}
 use Rattle.moments.specs.Civil.{IsMoment}
 use Rattle.der.specs.Tags as tag
 use Rattle.der.specs.Spelling.{spelled}
-use Rattle.der_forms.specs.declared.fault.ShapeFault.{ShapeFault}
-use Rattle.der_forms.specs.Place.{Place, ◌>>=◌, sole_at}
-use Rattle.der_forms.specs.Form.{Whole, Front}
-use Rattle.der_forms.specs.Forms.{content, leaf, within, sole, both, after, only, preceded, followed, framed, mapped}
-use Rattle.der_forms.specs.Leaves.{fixed, exactly, constant, are_same}
+use Rattle.der.specs.declared.shape_fault.ShapeFault.{ShapeFault}
+use Rattle.der.specs.Part.{Place, ◌>>=◌, sole_at}
+use Rattle.der.specs.Form.{Whole, Front}
+use Rattle.der.specs.Forms.{content, leaf, within, sole, both, after, only, preceded, followed, framed, mapped}
+use Rattle.der.specs.Leaves.{fixed, exactly, constant, are_same}
 use Rattle.object_parts.specs.declared.identifiers.TheConstants.{SIGNED_DATA, CONTENT_TYPE, MESSAGE_DIGEST, SIGNING_TIME, ROA_CONTENT, MANIFEST_CONTENT}
 use Rattle.object_parts.specs.TimeFormats.{time}
 use Rattle.object_parts.specs.FrameFormats.{identifier, attribute, key_algorithm, digest_algorithm}
@@ -51,15 +51,15 @@ certificates = within tag.context_0 (element_bytes tag.sequence)
 
 -- ---- the attributes that are signed (RFC 6488 section 2.1.6.4, RFC 9589)
 
--- The kind of the content once more.
+-- The kind of the content once more (RFC 5652 section 11.1).
 abbrev pub content_type : ObjectKind → Front (Unit {0})
 content_type k = attribute CONTENT_TYPE (sole tag.object_identifier (exactly (kind_identifier k)))
 
--- When it was signed.
+-- When it was signed (RFC 5652 section 11.3, RFC 9589).
 abbrev pub signing_time : Front ℕ
 signing_time = attribute SIGNING_TIME (only time)
 
--- The hash of the content.
+-- The hash of the content (RFC 5652 section 11.2).
 abbrev pub message_digest : List ℕ → Front (Unit {0})
 message_digest hash = attribute MESSAGE_DIGEST (sole tag.octet_string (exactly hash))
 
@@ -79,15 +79,15 @@ under_set (b ∷ bytes) = tag.set_of ∷ bytes
 
 -- ---- the signer (RFC 6488 section 2.1.6)
 
--- Version 3.
+-- Version 3 (RFC 6488 sections 2.1.1 and 2.1.6.1).
 abbrev pub version : Front (Unit {0})
 version = constant tag.integer (3 ∷ [])
 
--- The identifier of the key that signs.
+-- The identifier of the key that signs (RFC 6488 section 2.1.6.2).
 abbrev pub signer : Front (List ℕ)
 signer = within tag.primitive_0 (fixed 20)
 
--- The algorithm and the 256 bytes of the signature.
+-- The algorithm and the 256 bytes of the signature (RFC 6488 sections 2.1.6.5 and 2.1.6.6).
 abbrev pub signature : Whole (List ℕ)
 signature = preceded key_algorithm (sole tag.octet_string (fixed 256))
 
@@ -99,13 +99,13 @@ Signed = ℕ × List ℕ × List ℕ
 unfoldable pub signed : ObjectKind → List ℕ → Whole Signed
 signed k hash = framed tag.context_0 (attributes k hash) signature
 
--- The one signer of a content of that kind and hash.
+-- The one signer of a content of that kind and hash (RFC 6488 section 2.1).
 unfoldable pub signers : ObjectKind → List ℕ → Whole (List ℕ × Signed)
 signers k hash =
     sole tag.set_of (sole tag.sequence
     (preceded version (both signer (preceded digest_algorithm (signed k hash)))))
 
--- ---- the whole
+-- ---- the whole (RFC 6488 section 2.1)
 
 -- The one digest algorithm (RFC 6488 section 2.1.2).
 abbrev pub digest_algorithms : Front (Unit {0})
@@ -125,14 +125,14 @@ signed_data =
     (preceded version (preceded digest_algorithms (after encapsulated behind_content)))
 
 abbrev pub of_parts : Parts → ObjectValue
-of_parts x = record {
-  kind = x.0.0;
-  content = x.0.1;
-  certificate = x.1.0;
-  signer = x.1.1.0;
-  moment = x.1.1.1.0;
-  digest = sha256 (under_set x.1.1.1.1);
-  signature = x.1.1.1.2;
+of_parts ((kind, content), (certificate, (signer, (moment, attributes, signature)))) = record {
+  kind = kind;
+  content = content;
+  certificate = certificate;
+  signer = signer;
+  moment = moment;
+  digest = sha256 (under_set attributes);
+  signature = signature;
 }
 
 -- What is signed for by the attributes of that kind, hash and time.
@@ -155,7 +155,7 @@ pub record IsSignedObject (v : ObjectValue) : Type 0 where
   pub digest : v.digest ≡ sha256 (signed_attributes v.kind v.content v.moment)
   pub signature : length v.signature ≡ 256
 
--- A signed object.
+-- A signed object (RFC 6488 section 2, RFC 5652 sections 3 and 5.1).
 unfoldable pub signed_object : Whole ObjectValue
 signed_object =
     mapped (sole tag.sequence (preceded (identifier SIGNED_DATA) (sole tag.context_0 signed_data)))

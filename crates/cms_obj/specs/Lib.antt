@@ -1,3 +1,3 @@
 pub mod Values
 pub mod Formats
-pub mod Laws
+pub mod laws

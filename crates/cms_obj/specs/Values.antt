@@ -1,11 +1,12 @@
--- What a signed object says.
+-- What a signed object says (RFC 6488 section 2).
 use Rattle.std.specs.Prelude.{◌≡◌, ℕ, ◌<◌, ◌^◌, List, length}
 use Rattle.der.specs.Spelling.{spelled}
 use Rattle.cms_obj.specs.declared.values.ObjectKind.{ObjectKind}
 use Rattle.cms_obj.specs.declared.values.SignedObject.{SignedObject}
 
 -- The kind and the bytes of the content, the one certificate, the 20 bytes of the identifier of
--- the key that signs, the time of the signature, the SHA-256 of what is signed, and the signature.
+-- the key that signs, the time of the signature, the SHA-256 of what is signed, and the
+-- signature. The time is in seconds since 1970.
 pub record ObjectValue : Type 0 where
   pub kind : ObjectKind
   pub content : List ℕ

@@ -1,10 +1,10 @@
-//! The identifiers of the kinds of content.
+//! The identifiers of the kinds of content (RFC 6488 section 2.1.3.1).
 
 ghost use Rattle.std.specs.Prelude.{◌≡◌};
 ghost use Rattle.cms_obj.specs.Formats.{kind_identifier, kind_in};
 
 use crate::values::ObjectKind;
-use der_forms::are_same;
+use der::are_same;
 use object_parts::identifiers::{MANIFEST_CONTENT, ROA_CONTENT};
 
 impl ObjectKind {

@@ -1,4 +1,5 @@
-//! Signed objects of the RPKI (RFC 6488, RFC 9589), which hold a manifest or a ROA.
+//! The format of a signed object of the RPKI (RFC 6488 section 2, RFC 9589), which holds a manifest
+//! or a ROA, read and written.
 #![tactic(auto)]
 
 mod kinds;

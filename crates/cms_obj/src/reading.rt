@@ -1,20 +1,18 @@
-//! Readers of signed objects.
+//! Readers of signed objects (RFC 6488 section 2, RFC 5652 section 5).
 
 ghost use Rattle.std.specs.Prelude.{◌≡◌, IfOk, IfErr};
 ghost use Rattle.sha2.specs.Sha256.{sha256};
 ghost use Rattle.der.specs.Grammar.{AreBytes};
-ghost use Rattle.der_forms.specs.Place.{place};
-ghost use Rattle.der_forms.specs.Outcome.{Gives, UnlessMemory};
-ghost use Rattle.der_forms.specs.Object.{Spells, read_object, IsTrueFault};
+ghost use Rattle.der.specs.Part.{place};
+ghost use Rattle.der.specs.Outcome.{Gives, UnlessMemory};
+ghost use Rattle.der.specs.Object.{Spells, read_object, IsTrueFault};
 ghost use Rattle.cms_obj.specs.Values.{ObjectValue, object_value};
 ghost use Rattle.cms_obj.specs.Formats.{kind, encapsulated, certificates, content_type, signing_time, message_digest, attributes, under_set, signer, signature, signed, signers, digest_algorithms, behind_content, signed_data, signed_object};
 
 use crate::kinds::kind_in;
 use crate::values::{ObjectKind, SignedObject};
-use der_forms::tags::{
-    CONTEXT_0, INTEGER, OBJECT_IDENTIFIER, OCTET_STRING, PRIMITIVE_0, SEQUENCE, SET,
-};
-use der_forms::{Part, ShapeFault, constant, exactly, fixed};
+use der::tags::{CONTEXT_0, INTEGER, OBJECT_IDENTIFIER, OCTET_STRING, PRIMITIVE_0, SEQUENCE, SET};
+use der::{Part, ShapeFault, constant, exactly, fixed};
 use key_ids::KeyId;
 use object_parts::identifiers::{CONTENT_TYPE, MESSAGE_DIGEST, SIGNED_DATA, SIGNING_TIME};
 use object_parts::{attribute, digest_algorithm, identifier, key_algorithm, time};
@@ -313,8 +311,11 @@ fn read_bytes<'a>(bytes: &'a [u8]) -> Result<SignedObject<'a>, ShapeFault>
     }
 }
 
-/// The signed object that the bytes are. Its content and its certificate are parts of them. Whether the
-/// signature is the signer's isn't asked. No memory is taken.
+/// The signed object that the bytes are (RFC 6488 section 2.1). Its content and its certificate are
+/// parts of them. Whether the signature is the signer's isn't asked. No memory is taken.
+///
+/// The place in `Shape` is an offset in bytes. The content and the certificate are read by the
+/// crates of their own formats.
 pub fn read<'a>(_alloc: Global, bytes: &'a [u8]) -> Result<SignedObject<'a>, ShapeFault>
     // What is read is spelled so, each byte of it, and what is spelled so is read.
     ensures found { IfOk result (λ o. Spells signed_object (object_value o) bytes.now) }

@@ -1,14 +1,14 @@
-//! What a signed object says.
+//! What a signed object says (RFC 6488 section 2.1).
 
 use key_ids::KeyId;
 use signer_api::{Digest, Signature};
 
-/// What the content is.
+/// What the content is (RFC 6488 section 2.1.3.1).
 #[derive(Clone, Copy, Debug, PartialEq, Eq)]
 pub enum ObjectKind {
-    /// A manifest (RFC 9286).
+    /// A manifest (RFC 9286 section 4.1).
     Manifest,
-    /// A route origin authorization (RFC 9582).
+    /// A route origin authorization (RFC 9582 section 3).
     Roa,
 }
 
@@ -16,14 +16,16 @@ pub enum ObjectKind {
 #[derive(Clone, Copy, Debug)]
 pub struct SignedObject<'a> {
     pub kind: ObjectKind,
+    /// The bytes of the eContent (RFC 6488 section 2.1.3.2).
     pub content: &'a [u8],
-    /// The certificate of the key that signs, as one whole element.
+    /// The certificate of the key that signs, as one whole element (RFC 6488 section 2.1.4).
     pub certificate: &'a [u8],
-    /// The key that signs.
+    /// The key that signs (its subject key identifier, RFC 6488 section 2.1.6.2).
     pub signer: KeyId,
-    /// The time of the signature, in seconds since 1970.
+    /// The time of the signature, in seconds since 1970 (RFC 5652 section 11.3, RFC 9589).
     pub moment: u64,
-    /// The SHA-256 of the attributes, which is what is signed.
+    /// The SHA-256 of the attributes, which is what is signed (RFC 5652 section 5.4).
     pub digest: Digest,
+    /// RFC 6488 section 2.1.6.6.
     pub signature: Signature,
 }

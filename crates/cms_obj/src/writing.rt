@@ -1,16 +1,16 @@
-//! Writers of signed objects.
+//! Writers of signed objects (RFC 6488 section 2, RFC 5652 section 5).
 
 ghost use Rattle.std.specs.Prelude.{◌≡◌, ◌↔◌, ◌<◌, ◌^◌, ◌++◌, length, IfOk, OnOk, IsTrue};
 ghost use Rattle.sha2.specs.Sha256.{sha256};
 ghost use Rattle.moments.specs.Civil.{IsMoment};
 ghost use Rattle.der.specs.Tags as tag;
-ghost use Rattle.der_forms.specs.Object.{Spells};
+ghost use Rattle.der.specs.Object.{Spells};
 ghost use Rattle.cms_obj.specs.Values.{IsElement};
 ghost use Rattle.cms_obj.specs.Formats.{encapsulated, certificates, content_type, signing_time, message_digest, attributes, signed_attributes, version, signature as signature_form, signed, signers, signed_of, parts_of, digest_algorithms, signed_data, IsSignedObject, signed_object, object_of};
 
 use crate::values::ObjectKind;
-use der_forms::Part;
-use der_forms::tags::{CONTEXT_0, INTEGER, OCTET_STRING, PRIMITIVE_0, SEQUENCE, SET};
+use der::Part;
+use der::tags::{CONTEXT_0, INTEGER, OCTET_STRING, PRIMITIVE_0, SEQUENCE, SET};
 use key_ids::KeyId;
 use object_parts::identifiers::{CONTENT_TYPE, MESSAGE_DIGEST, SIGNED_DATA, SIGNING_TIME};
 use object_parts::{push_digest_algorithm, push_identifier, push_key_algorithm, push_time};
@@ -82,7 +82,8 @@ fn push_attributes(
     push_message_digest(alloc, out, hash)
 }
 
-/// The attributes of an object that is signed at that time, as the SET whose SHA-256 is signed.
+/// The attributes of an object that is signed at that time, as the SET whose SHA-256 is signed (RFC
+/// 6488 section 2.1.6.4, RFC 9589). `moment` is in seconds since 1970.
 #[tactic(auto, unfolding(crate::specs::Formats::signed_attributes))]
 pub fn attributes(
     alloc: Global,
@@ -228,7 +229,8 @@ fn is_object(
 {}
 
 /// The signed object of a content, the certificate of the key that signs, the key's identifier, the time
-/// of the signature, and the signature of the [`attributes`].
+/// of the signature, and the signature of the [`attributes`]. `moment` is in seconds since 1970, as it
+/// was given there.
 #[tactic(auto, using(std::proofs::Common::append_assoc), unfolding(crate::specs::Formats::signed_object))]
 pub fn write(
     alloc: Global,
@@ -276,7 +278,7 @@ pub fn write(
 }
 
 /// Whether a part is one whole element.
-#[tactic(auto, using(crate::specs::Laws::element_found, crate::specs::Laws::element_only))]
+#[tactic(auto, using(crate::specs::laws::ObjectLaws::element_found, crate::specs::laws::ObjectLaws::element_only))]
 fn is_sole(part: Part<'_>) -> bool
     ensures { IsTrue result ↔ IsElement tag.sequence part.entry.bytes.now }
 {
@@ -286,7 +288,8 @@ fn is_sole(part: Part<'_>) -> bool
     }
 }
 
-/// Whether bytes may stand for a certificate: they are one whole element. Its own format isn't asked.
+/// Whether bytes may stand for a certificate: they are one whole element (RFC 6488 section 2.1.4).
+/// Its own format isn't asked.
 pub fn is_certificate(bytes: &[u8]) -> bool
     ensures { IsTrue result ↔ IsElement tag.sequence bytes.now }
 {

@@ -9,8 +9,8 @@ use lib.ListN.{get_elem?}
 use Rattle.atomic_table.proofs.Lists.{at_set, set_else, at_longer, at_last}
 use Rattle.commit_word.specs.declared.views.View.{View}
 use Rattle.commit_word.specs.Entries.{Has, Rises, joined, with_coming}
-use Rattle.commit_word.specs.Rule.{Fits, AreApart, IsMade, IsKeptBy, IsKept, laid_out}
-use Rattle.commit_word.specs.Steps.{first_owner, follower_of, spent, made_aside, IsMadeBy}
+use Rattle.commit_word.specs.Rule.{Fits, AreApart, IsMade, KeepsWordRuleBy, KeepsWordRule, laid_out}
+use Rattle.commit_word.specs.inner.Steps.{first_owner, follower_of, spent, made_aside, IsMadeBy}
 use Rattle.commit_word.proofs.Prefixes.{prefix_self, prefix_trans, prefix_length, prefix_get, prefix_within, prefix_snoc, slice_get_end}
 use Rattle.commit_word.proofs.Places.{has_one, has_append, has_front, has_end, has_joined, joined_left, joined_right, rises_joined, rises_snoc}
 use Rattle.commit_word.proofs.Rows.{set_at, at_end, same_at, at_before, apart_set, made_set, made_longer}
@@ -26,13 +26,13 @@ laid_length seen (Some e) = omega (arith, length-append seen (e ∷ []))
 
 module _ (key : List (List ℕ)) (words : List ℕ) (views : List View) where
   -- the seat that owns is the owner's
-  pub owner_at : (by : ℕ) (v : View) → get_elem? views by ≡ some v → v.owns ≡ true → IsKept key words views → (by ≡ 0) × IsKeptBy key words views v
+  pub owner_at : (by : ℕ) (v : View) → get_elem? views by ≡ some v → v.owns ≡ true → KeepsWordRule key words views → (by ≡ 0) × KeepsWordRuleBy key words views v
   owner_at by v at owns k =
       let here : by ≡ 0 = (k.1.seats by v at).alone owns in
-      (here, subst (IsKeptBy key words views) (same_at views 0 by k.0 v (sym here) k.1.at at) k.1)
+      (here, subst (KeepsWordRuleBy key words views) (same_at views 0 by k.0 v (sym here) k.1.at at) k.1)
 
   -- one that does not own is another
-  pub not_owner : (o : View) → IsKeptBy key words views o → (by : ℕ) (v : View) → get_elem? views by ≡ some v → v.owns ≡ false → by ≢ 0
+  pub not_owner : (o : View) → KeepsWordRuleBy key words views o → (by : ℕ) (v : View) → get_elem? views by ≡ some v → v.owns ≡ false → by ≢ 0
   not_owner o k by v at owns here = true≢false (sym k.owns ∙ ap (λ (x : View). x.owns) (same_at views 0 by o v (sym here) k.at at) ∙ owns)
 
 -- what the rule says of a seat whose view is v
@@ -58,7 +58,7 @@ fits_grown recovered o n by v more laid f = record {
 }
 
 -- at first
-pub first_kept : (key : List (List ℕ)) (n : ℕ) → length key ≡ n → IsKept key (n ∷ []) (first_owner key ∷ [])
+pub first_kept : (key : List (List ℕ)) (n : ℕ) → length key ≡ n → KeepsWordRule key (n ∷ []) (first_owner key ∷ [])
 first_kept key n is = (
   first_owner key,
   record {
@@ -81,9 +81,9 @@ first_kept key n is = (
     none : AreApart (first_owner key ∷ [])
     none i j v w p d e ai aj hv hw = ⊎_elim (λ t. absurd (some-ne-none v (sym t))) (λ (t : (i ≡ 0) × (first_owner key ≡ v)). absurd (subst (λ (x : View). Has x.mine p d) (sym t.1) hv)) (at_end [] (first_owner key) v i ai)
 
-module _ (key : List (List ℕ)) (words : List ℕ) (views : List View) (o : View) (k : IsKeptBy key words views o) where
+module _ (key : List (List ℕ)) (words : List ℕ) (views : List View) (o : View) (k : KeepsWordRuleBy key words views o) where
   -- a follower sees the list whole
-  pub load_kept : (by : ℕ) (v : View) → get_elem? views by ≡ some v → v.owns ≡ false → IsKeptBy key words (set views by (record v { seen = o.seen })) o
+  pub load_kept : (by : ℕ) (v : View) → get_elem? views by ≡ some v → v.owns ≡ false → KeepsWordRuleBy key words (set views by (record v { seen = o.seen })) o
   load_kept by v at owns = let w = record v { seen = o.seen } in record {
     at = set_else views by 0 w (λ h. not_owner key words views o k by v at owns (sym h)) ∙ k.at;
     owns = k.owns;
@@ -101,7 +101,7 @@ module _ (key : List (List ℕ)) (words : List ℕ) (views : List View) (o : Vie
       fits = let f = k.seats by v at in let known = f.known in let more = prefix_length v.seen o.seen f.seen in record { alone = f.alone; seen = prefix_self o.seen; told = f.told; low = f.low; known = omega arith; rises = f.rises; past = f.past; stands = f.stands }
 
   -- a new follower made nothing
-  pub split_kept : (by : ℕ) (v : View) → get_elem? views by ≡ some v → IsKeptBy key words (views ++ follower_of v [] ∷ []) o
+  pub split_kept : (by : ℕ) (v : View) → get_elem? views by ≡ some v → KeepsWordRuleBy key words (views ++ follower_of v [] ∷ []) o
   split_kept by v at = let r = follower_of v [] in record {
     at = at_longer views (r ∷ []) 0 o k.at;
     owns = k.owns;
@@ -118,7 +118,7 @@ module _ (key : List (List ℕ)) (words : List ℕ) (views : List View) (o : Vie
       fits : (j : ℕ) → Fits (length key) o j (follower_of v [])
       fits j = let f = k.seats by v at in record { alone = λ h. absurd (true≢false (sym h)); seen = f.seen; told = (o.seen, refl); low = f.low; known = f.known; rises = tt; past = λ p e h. absurd h; stands = λ p e h. absurd h }
 
-module _ (key : List (List ℕ)) (words : List ℕ) (views : List View) (v : View) (k : IsKeptBy key words views v) (by : ℕ) (here : by ≡ 0) (at : get_elem? views by ≡ some v) where
+module _ (key : List (List ℕ)) (words : List ℕ) (views : List View) (v : View) (k : KeepsWordRuleBy key words views v) (by : ℕ) (here : by ≡ 0) (at : get_elem? views by ≡ some v) where
   at_owner : (w : View) → get_elem? (set views by w) 0 ≡ some w
   at_owner w = subst (λ (n : ℕ). get_elem? (set views by w) n ≡ some w) here (set_at views by v w at)
 
@@ -128,7 +128,7 @@ module _ (key : List (List ℕ)) (words : List ℕ) (views : List View) (v : Vie
 
   -- the entry set aside comes
   pub bump_aside : (entry : List ℕ) → v.coming ≡ Some entry → (n : ℕ) → length (v.seen ++ entry ∷ []) ≡ n
-      → IsKeptBy key (n ∷ []) (set views by (record v { seen = v.seen ++ entry ∷ []; coming = None })) (record v { seen = v.seen ++ entry ∷ []; coming = None })
+      → KeepsWordRuleBy key (n ∷ []) (set views by (record v { seen = v.seen ++ entry ∷ []; coming = None })) (record v { seen = v.seen ++ entry ∷ []; coming = None })
   bump_aside entry is n len = let w = record v { seen = v.seen ++ entry ∷ []; coming = None } in record {
     at = at_owner w;
     owns = k.owns;
@@ -162,7 +162,7 @@ module _ (key : List (List ℕ)) (words : List ℕ) (views : List View) (v : Vie
 
   -- an entry that the owner made comes
   pub bump_own : (entry : List ℕ) → v.coming ≡ None → (n : ℕ) → length (v.seen ++ entry ∷ []) ≡ n
-      → IsKeptBy key (n ∷ []) (set views by (record v { seen = v.seen ++ entry ∷ []; mine = v.mine ++ (length v.seen, entry) ∷ [] })) (record v { seen = v.seen ++ entry ∷ []; mine = v.mine ++ (length v.seen, entry) ∷ [] })
+      → KeepsWordRuleBy key (n ∷ []) (set views by (record v { seen = v.seen ++ entry ∷ []; mine = v.mine ++ (length v.seen, entry) ∷ [] })) (record v { seen = v.seen ++ entry ∷ []; mine = v.mine ++ (length v.seen, entry) ∷ [] })
   bump_own entry none n len = let w = record v { seen = v.seen ++ entry ∷ []; mine = v.mine ++ (length v.seen, entry) ∷ [] } in record {
     at = at_owner w;
     owns = k.owns;
@@ -240,7 +240,7 @@ module _ (key : List (List ℕ)) (words : List ℕ) (views : List View) (v : Vie
 
   -- an entry is set aside, which a new follower made
   pub aside_kept : (entry : List ℕ) → v.coming ≡ None
-      → IsKeptBy key words (set views by (record v { coming = Some entry }) ++ follower_of v ((length v.seen, entry) ∷ []) ∷ []) (record v { coming = Some entry })
+      → KeepsWordRuleBy key words (set views by (record v { coming = Some entry }) ++ follower_of v ((length v.seen, entry) ∷ []) ∷ []) (record v { coming = Some entry })
   aside_kept entry none =
       let w = record v { coming = Some entry } in
       let r = follower_of v ((length v.seen, entry) ∷ []) in
@@ -310,7 +310,7 @@ abbrev pub joined_rows : List View → ℕ → View → ℕ → List View
 joined_rows views by b other = set (set views by b) other spent
 
 -- a seat takes in another, whose view is spent; the owner's view may be the one that changes
-module _ (key : List (List ℕ)) (words : List ℕ) (views : List View) (o : View) (k : IsKeptBy key words views o) (by other : ℕ) (v u b : View) (at : get_elem? views by ≡ some v) (there : get_elem? views other ≡ some u) (ne : other ≢ by) (both : b.mine ≡ joined v.mine u.mine) where
+module _ (key : List (List ℕ)) (words : List ℕ) (views : List View) (o : View) (k : KeepsWordRuleBy key words views o) (by other : ℕ) (v u b : View) (at : get_elem? views by ≡ some v) (there : get_elem? views other ≡ some u) (ne : other ≢ by) (both : b.mine ≡ joined v.mine u.mine) where
   made_apart : (p : ℕ) (d e : List ℕ) → Has v.mine p d → Has u.mine p e → ⊥
   made_apart p d e hv hu = ne (sym (k.apart by other v u p d e at there hv hu))
 
@@ -361,7 +361,7 @@ module _ (key : List (List ℕ)) (words : List ℕ) (views : List View) (o : Vie
   pub join_kept : (told : List (List ℕ)) (mine : List (ℕ × List ℕ))
       → get_elem? (joined_rows views by b other) 0 ≡ some (record o { told = told; mine = mine })
       → b.owns ≡ v.owns → IsPrefix v.seen b.seen → IsPrefix b.seen o.seen → IsPrefix b.told o.seen → b.recovered ≡ v.recovered
-      → IsKeptBy key words (joined_rows views by b other) (record o { told = told; mine = mine })
+      → KeepsWordRuleBy key words (joined_rows views by b other) (record o { told = told; mine = mine })
   join_kept told mine home owns grows seen tells low =
       let n : View = record o { told = told; mine = mine } in
       record {

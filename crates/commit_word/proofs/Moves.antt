@@ -8,15 +8,15 @@ use Rattle.atomic_table.specs.Table.{State, Me, step, Act, keeps, Valid, stepped
 use Rattle.atomic_table.proofs.Lists.{set_else, set_again}
 use Rattle.commit_word.specs.declared.views.View.{View}
 use Rattle.commit_word.specs.Entries.{joined}
-use Rattle.commit_word.specs.Rule.{Fits, IsKeptBy, IsKept, laid_out}
-use Rattle.commit_word.specs.Steps.{follower_of, spent, both_seats, owner_with, set_aside, made_aside, Loads, Looks, Bumps}
+use Rattle.commit_word.specs.Rule.{Fits, KeepsWordRuleBy, KeepsWordRule, laid_out}
+use Rattle.commit_word.specs.inner.Steps.{follower_of, spent, both_seats, owner_with, set_aside, made_aside, Loads, Looks, Bumps}
 use Rattle.commit_word.proofs.Prefixes.{prefix_self, prefix_length, prefix_shorter, prefix_within, longer_both}
 use Rattle.commit_word.proofs.Rows.{set_at}
 use Rattle.commit_word.proofs.Kept.{laid_prefix, laid_length, owner_at, not_owner, made_by, load_kept, split_kept, bump_aside, bump_own, aside_kept, joined_rows, rows_by, join_kept}
 
 -- the words after a step that leaves the word
-same_words : (key : List (List ℕ)) (o : View) (words : List ℕ) (views : List View) → words ≡ length o.seen ∷ [] → IsKeptBy key words views o → IsKeptBy key (slice_set words 0 (slice_index words 0)) views o
-same_words key o words views is k = subst (λ ws. IsKeptBy key ws views o) (sym (ap (λ ws. slice_set ws 0 (slice_index ws 0)) is ∙ sym is)) k
+same_words : (key : List (List ℕ)) (o : View) (words : List ℕ) (views : List View) → words ≡ length o.seen ∷ [] → KeepsWordRuleBy key words views o → KeepsWordRuleBy key (slice_set words 0 (slice_index words 0)) views o
+same_words key o words views is k = subst (λ ws. KeepsWordRuleBy key ws views o) (sym (ap (λ ws. slice_set ws 0 (slice_index ws 0)) is ∙ sym is)) k
 
 within_seen : (o : View) (p : ℕ) (e : List ℕ) → p < length o.seen → slice_get (laid_out o) p ≡ Some e → slice_get o.seen p ≡ Some e
 within_seen o p e lt h = prefix_within o.seen (laid_out o) p e (laid_prefix o.seen o.coming) lt h
@@ -30,12 +30,12 @@ off views id v both other u ne e = sym (set_else views id other both ne) ∙ e
 
 module _ (key : List (List ℕ)) where
   abbrev pub Holds : {S : Type 0} → State S View → Type 0
-  Holds s = IsKept key s.words s.views
+  Holds s = KeepsWordRule key s.words s.views
 
   pub loads : {S : Type 0} (slots id : ℕ) (me : Me S View) → me.1 ≡ [] → me.0.owns ≡ false → Allows (Holds {S = S}) slots id me 0 (λ n. n) (Loads (step 0 0 0 0 none) me)
   loads slots id me empty owns s held homes at fits =
       let o : View = held.0 in
-      let k : IsKeptBy key s.words s.views o = held.1 in
+      let k : KeepsWordRuleBy key s.words s.views o = held.1 in
       let f : Fits (length key) o id me.0 = k.seats id me.0 at in
       let found : length o.seen ≡ slice_index s.words 0 = sym (ap (λ ws. slice_index ws 0) k.word) in (
         record me.0 { seen = o.seen },
@@ -55,7 +55,7 @@ module _ (key : List (List ℕ)) where
   pub looks : {S : Type 0} (slots id : ℕ) (me : Me S View) → me.1 ≡ [] → (me.0.owns ≡ true) ⊎ (length me.0.told ≤ length me.0.seen) → Allows (Holds {S = S}) slots id me 0 (λ n. n) (Looks (step 0 0 0 0 none) me)
   looks slots id me empty short s held homes at fits =
       let o : View = held.0 in
-      let k : IsKeptBy key s.words s.views o = held.1 in
+      let k : KeepsWordRuleBy key s.words s.views o = held.1 in
       let f : Fits (length key) o id me.0 = k.seats id me.0 at in
       let told : IsPrefix me.0.told me.0.seen =
       ⊎_elim
@@ -65,7 +65,7 @@ module _ (key : List (List ℕ)) where
         me.0,
         keeps,
         tt,
-        (o, same_words key o s.words (set s.views id me.0) k.word (subst (λ vs. IsKeptBy key s.words vs o) (sym (set_again s.views id me.0 at)) k)),
+        (o, same_words key o s.words (set s.views id me.0) k.word (subst (λ vs. KeepsWordRuleBy key s.words vs o) (sym (set_again s.views id me.0 at)) k)),
         ((λ i. (me.0, empty i)), told, made_by (length key) o id me.0 f, λ owns. ((owner_at key s.words s.views id me.0 at owns held).1.seats id me.0 at).stands),
       )
 
@@ -75,7 +75,7 @@ module _ (key : List (List ℕ)) where
       v : View
       v = me.0
 
-      here : (id ≡ 0) × IsKeptBy key s.words s.views me.0
+      here : (id ≡ 0) × KeepsWordRuleBy key s.words s.views me.0
       here = owner_at key s.words s.views id me.0 at owns held
 
       m : ℕ
@@ -95,7 +95,7 @@ module _ (key : List (List ℕ)) where
             w,
             keeps,
             tt,
-            (w, subst (λ ws. IsKeptBy key ws (set s.views id w) w) (sym (one_word ((slice_index s.words 0 + 1) % 2 ^ 64))) k),
+            (w, subst (λ ws. KeepsWordRuleBy key ws (set s.views id w) w) (sym (one_word ((slice_index s.words 0 + 1) % 2 ^ 64))) k),
             (
               empty,
               made_by (length key) w id w (k.seats id w (set_at s.views id me.0 w at)),
@@ -109,7 +109,7 @@ module _ (key : List (List ℕ)) where
             w,
             keeps,
             tt,
-            (w, subst (λ ws. IsKeptBy key ws (set s.views id w) w) (sym (one_word ((slice_index s.words 0 + 1) % 2 ^ 64))) k),
+            (w, subst (λ ws. KeepsWordRuleBy key ws (set s.views id w) w) (sym (one_word ((slice_index s.words 0 + 1) % 2 ^ 64))) k),
             (
               empty,
               made_by (length key) w id w (k.seats id w (set_at s.views id me.0 w at)),
@@ -120,7 +120,7 @@ module _ (key : List (List ℕ)) where
 
   pub copies : {S : Type 0} (id : ℕ) (v : View) → Splits (Holds {S = S}) id v v (follower_of v [])
   copies id v s held at =
-      (held.0, subst (λ vs. IsKeptBy key s.words (vs ++ follower_of v [] ∷ []) held.0) (sym (set_again s.views id v at)) (split_kept key s.words s.views held.0 held.1 id v at))
+      (held.0, subst (λ vs. KeepsWordRuleBy key s.words (vs ++ follower_of v [] ∷ []) held.0) (sym (set_again s.views id v at)) (split_kept key s.words s.views held.0 held.1 id v at))
 
   pub sets_aside : {S : Type 0} (id : ℕ) (v : View) (entries : List (List ℕ)) → v.owns ≡ true → v.coming ≡ None → length entries ≡ 1 → Splits (Holds {S = S}) id v (set_aside entries v) (made_aside entries v)
   sets_aside id v [] owns free one s held at = absurd (omega arith)
@@ -132,7 +132,7 @@ module _ (key : List (List ℕ)) where
   pub meets : {S : Type 0} (id : ℕ) (v : View) (other : ℕ) (u : View) → v.owns ≡ false → u.owns ≡ false → Joins (Holds {S = S}) id v other u (both_seats v u) spent
   meets id v other u owns other_owns s held at ne there =
       let o : View = held.0 in
-      let k : IsKeptBy key s.words s.views o = held.1 in
+      let k : KeepsWordRuleBy key s.words s.views o = held.1 in
       let b : View = both_seats v u in
       let was : get_elem? s.views other ≡ some u = off s.views id v b other u ne there in
       let long = longer_both v.seen u.seen o.seen (k.seats id v at).seen (k.seats other u was).seen in
@@ -144,7 +144,7 @@ module _ (key : List (List ℕ)) where
   pub takes_in : {S : Type 0} (id : ℕ) (v : View) (other : ℕ) (u : View) → v.owns ≡ true → Joins (Holds {S = S}) id v other u (owner_with v u) spent
   takes_in id v other u owns s held at ne there =
       let here = owner_at key s.words s.views id v at owns held in
-      let k : IsKeptBy key s.words s.views v = here.1 in
+      let k : KeepsWordRuleBy key s.words s.views v = here.1 in
       let b : View = owner_with v u in
       let was : get_elem? s.views other ≡ some u = off s.views id v b other u ne there in
       let home : get_elem? (joined_rows s.views id b other) 0 ≡ some b =

@@ -5,7 +5,7 @@ use mathlib.Core.Option.{some}
 use lib.ListN.{get_elem?}
 use Rattle.commit_word.specs.declared.views.View.{View}
 use Rattle.commit_word.specs.Entries.{Has, with_coming}
-use Rattle.commit_word.specs.Rule.{IsKeptBy, IsMade}
+use Rattle.commit_word.specs.Rule.{KeepsWordRuleBy, IsMade}
 use Rattle.commit_word.proofs.Prefixes.{prefix_length, slice_get_end}
 
 -- what stands past what was seen is the entry that comes
@@ -16,11 +16,11 @@ coming_at seen (Some e) place entry h far =
     let here : place ≡ length seen = omega (arith, length-append seen (e ∷ [])) in
     (here, sym (slice_get_end seen e) ∙ (ap (slice_get (seen ++ e ∷ [])) (sym here) ∙ h))
 
-pub noted : (recovered : List (List ℕ)) (words : List ℕ) (views : List View) (owner : View) → IsKeptBy recovered words views owner
+pub noted : (recovered : List (List ℕ)) (words : List ℕ) (views : List View) (owner : View) → KeepsWordRuleBy recovered words views owner
     → (by : ℕ) (v : View) (place : ℕ) (entry : List ℕ) → get_elem? views by ≡ some v → Has v.mine place entry → length owner.seen ≤ place → (place ≡ length owner.seen) × (owner.coming ≡ Some entry)
 noted recovered words views owner k by v place entry at h far = coming_at owner.seen owner.coming place entry ((k.seats by v at).stands place entry h) far
 
-pub made : (recovered : List (List ℕ)) (words : List ℕ) (views : List View) (owner : View) → IsKeptBy recovered words views owner
+pub made : (recovered : List (List ℕ)) (words : List ℕ) (views : List View) (owner : View) → KeepsWordRuleBy recovered words views owner
     → (entry : List ℕ) → owner.coming ≡ Some entry → (by : ℕ) × (v : View) × (get_elem? views by ≡ some v) × Has v.mine (length owner.seen) entry
 made recovered words views owner k entry is =
     let all : with_coming owner.seen owner.coming ≡ owner.seen ++ entry ∷ [] = ap (with_coming owner.seen) is in
@@ -34,7 +34,7 @@ longer_with_coming : (seen : List (List ℕ)) (coming : Option (List ℕ)) → l
 longer_with_coming seen None = omega arith
 longer_with_coming seen (Some e) = omega (arith, length-append seen (e ∷ []))
 
-pub each : (recovered : List (List ℕ)) (words : List ℕ) (views : List View) (owner : View) → IsKeptBy recovered words views owner
+pub each : (recovered : List (List ℕ)) (words : List ℕ) (views : List View) (owner : View) → KeepsWordRuleBy recovered words views owner
     → (place : ℕ) → length recovered ≤ place → place < length owner.seen → IsMade views place
 each recovered words views owner k place past below =
     k.covered place past (omega (arith, below, longer_with_coming owner.seen owner.coming))

@@ -1,4 +1,4 @@
 pub mod Entries
 pub mod Seats
 pub mod Rule
-pub mod Steps
+pub mod inner

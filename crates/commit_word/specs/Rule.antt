@@ -39,7 +39,7 @@ IsMade views place =
 -- The word is the length of what the owner has seen, which begins with the recovered list. No place
 -- stands in what two seats made. From the recovered count on each place below the word, and that of
 -- the entry set aside, stands in what some seat made
-pub record IsKeptBy
+pub record KeepsWordRuleBy
     (recovered : List (List ℕ)) (words : List ℕ) (views : List View) (owner : View) : Type 0 where
   pub at : get_elem? views 0 ≡ some owner
   pub owns : owner.owns ≡ true
@@ -52,5 +52,5 @@ pub record IsKeptBy
       (place : ℕ) → length recovered ≤ place → place < length (laid_out owner) → IsMade views place
 
 -- the rule, of the words of the table and of the views of all seats
-abbrev pub IsKept : List (List ℕ) → List ℕ → List View → Type 0
-IsKept recovered words views = (owner : View) × IsKeptBy recovered words views owner
+abbrev pub KeepsWordRule : List (List ℕ) → List ℕ → List View → Type 0
+KeepsWordRule recovered words views = (owner : View) × KeepsWordRuleBy recovered words views owner

@@ -21,7 +21,7 @@ impl Model for Follower {
 
     ghost Value = { FollowerSeat };
 
-    ghost use Rattle.commit_word.specs.Steps.{follower_seat_of, IsMadeBy};
+    ghost use Rattle.commit_word.specs.inner.Steps.{follower_seat_of, IsMadeBy};
 
     ghost view = { λ f. follower_seat_of f.seat.table_id f.seat.me.0 };
 

@@ -5,7 +5,7 @@ ghost use mathlib.Core.Option.{some};
 ghost use lib.ListN.{get_elem?};
 ghost use Rattle.commit_word.specs.declared.views.View.{View};
 ghost use Rattle.commit_word.specs.Entries.{Has, Rises, IsPast, joined};
-ghost use Rattle.commit_word.specs.Rule.{IsKeptBy, IsMade};
+ghost use Rattle.commit_word.specs.Rule.{KeepsWordRuleBy, IsMade};
 
 /// What is joined has the entries of both and no others, as many as both have, and an entry past all
 /// others comes last.
@@ -31,12 +31,12 @@ pub fn as_many_as_places_are_all()
 /// says which; where it says one, one seat made it.
 pub fn one_entry_is_set_aside()
     ensures noted { (recovered : List (List ℕ)) (words : List ℕ) (views : List View) (owner : View)
-        → IsKeptBy recovered words views owner
+        → KeepsWordRuleBy recovered words views owner
         → (by : ℕ) (v : View) (place : ℕ) (entry : List ℕ)
         → get_elem? views by ≡ some v → Has v.mine place entry → length owner.seen ≤ place
         → (place ≡ length owner.seen) × (owner.coming ≡ Some entry) }
     ensures made { (recovered : List (List ℕ)) (words : List ℕ) (views : List View) (owner : View)
-        → IsKeptBy recovered words views owner
+        → KeepsWordRuleBy recovered words views owner
         → (entry : List ℕ) → owner.coming ≡ Some entry
         → (by : ℕ) × (v : View) × (get_elem? views by ≡ some v) × Has v.mine (length owner.seen) entry }
 {}
@@ -45,6 +45,6 @@ pub fn one_entry_is_set_aside()
 /// seat made.
 pub fn each_place_was_made()
     ensures { (recovered : List (List ℕ)) (words : List ℕ) (views : List View) (owner : View)
-        → IsKeptBy recovered words views owner
+        → KeepsWordRuleBy recovered words views owner
         → (place : ℕ) → length recovered ≤ place → place < length owner.seen → IsMade views place }
 {}

@@ -22,7 +22,7 @@ impl Model for Owner {
 
     ghost Value = { OwnerSeat };
 
-    ghost use Rattle.commit_word.specs.Steps.{owner_seat, IsMadeBy, IsOwnedBy};
+    ghost use Rattle.commit_word.specs.inner.Steps.{owner_seat, IsMadeBy, IsOwnedBy};
 
     ghost view = { λ o. owner_seat o.seat.table_id o.seat.me.0 };
 

@@ -25,10 +25,10 @@ pub struct View {
 pub struct Counts;
 
 impl TableRule<(), View, Recovered> for Counts {
-    ghost use Rattle.commit_word.specs.Rule.{IsKept};
-    ghost use Rattle.commit_word.specs.Steps.{first_owner};
+    ghost use Rattle.commit_word.specs.Rule.{KeepsWordRule};
+    ghost use Rattle.commit_word.specs.inner.Steps.{first_owner};
 
-    ghost holds = { λ recovered state. IsKept recovered.log state.words state.views };
+    ghost holds = { λ recovered state. KeepsWordRule recovered.log state.words state.views };
 
     ghost first = { λ recovered. first_owner recovered.log };
 }
@@ -37,7 +37,7 @@ impl TableRule<(), View, Recovered> for Counts {
 pub struct Load;
 
 impl Play<(), View> for Load {
-    ghost use Rattle.commit_word.specs.Steps.{Loads};
+    ghost use Rattle.commit_word.specs.inner.Steps.{Loads};
 
     ghost then = { Loads };
 }
@@ -46,7 +46,7 @@ impl Play<(), View> for Load {
 pub struct Look;
 
 impl Play<(), View> for Look {
-    ghost use Rattle.commit_word.specs.Steps.{Looks};
+    ghost use Rattle.commit_word.specs.inner.Steps.{Looks};
 
     ghost then = { Looks };
 }
@@ -55,7 +55,7 @@ impl Play<(), View> for Look {
 pub struct Bump;
 
 impl Play<(), View> for Bump {
-    ghost use Rattle.commit_word.specs.Steps.{Bumps};
+    ghost use Rattle.commit_word.specs.inner.Steps.{Bumps};
 
     ghost then = { Bumps };
 }
@@ -65,7 +65,7 @@ pub struct Copies;
 
 impl Split<View> for Copies {
     ghost use Rattle.std.specs.Prelude.{[]};
-    ghost use Rattle.commit_word.specs.Steps.{follower_of};
+    ghost use Rattle.commit_word.specs.inner.Steps.{follower_of};
 
     ghost left = { λ v. v };
 
@@ -78,7 +78,7 @@ pub struct SetsAside<E> {
 }
 
 impl<E: Entries> Split<View> for SetsAside<E> {
-    ghost use Rattle.commit_word.specs.Steps.{set_aside, made_aside};
+    ghost use Rattle.commit_word.specs.inner.Steps.{set_aside, made_aside};
 
     ghost left = { set_aside E.list };
 
@@ -89,7 +89,7 @@ impl<E: Entries> Split<View> for SetsAside<E> {
 pub struct Meets;
 
 impl Join<View> for Meets {
-    ghost use Rattle.commit_word.specs.Steps.{both_seats, spent};
+    ghost use Rattle.commit_word.specs.inner.Steps.{both_seats, spent};
 
     ghost both = { both_seats };
 
@@ -100,7 +100,7 @@ impl Join<View> for Meets {
 pub struct TakesIn;
 
 impl Join<View> for TakesIn {
-    ghost use Rattle.commit_word.specs.Steps.{owner_with, spent};
+    ghost use Rattle.commit_word.specs.inner.Steps.{owner_with, spent};
 
     ghost both = { owner_with };
 

@@ -31,7 +31,8 @@ impl Model for Word {
 pub(crate) type Place = Seat<(), View>;
 
 impl Word {
-    /// A word that counts the recovered list `E`, with the seat of its owner.
+    /// A word that counts the recovered list `E`, with the seat of its owner. `count` is how many
+    /// entries it has.
     pub fn new<E: Entries>(alloc: Global, count: u64) -> Result<(Word, Owner), AllocError>
         requires { length E.list ≡ count }
         ensures { IfOk result (λ r.

@@ -3,7 +3,7 @@ use Rattle.std.proofs.Common.{◌≡◌, ℕ, ◌<◌, ◌^◌, List, ◌++◌, 
 use Rattle.sha2.specs.Sha256.{sha256}
 use Rattle.der.specs.Tags as tag
 use Rattle.der.specs.Spelling.{spelled}
-use Rattle.der_forms.specs.Object.{Spells}
+use Rattle.der.specs.Object.{Spells}
 use Rattle.object_parts.specs.FrameFormats.{signature}
 use Rattle.crl_obj.specs.Values.{CrlValue, IsCrl}
 use Rattle.crl_obj.specs.Formats.{signed_bytes, signed_crl}

@@ -1,7 +1,7 @@
--- What a CRL says, and which CRLs have a spelling.
+-- What a CRL says, and which CRLs have a spelling (RFC 5280 section 5, RFC 6487 section 5).
 use Rattle.std.specs.Prelude.{◌≡◌, ℕ, ◌<◌, ◌^◌, Bool, true, ◌&&◌, nat_lt, List, [], ◌∷◌, length}
 use Rattle.der.specs.Grammar.{AreBytes}
-use Rattle.der_forms.specs.Forms.{AreAll}
+use Rattle.der.specs.Forms.{AreAll}
 use Rattle.moments.specs.Civil.{IsMoment}
 use Rattle.crl_obj.specs.declared.values.Crl.{Crl}
 use Rattle.crl_obj.specs.declared.values.CrlEntry.{CrlEntry}

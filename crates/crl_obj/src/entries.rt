@@ -1,8 +1,8 @@
-//! Lists of revoked certificates.
+//! Lists of revoked certificates (RFC 5280 section 5.1.2.6).
 
 ghost use Rattle.std.specs.Prelude.{◌≡◌, ◌↔◌, ◌<◌, ◌^◌, true, length, IsTrue};
 ghost use Rattle.der.specs.Grammar.{AreBytes};
-ghost use Rattle.der_forms.specs.Forms.{AreAll};
+ghost use Rattle.der.specs.Forms.{AreAll};
 ghost use Rattle.moments.specs.Civil.{IsMoment};
 ghost use Rattle.crl_obj.specs.Values.{IsEntry, rise_above, are_rising, IsCrl, crl_value};
 ghost use Rattle.crl_obj.specs.Formats.{is_listed};

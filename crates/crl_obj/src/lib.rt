@@ -1,4 +1,5 @@
-//! Certificate revocation lists of the RPKI (RFC 5280 section 5, RFC 6487 section 5).
+//! The format of a certificate revocation list of the RPKI (RFC 5280 section 5, RFC 6487 section
+//! 5), read and written.
 #![tactic(auto)]
 
 mod entries;

@@ -1,21 +1,21 @@
-//! Readers of CRLs.
+//! Readers of CRLs (RFC 5280 section 5.1, RFC 6487 section 5).
 
 ghost use Rattle.std.specs.Prelude.{◌≡◌, IfOk, IfErr};
 ghost use Rattle.sha2.specs.Sha256.{sha256};
-ghost use Rattle.der_forms.specs.Place.{place};
-ghost use Rattle.der_forms.specs.Outcome.{Gives, GivesUnlessMemory, UnlessMemory};
-ghost use Rattle.der_forms.specs.Object.{Spells, read_object, IsTrueFault};
-ghost use Rattle.der_forms.specs.Forms.{many as many_form};
-ghost use Rattle.der_forms.specs.ListLaws.{front-moves};
+ghost use Rattle.der.specs.Part.{place};
+ghost use Rattle.der.specs.Outcome.{Gives, GivesUnlessMemory, UnlessMemory};
+ghost use Rattle.der.specs.Object.{Spells, read_object, IsTrueFault};
+ghost use Rattle.der.specs.Forms.{many as many_form};
+ghost use Rattle.der.specs.laws.ListLaws.{front-moves};
 ghost use Rattle.crl_obj.specs.declared.values.CrlEntry.{CrlEntry};
 ghost use Rattle.crl_obj.specs.Values.{SignedCrl, crl_value, read_value};
 ghost use Rattle.crl_obj.specs.Formats.{entry, listed, crl_number, extensions, revoked, body, tbs_content, signed_crl};
-ghost use Rattle.crl_obj.specs.Laws.{entry-law, signed_crl-law};
+ghost use Rattle.crl_obj.specs.laws.CrlLaws.{entry-law, signed_crl-law};
 
 use crate::entries::is_listed;
 use crate::values::{Crl, CrlEntry, ReadCrl};
-use der_forms::tags::{CONTEXT_0, INTEGER, SEQUENCE};
-use der_forms::{FrontReader, Part, ShapeFault, WholeReader, constant, many, number, object};
+use der::tags::{CONTEXT_0, INTEGER, SEQUENCE};
+use der::{FrontReader, Part, ShapeFault, WholeReader, constant, many, number, object};
 use key_ids::KeyId;
 use object_parts::identifiers::CRL_NUMBER;
 use object_parts::{extension, issuer_key, name, signature_algorithm, signed, time};
@@ -209,7 +209,10 @@ impl<'a> WholeReader<'a> for CrlReader {
     ghost is_whole = { λ reader. signed_crl-law };
 }
 
-/// The CRL that the bytes are.
+/// The CRL that the bytes are (RFC 5280 section 5.1, RFC 6487 section 5).
+///
+/// The place in `Shape` is an offset in bytes. Whether the signature holds and whether the next CRL
+/// is due isn't asked here.
 pub fn read(alloc: Global, bytes: &[u8]) -> Result<ReadCrl, ShapeFault>
     // What is read is spelled so, each byte of it, and what is spelled so is read.
     ensures found { IfOk result (λ x. Spells signed_crl (read_value x) bytes.now) }

@@ -1,17 +1,17 @@
-//! Writers of CRLs.
+//! Writers of CRLs (RFC 5280 section 5.1, RFC 6487 section 5).
 
 ghost use Rattle.std.specs.Prelude.{◌≡◌, ◌<◌, ◌^◌, ◌++◌, length, IfOk, OnOk};
 ghost use Rattle.sha2.specs.Sha256.{sha256};
 ghost use Rattle.der.specs.Tags as tag;
 ghost use Rattle.der.specs.Spelling.{spelled};
-ghost use Rattle.der_forms.specs.Forms.{AreAll, many, spelled_some};
-ghost use Rattle.der_forms.specs.Object.{Spells};
+ghost use Rattle.der.specs.Forms.{AreAll, many, spelled_some};
+ghost use Rattle.der.specs.Object.{Spells};
 ghost use Rattle.object_parts.specs.FrameFormats.{signature as signature_form};
 ghost use Rattle.crl_obj.specs.Values.{CrlValue, IsEntry, IsCrl, crl_value};
 ghost use Rattle.crl_obj.specs.Formats.{entry, listed, list_of, crl_number, extensions, body, parts_of, tbs_content, signed_bytes, signed_crl};
 
 use crate::values::{Crl, CrlEntry};
-use der_forms::tags::{CONTEXT_0, INTEGER, OCTET_STRING, SEQUENCE};
+use der::tags::{CONTEXT_0, INTEGER, OCTET_STRING, SEQUENCE};
 use object_parts::identifiers::CRL_NUMBER;
 use object_parts::{
     push_identifier, push_issuer_key, push_name, push_signature_algorithm, push_time, write_signed,
@@ -125,7 +125,8 @@ fn push_content(alloc: Global, out: &mut Vec<u8>, crl: &Crl) -> Result<(), Alloc
 }
 
 impl Crl {
-    /// The bytes that are signed. Whether there are any, `has_spelling` says.
+    /// The bytes that are signed (tbsCertList, RFC 5280 section 5.1.2). Whether there are any,
+    /// `has_spelling` says.
     #[tactic(auto, unfolding(crate::specs::Formats::signed_bytes))]
     pub fn tbs(&self, alloc: Global) -> Result<Vec<u8>, AllocError>
         requires { IsCrl (crl_value self.now) }
@@ -143,7 +144,7 @@ fn is_whole(signature: &[u8; 256])
     ensures size { length signature.now ≡ 256 }
 {}
 
-/// The CRL of the bytes that are signed, and their signature.
+/// The CRL of the bytes that are signed, and their signature (RFC 5280 section 5.1.1).
 pub fn write(alloc: Global, tbs: &[u8], signature: &Signature) -> Result<Vec<u8>, AllocError>
     // An element around what is signed, the algorithm and the signature.
     ensures bytes { IfOk result (λ out.

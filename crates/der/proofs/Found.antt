@@ -8,8 +8,8 @@ use Rattle.der.specs.declared.fault.DerFault.TheVariants.{Truncated, BadTag, Bad
 use Rattle.der.specs.Spelling.{spelled, unsigned_spelling, bits_spelling, AreBits}
 use Rattle.der.specs.Reading.{◌>>=◌, number, is_longer_than_needed, length_at, content_at, element_at, is_shortest_unsigned, number_of, unsigned_at, are_bits, bits_of, bits_at}
 use Rattle.der.specs.Grammar.{AreBytes, element_in, whole_in, unsigned_in, bits_in}
-use Rattle.der.specs.ElementLaws.{element-taken, element-again}
-use Rattle.der.specs.ContentLaws.{unsigned-taken, unsigned-again, bits-taken, bits-again}
+use Rattle.der.specs.laws.ElementLaws.{element-taken, element-again}
+use Rattle.der.specs.laws.ContentLaws.{unsigned-taken, unsigned-again, bits-taken, bits-again}
 
 -- A choice and a step of two readings that answer alike, but for the fault.
 both : {A : Type 0} (b : Bool) (x y r s : Result A DerFault) → result_ok x ≡ result_ok y → result_ok r ≡ result_ok s → result_ok (cond b x r) ≡ result_ok (cond b y s)

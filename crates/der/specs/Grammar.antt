@@ -1,4 +1,5 @@
--- What stands at the front of bytes, if anything does: the parts of a format's own reading.
+-- What stands at the front of bytes, if anything does: the parts of a format's own reading (X.690
+-- section 8.1).
 use Rattle.std.specs.Prelude.{ℕ, ◌<◌, List, [], ◌∷◌, Option, Some, None, slice_index}
 use Rattle.std.specs.Option.{option_map}
 use Rattle.std.specs.Result.{result_ok}

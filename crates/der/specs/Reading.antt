@@ -1,4 +1,4 @@
--- What stands at the front of bytes, or the first fault there.
+-- What stands at the front of bytes, or the first fault there (X.690 section 8.1).
 use Rattle.std.specs.Prelude.{◌≡◌, ℕ, ◌-◌, ◌%◌, ◌^◌, Bool, false, ◌&&◌, ◌||◌, not, List, [], ◌∷◌, length, take, drop, Result, Ok, Err, nat_lt, ◌==◌, slice_index, if◌then◌else◌}
 use Rattle.std.specs.Int.Digits.{number_from_digits}
 use Rattle.der.specs.declared.fault.DerFault.{DerFault}

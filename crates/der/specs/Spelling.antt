@@ -1,4 +1,5 @@
--- The one spelling of an element by the distinguished encoding rules (X.690).
+-- The one spelling of an element by the distinguished encoding rules (X.690 sections 8, 10 and
+-- 11).
 use Rattle.std.specs.Prelude.{◌≡◌, ℕ, ◌+◌, ◌-◌, ◌%◌, ◌^◌, ◌<◌, List, [], ◌∷◌, ◌++◌, length, Bool, true, nat_lt, nat_le, slice_index, if◌then◌else◌}
 use Rattle.std.specs.Int.Digits.{digits_of}
 

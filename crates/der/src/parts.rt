@@ -1,4 +1,4 @@
-//! Parts of a slice: an element's content, and what stands in it.
+//! Parts of a slice: an element's content, and what stands in it (X.690 sections 8.1, 8.3 and 8.6).
 
 ghost use Rattle.std.specs.Prelude.{◌≡◌, ◌+◌, ◌<◌, ◌≤◌, ◌^◌, ◌++◌, ℕ, List, length, IfOk, Ok, SomeIff};
 ghost use Rattle.der.specs.Spelling.{spelled, unsigned_spelling, bits_spelling, AreBits};
@@ -7,7 +7,8 @@ ghost use Rattle.der.specs.Reading.{Gives, number, length_at, element_at, number
 use crate::fault::DerFault;
 use crate::{BIT_STRING, INTEGER};
 
-/// The content of a BIT STRING: how many of the last byte's low bits are unused, and the bytes.
+/// The content of a BIT STRING: how many of the last byte's low bits are unused, and the bytes
+/// (X.690 section 8.6.2).
 #[derive(Clone, Copy, Debug)]
 pub struct Bits<'a> {
     /// 0 to 7, and 0 where there is no byte. The unused bits are zero.
@@ -15,7 +16,8 @@ pub struct Bits<'a> {
     pub bytes: &'a [u8],
 }
 
-/// An element at the front of a slice: all its bytes, its content, and the bytes behind it.
+/// An element at the front of a slice: all its bytes, its content, and the bytes behind it (X.690
+/// section 8.1.1).
 #[derive(Clone, Copy, Debug)]
 pub struct Element<'a> {
     pub whole: &'a [u8],
@@ -64,7 +66,8 @@ fn length(at: u64, bytes: &[u8]) -> Result<(usize, &[u8]), DerFault>
 }
 
 /// The content of the element of that tag at the front of the bytes, which start at `at`, and the bytes
-/// behind the element.
+/// behind the element. `at` is an offset in bytes in the whole object, which a fault names (X.690
+/// section 8.1).
 #[tactic(auto, unfolding(crate::specs::Reading::element_at))]
 pub fn content_of(at: u64, tag: u8, bytes: &[u8]) -> Result<(&[u8], &[u8]), DerFault>
     ensures { Gives (λ x. (x.0.now, x.1.now)) result (element_at at tag bytes.now) }
@@ -82,7 +85,7 @@ pub fn content_of(at: u64, tag: u8, bytes: &[u8]) -> Result<(&[u8], &[u8]), DerF
     Ok(rest.split_at(n))
 }
 
-/// The element of that tag at the front of the bytes, which start at `at`.
+/// The element of that tag at the front of the bytes, which start at `at` (X.690 section 8.1).
 pub fn element_of(at: u64, tag: u8, bytes: &[u8]) -> Result<Element<'_>, DerFault>
     ensures read { Gives (λ e. (e.content.now, e.rest.now)) result (element_at at tag bytes.now) }
     ensures parts { IfOk result (λ e. bytes.now ≡ e.whole.now ++ e.rest.now) }

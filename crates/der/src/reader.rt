@@ -1,10 +1,10 @@
-//! A reader of one element after another.
+//! A reader of one element after another (X.690 section 8.1).
 
 ghost use Rattle.std.specs.Prelude.{◌≡◌, ◌+◌, ◌<◌, ◌≤◌, ◌^◌, ◌↔◌, ◌++◌, [], ℕ, List, length, slice_get, IsTrue, IfOk, OnOk, OnErr, Ok, IsOkAnd};
 ghost use Rattle.std.specs.Result.{result_ok, result_err};
 ghost use Rattle.std.specs.Option.{option_map};
 ghost use Rattle.der.specs.Spelling.{spelled, unsigned_spelling, bits_spelling, AreBits};
-ghost use Rattle.der.specs.Place.{Place, Passes};
+ghost use Rattle.der.specs.Position.{Position, Passes};
 ghost use Rattle.der.specs.Reading.{element_at, unsigned_at, bits_at};
 ghost use Rattle.der.specs.Grammar.{element_in, whole_in, unsigned_in, bits_in};
 
@@ -23,9 +23,9 @@ pub struct Reader<'a> {
 
 impl<'a> Model for Reader<'a> {
     ghost use Rattle.std.specs.Prelude.{◌+◌, ◌<◌, ◌^◌, length};
-    ghost use Rattle.der.specs.Place.{Place};
+    ghost use Rattle.der.specs.Position.{Position};
 
-    ghost Value = { Place };
+    ghost Value = { Position };
 
     ghost view = { λ r. record { at = r.at; left = r.left.now } };
 
@@ -62,7 +62,7 @@ impl<'a> Reader<'a> {
         self.left
     }
 
-    /// The content of the next element, which is to have that tag.
+    /// The content of the next element, which is to have that tag (X.690 section 8.1).
     pub fn take(&mut self, tag: u8) -> Result<&'a [u8], DerFault>
         ensures passes { IfOk result (λ content. Passes (spelled tag content.now) self.old self.new) }
         ensures short { IfOk result (λ content. length content.now < 2 ^ 32) }
@@ -113,7 +113,7 @@ impl<'a> Reader<'a> {
         Ok(whole)
     }
 
-    /// The next element, an INTEGER that isn't negative.
+    /// The next element, an INTEGER that isn't negative (X.690 section 8.3).
     pub fn unsigned(&mut self) -> Result<u64, DerFault>
         ensures passes { IfOk result (λ n. Passes (unsigned_spelling n) self.old self.new) }
         // What is spelled so is read, whatever follows.
@@ -135,7 +135,7 @@ impl<'a> Reader<'a> {
         Ok(n)
     }
 
-    /// The next element, a BIT STRING.
+    /// The next element, a BIT STRING (X.690 section 8.6).
     pub fn bits(&mut self) -> Result<Bits<'a>, DerFault>
         ensures passes { IfOk result (λ b. Passes (bits_spelling b.unused b.bytes.now) self.old self.new) }
         ensures bits { IfOk result (λ b. AreBits b.unused b.bytes.now) }

@@ -1,8 +1,8 @@
-//! Writers of single elements.
+//! Writers of single elements (X.690 sections 8.1, 8.3 and 8.6).
 
 ghost use Rattle.std.specs.Prelude.{◌≡◌, ◌++◌, ◌∷◌, ◌+◌, ◌-◌, ◌≤◌, List, ℕ, take, drop, length, slice_get, Some, OnOk, OnErr};
 ghost use Rattle.der.specs.Spelling.{length_bytes, needs_zero, nonnegative, spelled, unsigned_spelling, bits_spelling, AreBits};
-ghost use Rattle.der.specs.Digits.{without_zeros};
+ghost use Rattle.der.specs.inner.Digits.{without_zeros};
 
 use crate::{BIT_STRING, INTEGER};
 use std::alloc::{AllocError, Global};
@@ -96,7 +96,7 @@ fn or_undo(
     appended
 }
 
-/// Appends an element.
+/// Appends an element (X.690 section 8.1).
 ///
 /// [`Reader::take`](crate::Reader::take) reads it again where the content has fewer than 2 ^ 32 bytes.
 pub fn element(_alloc: Global, out: &mut Vec<u8>, tag: u8, content: &[u8]) -> Result<(), AllocError>
@@ -108,7 +108,7 @@ pub fn element(_alloc: Global, out: &mut Vec<u8>, tag: u8, content: &[u8]) -> Re
     or_undo(appended, out, len)
 }
 
-/// Appends an INTEGER.
+/// Appends an INTEGER (X.690 section 8.3).
 pub fn unsigned(alloc: Global, out: &mut Vec<u8>, n: u64) -> Result<(), AllocError>
     ensures ok { OnOk result (out.new.items ≡ out.old.items ++ unsigned_spelling n) }
     ensures err { OnErr result (out.new.items ≡ out.old.items) }
@@ -118,7 +118,8 @@ pub fn unsigned(alloc: Global, out: &mut Vec<u8>, n: u64) -> Result<(), AllocErr
     element(alloc, out, INTEGER, nonnegative(&bytes))
 }
 
-/// Appends a BIT STRING: the bytes, of the last of which so many low bits are unused.
+/// Appends a BIT STRING: the bytes, of the last of which so many low bits are unused (X.690
+/// sections 8.6 and 11.2).
 pub fn bits(_alloc: Global, out: &mut Vec<u8>, unused: u8, bytes: &[u8]) -> Result<(), AllocError>
     requires { AreBits unused bytes.now }
     ensures ok { OnOk result (out.new.items ≡ out.old.items ++ bits_spelling unused bytes.now) }
@@ -171,7 +172,7 @@ fn header(out: &mut Vec<u8>, tag: u8, len: usize) -> Result<(), AllocError>
     or_undo(pushed, out, before)
 }
 
-/// Makes an element of the bytes from that place on, in place.
+/// Makes an element of the bytes from that place on, in place. `from` is an offset in bytes.
 pub fn enclose(_alloc: Global, out: &mut Vec<u8>, from: usize, tag: u8) -> Result<(), AllocError>
     requires { from ≤ length out.old.items }
     ensures ok { OnOk result (out.new.items ≡ take from out.old.items ++ spelled tag (drop from out.old.items)) }

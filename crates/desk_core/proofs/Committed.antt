@@ -4,7 +4,7 @@ use Rattle.std.specs.Prelude.{IfSome, IsSome, min}
 use Rattle.std.specs.Option.{option_map}
 use Rattle.std.proofs.lemmas.List.{length-map}
 use Rattle.gate_journal.specs.Format.{spelled, taken_by, held_for, held_by, payloads}
-use Rattle.gate_journal.specs.BodyLaws.{sizes-payloads, taken-push, length-one, payloads-push}
+use Rattle.gate_journal.specs.laws.BodyLaws.{sizes-payloads, taken-push, length-one, payloads-push}
 use Rattle.disk_api.specs.Runs.{LeavesOnly}
 use Rattle.authority_book.specs.declared.commands.Command.{Command}
 use Rattle.authority_book.specs.Settings.{Settings}
@@ -17,11 +17,11 @@ use Rattle.gate_journal.specs.declared.fault.AppendFault.{AppendFault}
 use Rattle.gate_journal.specs.declared.fault.AppendFault.TheVariants.{Shut, JournalFull, DiskFault}
 use Rattle.desk_core.specs.View.{journal_limit}
 use Rattle.desk_core.specs.View as desk
-use Rattle.desk_core.specs.Answers.{HasPlace, IsDeskFault, fault_of}
+use Rattle.desk_core.specs.Answers.{CanCommit, IsDeskFault, fault_of}
 use Rattle.desk_core.specs.Commands.{Records, HasCommands}
 use Rattle.desk_core.specs.Images.{RecoversTo, RecoversToKnown, IsSafe}
-use Rattle.desk_core.specs.Kept.{IsKept, IsLoaded}
-use Rattle.disk_api.specs.RunLaws.{weaker}
+use Rattle.desk_core.specs.inner.Kept.{IsConsistentDesk, IsLoaded}
+use Rattle.disk_api.specs.laws.RunLaws.{weaker}
 use Rattle.disk_api.specs.declared.disk.Disk.{Ghosts as DiskGhosts}
 use Rattle.desk_core.proofs.Recorded.{records_push}
 
@@ -42,7 +42,7 @@ known_bytes : (content : Option (List ℕ)) (limit : ℕ) (shown : Option (List 
 known_bytes None limit shown records doubt is known same stands = tt
 known_bytes (Some bytes) limit shown records doubt is known same stands = known_doubt (Some bytes) limit shown records doubt bytes is known same stands
 
-pub safe_of : {D : Type 0} (disk_of : DiskGhosts D) (number : ℕ) (settings : Settings) (body : List ℕ) (journal : View D) → IsKept disk_of number settings body journal →
+pub safe_of : {D : Type 0} (disk_of : DiskGhosts D) (number : ℕ) (settings : Settings) (body : List ℕ) (journal : View D) → IsConsistentDesk disk_of number settings body journal →
     IsSafe disk_of (desk_of number settings (payloads journal.sizes body) journal)
 safe_of disk_of number settings body journal kept = let records = payloads journal.sizes body in record {
   bytes = known_bytes (disk_of.content journal.disk) journal.limit journal.records records journal.doubt kept.limit kept.safe.known kept.known kept.safe.bytes;
@@ -59,7 +59,7 @@ stake_holds (Some bytes) records (Some rose) doubt payload file settled holds = 
 
 -- each moment of an append is one of the desk's
 pub moments : {D : Type 0} (disk_of : DiskGhosts D)
-    (number : ℕ) (settings : Settings) (body : List ℕ) (command : Command) (payload : List ℕ) (old mid new : View D) → IsKept disk_of number settings body old →
+    (number : ℕ) (settings : Settings) (body : List ℕ) (command : Command) (payload : List ℕ) (old mid new : View D) → IsConsistentDesk disk_of number settings body old →
     IsSameButRoom old mid → payload ≡ spelling command →
     LeavesOnly disk_of mid.disk new.disk (RecoversToInDoubt mid.limit mid.records (stake_of mid.shut mid.doubt payload)) →
     LeavesOnly disk_of old.disk new.disk (RecoversToKnown (disk_of.content old.disk) (payloads old.sizes body) (stake_of old.shut old.doubt (spelling command)))
@@ -84,8 +84,8 @@ records_more body more payload old mid new size same sizes pushed =
 
 -- a desk with one record more
 pub kept_push : {D : Type 0} (disk_of : DiskGhosts D) (number : ℕ) (settings next : Settings) (body more payload : List ℕ) (old mid new : View D) →
-    IsKept disk_of number settings body old → IsSameButRoom old mid → new.records ≡ option_map (λ all. all ++ payload ∷ []) mid.records → new.limit ≡ mid.limit → new.sizes ≡ mid.sizes ++ length payload ∷ [] →
-    IsSafeJournal disk_of new → more ≡ body ++ spelled (payload ∷ []) → IsLoaded number next (payloads old.sizes body ++ payload ∷ []) → IsKept disk_of number next more new
+    IsConsistentDesk disk_of number settings body old → IsSameButRoom old mid → new.records ≡ option_map (λ all. all ++ payload ∷ []) mid.records → new.limit ≡ mid.limit → new.sizes ≡ mid.sizes ++ length payload ∷ [] →
+    IsSafeJournal disk_of new → more ≡ body ++ spelled (payload ∷ []) → IsLoaded number next (payloads old.sizes body ++ payload ∷ []) → IsConsistentDesk disk_of number next more new
 kept_push disk_of number settings next body more payload old mid new kept same appended limit sizes safe pushed loaded =
     let records = records_more body more payload old mid new kept.size same sizes pushed in
     record {
@@ -103,7 +103,7 @@ held_before None now f records doubt file is holds = tt
 held_before (Some bytes) now f records doubt file is holds = subst (λ (o : Option (List ℕ)). RecoversToKnown o records doubt file) is holds
 
 -- the sizes of its records
-pub kept_sizes : {D : Type 0} (disk_of : DiskGhosts D) (number : ℕ) (settings : Settings) (body : List ℕ) (journal : View D) → IsKept disk_of number settings body journal →
+pub kept_sizes : {D : Type 0} (disk_of : DiskGhosts D) (number : ℕ) (settings : Settings) (body : List ℕ) (journal : View D) → IsConsistentDesk disk_of number settings body journal →
     journal.sizes ≡ map length (payloads journal.sizes body)
 kept_sizes disk_of number settings body journal kept = sym (sizes-payloads journal.sizes body (omega (arith, kept.size)))
 
@@ -129,7 +129,7 @@ has_push number settings next records more payload command old new recordable sp
 
 -- a journal's refusal is the desk's
 pub refused_of : {D : Type 0} (disk_of : DiskGhosts D) (fault : AppendFault D) (payload : List ℕ) (command : Command) (signers number : ℕ) (settings next : Settings) (records more : List (List ℕ)) (old mid new : View D) →
-    old.limit ≡ journal_limit → old.sizes ≡ map length records → IsSameButRoom old mid → next ≡ settings → more ≡ records → payload ≡ spelling command → HasPlace (desk_of number settings records old) command signers →
+    old.limit ≡ journal_limit → old.sizes ≡ map length records → IsSameButRoom old mid → next ≡ settings → more ≡ records → payload ≡ spelling command → CanCommit (desk_of number settings records old) command signers →
     IsAppendFault disk_of fault payload mid new → IsRecordable command → IsDeskFault disk_of (fault_of number fault) command signers (desk_of number settings records old) (desk_of number next more new)
 refused_of disk_of (Shut rose) payload command signers number settings next records more old mid new limit sizes same now_settings now_records spelled place answer recordable =
     let shut : mid.shut ≡ Some rose = answer.shut in
@@ -174,8 +174,8 @@ counts_records number settings records loaded small =
 
 -- a desk with the same records, after a refused append
 pub kept_again : {D : Type 0} (disk_of : DiskGhosts D) (number : ℕ) (settings next : Settings) (body more : List ℕ) (old mid new : View D) →
-    IsKept disk_of number settings body old → IsSameButRoom old mid → next ≡ settings → more ≡ body → new.records ≡ mid.records → new.sizes ≡ mid.sizes → new.limit ≡ mid.limit →
-    IsSafeJournal disk_of new → IsKept disk_of number next more new
+    IsConsistentDesk disk_of number settings body old → IsSameButRoom old mid → next ≡ settings → more ≡ body → new.records ≡ mid.records → new.sizes ≡ mid.sizes → new.limit ≡ mid.limit →
+    IsSafeJournal disk_of new → IsConsistentDesk disk_of number next more new
 kept_again disk_of number settings next body more old mid new kept same now_settings now_body records_same sizes_same limit safe =
     let sizes : new.sizes ≡ old.sizes = sizes_same ∙ ap (λ (j : View _). j.sizes) same in
     let records : payloads new.sizes more ≡ payloads old.sizes body =

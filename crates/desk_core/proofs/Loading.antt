@@ -8,9 +8,9 @@ use Rattle.authority_book.specs.declared.commands.Command.{Command}
 use Rattle.authority_book.specs.Settings.{Settings}
 use Rattle.authority_book.specs.Fold.{fold_of}
 use Rattle.gate_journal.specs.Format.{spelled, payloads}
-use Rattle.gate_journal.specs.BodyLaws.{payloads-spelled}
+use Rattle.gate_journal.specs.laws.BodyLaws.{payloads-spelled}
 use Rattle.desk_core.specs.Commands.{RecordsNoNext, IsFirstBad}
-use Rattle.desk_core.specs.Kept.{IsLoaded}
+use Rattle.desk_core.specs.inner.Kept.{IsLoaded}
 
 -- a record that is no command's is the first such, after those read
 pub first_bad : (number : ℕ) (settings : Settings) (all : List (List ℕ)) (payload : List ℕ) (index : ℕ) → IsLoaded number settings (take index all) → slice_get all index ≡ Some payload →

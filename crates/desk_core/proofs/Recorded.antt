@@ -13,7 +13,7 @@ use Rattle.authority_book.specs.Verdict.{refused_or_ok, verdict_of, IsAccepted}
 use Rattle.authority_book.specs.Fold.{fold_of, Taken}
 use Rattle.cmd_codec.specs.Spelling.{spelling, IsRecordable}
 use Rattle.desk_core.specs.Commands.{Records}
-use Rattle.desk_core.specs.Kept.{IsLoaded}
+use Rattle.desk_core.specs.inner.Kept.{IsLoaded}
 
 All-one : {X : Type 0} (P : X → Type 0) → (x : X) → P x → All P (x ∷ [])
 All-one P x p = All-from_recursion P (x ∷ []) (p, tt)

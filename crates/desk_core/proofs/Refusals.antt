@@ -3,19 +3,19 @@ use Rattle.std.proofs.Common.{◌≡◌, ◌<◌, ◌≤◌, ◌+◌, ℕ, None,
 use Rattle.disk_api.specs.declared.disk.Disk.{Ghosts as DiskGhosts}
 use Rattle.gate_journal.specs.Format.{held_for, held_by}
 use Rattle.gate_journal.specs.View.{View}
-use Rattle.gate_journal.specs.Answers.{HasPlace as HasJournalPlace, IsFullAnswer as IsJournalFull}
+use Rattle.gate_journal.specs.Answers.{CanAppend as HasJournalPlace, IsFullAnswer as IsJournalFull}
 use Rattle.authority_book.specs.declared.commands.Command.{Command}
 use Rattle.authority_book.specs.declared.refusals.Refusal.{Refusal}
 use Rattle.authority_book.specs.Settings.{Settings}
 use Rattle.authority_book.specs.Verdict.{verdict_of}
 use Rattle.desk_core.specs.View.{journal_limit}
-use Rattle.desk_core.specs.Answers.{HasPlace, needed_for, IsDeskFault}
+use Rattle.desk_core.specs.Answers.{CanCommit, needed_for, IsDeskFault}
 use Rattle.desk_core.specs.declared.faults.DeskFault.TheVariants.{Verdict, JournalFull}
 use Rattle.desk_core.proofs.Committed.{desk_of}
 
 module _ {D : Type 0} (disk_of : DiskGhosts D) (number : ℕ) (settings : Settings) (records : List (List ℕ)) (journal : View D)
     (limit : journal.limit ≡ journal_limit) (sizes : journal.sizes ≡ map length records) (command : Command) (signers : ℕ) where
-  pub placed : HasJournalPlace journal (needed_for command) → verdict_of settings command (Some signers) ≡ Ok tt → HasPlace (desk_of number settings records journal) command signers
+  pub placed : HasJournalPlace journal (needed_for command) → verdict_of settings command (Some signers) ≡ Ok tt → CanCommit (desk_of number settings records journal) command signers
   placed place granted = record {
     may_come = record { is_open = place.is_open; verdict = granted };
     fits = subst (λ (n : ℕ). held_by records + needed_for command ≤ n) limit (subst (λ (l : List ℕ). held_for l + needed_for command ≤ journal.limit) sizes place.fits);

@@ -1,6 +1,6 @@
 -- When a command is refused, and what each refusal leaves.
 use Rattle.std.specs.Prelude.{◌≡◌, ◌<◌, ◌≤◌, ◌+◌, ℕ, Some, None, Ok, Err, Result, length}
-use Rattle.fault_count.specs.Rise.{HasRisen}
+use Rattle.host_calls.specs.Rise.{HasRisen}
 use Rattle.disk_api.specs.declared.disk.Disk.{Ghosts as DiskGhosts}
 use Rattle.authority_book.specs.declared.commands.Command.{Command}
 use Rattle.authority_book.specs.declared.refusals.Refusal.{Refusal}
@@ -18,6 +18,22 @@ use Rattle.gate_journal.specs.declared.fault.JournalFault.TheVariants as journal
 use Rattle.gate_journal.specs.declared.fault.AppendFault.{AppendFault}
 use Rattle.gate_journal.specs.declared.fault.AppendFault.TheVariants as append
 
+-- a rise of a desk's fault count: the desk's number, and the counts before and after
+abbrev pub DeskRise : Type 0
+DeskRise = ℕ × (ℕ × ℕ)
+
+abbrev pub desk_of : DeskRise → ℕ
+desk_of (desk, counts) = desk
+
+abbrev pub counts_of : DeskRise → ℕ × ℕ
+counts_of (desk, counts) = counts
+
+abbrev pub before_of : DeskRise → ℕ
+before_of (desk, (before, after)) = before
+
+abbrev pub after_of : DeskRise → ℕ
+after_of (desk, (before, after)) = after
+
 -- how many bytes a command takes in the journal
 abbrev pub needed_for : Command → ℕ
 needed_for command = length (spelling command) + 9
@@ -28,7 +44,7 @@ pub record MayCome {D : Type 0} (desk : View D) (command : Command) (signers : �
   pub verdict : verdict_of desk.settings command (Some signers) ≡ Ok tt
 
 -- and its record fits
-pub record HasPlace {D : Type 0} (desk : View D) (command : Command) (signers : ℕ) : Type 0 where
+pub record CanCommit {D : Type 0} (desk : View D) (command : Command) (signers : ℕ) : Type 0 where
   pub may_come : MayCome desk command signers
   pub fits : held_by desk.records + needed_for command ≤ journal_limit
 
@@ -37,9 +53,9 @@ pub record IsVerdictAnswer {D : Type 0} (refusal : Refusal) (command : Command) 
   pub verdict : verdict_of old.settings command (Some signers) ≡ Err refusal
   pub same : new ≡ old
 
-pub record IsShutAnswer {D : Type 0} (rose : ℕ × (ℕ × ℕ)) (old new : View D) : Type 0 where
-  pub desk : rose.0 ≡ old.number
-  pub shut : old.shut ≡ Some rose.1
+pub record IsShutAnswer {D : Type 0} (rose : DeskRise) (old new : View D) : Type 0 where
+  pub desk : desk_of rose ≡ old.number
+  pub shut : old.shut ≡ Some (counts_of rose)
   pub same : new ≡ old
 
 pub record IsFullAnswer {D : Type 0} (held needed : ℕ) (command : Command) (signers : ℕ) (old new : View D) : Type 0 where
@@ -50,18 +66,18 @@ pub record IsFullAnswer {D : Type 0} (held needed : ℕ) (command : Command) (si
   pub same : new ≡ old
 
 -- the disk failed in this call; the record may stand on it
-pub record IsFaultAnswer {D : Type 0} (disk_of : DiskGhosts D) (rose : ℕ × (ℕ × ℕ)) (command : Command) (signers : ℕ) (old new : View D) : Type 0 where
-  pub place : HasPlace old command signers
-  pub desk : rose.0 ≡ old.number
-  pub before : rose.1.0 ≡ disk_of.fault_count old.disk
-  pub after : rose.1.1 ≡ disk_of.fault_count new.disk
-  pub risen : HasRisen rose.1.0 rose.1.1
+pub record IsFaultAnswer {D : Type 0} (disk_of : DiskGhosts D) (rose : DeskRise) (command : Command) (signers : ℕ) (old new : View D) : Type 0 where
+  pub place : CanCommit old command signers
+  pub desk : desk_of rose ≡ old.number
+  pub before : before_of rose ≡ disk_of.fault_count old.disk
+  pub after : after_of rose ≡ disk_of.fault_count new.disk
+  pub risen : HasRisen (before_of rose) (after_of rose)
   pub recordable : IsRecordable command
-  pub same : new ≡ record old { disk = new.disk; shut = Some rose.1; doubt = Some (spelling command) }
+  pub same : new ≡ record old { disk = new.disk; shut = Some (counts_of rose); doubt = Some (spelling command) }
 
 -- memory ran out before anything was written
 pub record IsMemoryAnswer {D : Type 0} (command : Command) (signers : ℕ) (old new : View D) : Type 0 where
-  pub place : HasPlace old command signers
+  pub place : CanCommit old command signers
   pub same : new ≡ old
 
 abbrev pub IsDeskFault : {D : Type 0} → DiskGhosts D → DeskFault D → Command → ℕ → View D → View D → Type 0

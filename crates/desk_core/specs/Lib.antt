@@ -2,4 +2,4 @@ pub mod View
 pub mod Commands
 pub mod Answers
 pub mod Images
-pub mod Kept
+pub mod inner

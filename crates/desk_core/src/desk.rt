@@ -2,7 +2,7 @@
 ghost use Rattle.std.specs.Prelude.{◌≡◌, ◌≤◌, ◌+◌, ◌-◌, ◌<◌, ◌^◌, ◌++◌, [], ◌∷◌, ℕ, List, Option, Some, None, Ok, length, drop, IfOk, IfErr, IfSome, OnOk, OnErr, IsTrue, ◌↔◌, MatchOption, ◌⊎◌};
 ghost use Rattle.std.specs.Option.{option_map};
 ghost use Rattle.disk_api.specs.Runs.{LeavesOnly};
-ghost use Rattle.fault_count.specs.Rise.{HasRisen};
+ghost use Rattle.host_calls.specs.Rise.{HasRisen};
 ghost use Rattle.disk_api.specs.Content.{BothKnown};
 ghost use Rattle.gate_journal.specs.Format.{recovered, damaged_at, held_by, opened, IsUnopened};
 ghost use Rattle.gate_journal.specs.Storing.{stored, entry_bytes};
@@ -36,25 +36,26 @@ pub struct Desk<D: Disk> {
 impl<D: Disk> Model for Desk<D> {
     ghost use Rattle.gate_journal.specs.Format.{payloads};
     ghost use Rattle.desk_core.specs.View.{View};
-    ghost use Rattle.desk_core.specs.Kept.{IsKept};
+    ghost use Rattle.desk_core.specs.inner.Kept.{IsConsistentDesk};
 
     ghost Value = { View D };
 
     ghost view = { λ d. record { disk = d.journal.disk; number = d.number; settings = d.config.settings; records = payloads d.journal.sizes d.body.items; shut = d.journal.shut; doubt = d.journal.doubt } };
 
-    ghost invariant = { λ d. IsKept D.Disk d.number d.config.settings d.body.items d.journal };
+    ghost invariant = { λ d. IsConsistentDesk D.Disk d.number d.config.settings d.body.items d.journal };
 }
 
 impl<D: Disk> Desk<D> {
     ghost use Rattle.desk_core.specs.Commands.{IsFirstBad};
-    ghost use Rattle.desk_core.specs.Answers.{HasPlace, needed_for, IsDeskFault, disk_after};
+    ghost use Rattle.desk_core.specs.Answers.{CanCommit, needed_for, IsDeskFault, disk_after};
     ghost use Rattle.gate_journal.specs.View.{stake_of};
     ghost use Rattle.desk_core.specs.Images.{RecoversTo, RecoversToKnown, IsSafe};
 
     /// Opens the desk of that number on a disk. A file of at most 17 bytes is made a new journal; in a
     /// longer one the bytes stay as they are. It takes time linear in the records.
     ///
-    /// A crash at any moment leaves the records that the disk stood for.
+    /// A crash at any moment leaves the records that the disk stood for. Desks are numbered from 0,
+    /// which is the trust anchor's.
     pub fn open(alloc: Global, number: u32, disk: D) -> Result<Desk<D>, DeskRefused<D>>
         // What is found is what the disk stands for, each record that of an accepted command.
         ensures records { IfOk result (λ desk. IfSome (D.content disk) (λ bytes. desk.records ≡ recovered bytes)) }
@@ -130,7 +131,8 @@ impl<D: Disk> Desk<D> {
         self.len() == 0
     }
 
-    /// The accepted commands after the first `from`.
+    /// The accepted commands after the first `from`. Commands are counted in the order in which
+    /// they were accepted.
     pub fn since(&self, alloc: Global, from: u64) -> Result<Vec<Command>, AllocError>
         requires { from ≤ length self.now.records }
         ensures { IfOk result (λ found. (commands : List Command) → HasCommands self.now commands → found.items ≡ drop from commands) }
@@ -149,13 +151,16 @@ impl<D: Disk> Desk<D> {
     ///
     /// At `Ok` the command is kept: from then on each crash leaves its record. All memory is taken
     /// before the first write. After a fault of the disk the desk takes no command any more.
+    ///
+    /// Refused in this order: `Shut`, `Verdict`, `JournalFull`, `Memory`, `DiskFault`. `signers` is
+    /// how many there are, numbered from 0.
     pub fn commit(
         &mut self,
         alloc: Global,
         command: Command,
         signers: u32,
     ) -> Result<u64, DeskFault<D>>
-        ensures place { OnOk result (HasPlace self.old command signers) }
+        ensures place { OnOk result (CanCommit self.old command signers) }
         ensures recorded { OnOk result (self.new.records ≡ self.old.records ++ spelling command ∷ []) }
         ensures commands { OnOk result ((commands : List Command) → HasCommands self.old commands → HasCommands self.new (commands ++ command ∷ [])) }
         ensures counted { IfOk result (λ count. (count ≡ length self.new.records) × (count ≡ self.new.settings.count)) }
@@ -198,7 +203,7 @@ impl<D: Disk> Desk<D> {
 
     // Why the command isn't taken, before anything is done.
     fn refusal(&self, command: &Command, signers: u32) -> Option<DeskFault<D>>
-        ensures answer { MatchOption result (HasPlace self.now command.now signers) (λ fault. IsDeskFault D.Disk fault command.now signers self.now self.now) }
+        ensures answer { MatchOption result (CanCommit self.now command.now signers) (λ fault. IsDeskFault D.Disk fault command.now signers self.now self.now) }
         ensures safe { IsSafe D.Disk self.now }
     {
         let verdict = verdict(&self.config, command, signers);

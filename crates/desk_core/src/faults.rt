@@ -32,7 +32,7 @@ pub struct DeskRefused<D: Disk> {
     pub fault: DeskOpenFault,
 }
 
-/// Why a command wasn't taken.
+/// Why a command wasn't taken. `held` and `needed` are in bytes.
 #[derive(Drop)]
 pub enum DeskFault<D: Disk> {
     /// An earlier call failed.

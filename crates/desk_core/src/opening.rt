@@ -2,13 +2,13 @@
 ghost use Rattle.std.specs.Prelude.{◌≡◌, ◌≤◌, ◌++◌, [], ◌∷◌, ℕ, List, Option, length, true, false, IfOk, IfErr, OnOk, IfSome};
 ghost use Rattle.authority_book.specs.declared.commands.Command.{Command};
 ghost use Rattle.authority_book.specs.Fold.{fold_of};
-ghost use Rattle.fault_count.specs.Rise.{HasRisen};
+ghost use Rattle.host_calls.specs.Rise.{HasRisen};
 ghost use Rattle.gate_journal.specs.Format.{taken_by, payloads};
 ghost use Rattle.gate_journal.specs.View.{IsSafe, HasSizes};
 ghost use Rattle.gate_journal.specs.Answers.{IsSameButDisk};
 ghost use Rattle.disk_api.specs.Runs.{Rests};
 ghost use Rattle.desk_core.specs.Commands.{RecordsNoNext, IsFirstBad};
-ghost use Rattle.desk_core.specs.Kept.{IsLoaded};
+ghost use Rattle.desk_core.specs.inner.Kept.{IsLoaded};
 
 use crate::DeskOpenFault;
 use authority_book::{Config, verdict_unasked};

@@ -1,6 +1,6 @@
 // The word of a fault of a desk's disk: only this crate makes one.
 ghost use Rattle.std.specs.Prelude.{◌≡◌, ℕ};
-ghost use Rattle.fault_count.specs.Rise.{HasRisen};
+ghost use Rattle.host_calls.specs.Rise.{HasRisen};
 
 use disk_api::Disk;
 use gate_journal::Rose;
@@ -27,7 +27,7 @@ impl<D: Disk> DeskRose<D> {
         DeskRose { desk, rose }
     }
 
-    /// The desk's number.
+    /// The desk's number. Desks are numbered from 0.
     pub fn desk(&self) -> u32
         ensures { result ≡ self.now.0 }
     {

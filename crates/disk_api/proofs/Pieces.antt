@@ -7,11 +7,11 @@ use Rattle.disk_api.specs.Content.{overwritten, Torn, BothKnown, Gives}
 use Rattle.disk_api.specs.Images.{Stays, Follows, Reaches, Keeps, Elapses}
 use Rattle.disk_api.specs.Faults.{CountsFaults, CountsStops}
 use Rattle.disk_api.specs.declared.disk.DiskStop.{DiskStop}
-use Rattle.disk_api.specs.MemoryLaws.{torn_whole}
-use Rattle.fault_count.specs.Rise.{HasRisen}
-use Rattle.raw_calls.specs.declared.CallFault.{CallFault}
-use Rattle.raw_calls.specs.declared.CallFault.TheVariants.{Interrupted, Memory, Failed}
-use Rattle.raw_calls.specs.Faults.{CountsAnswer}
+use Rattle.disk_api.specs.laws.MemoryLaws.{torn_whole}
+use Rattle.host_calls.specs.Rise.{HasRisen}
+use Rattle.host_calls.specs.declared.CallFault.{CallFault}
+use Rattle.host_calls.specs.declared.CallFault.TheVariants.{Interrupted, Memory, Failed}
+use Rattle.host_calls.specs.Faults.{CountsAnswer}
 use Rattle.disk_api.proofs.Same.{torn_same}
 
 pub torn_wider : (p n q m : ℕ) (a b : List ℕ) → q ≤ p → p + n ≤ q + m → Torn p n a b → Torn q m a b

@@ -6,7 +6,7 @@ use Rattle.std.proofs.lemmas.List.{drop_more, drop-drop}
 use Rattle.std.specs.Prelude.{nat_le}
 use Rattle.disk_api.specs.Content.{overwritten, cut_to, Torn, IsCut}
 use Rattle.disk_api.specs.Steps.{content_after, after_step, IsImageAfter, images_after_step, steps_fit, FitsAt, IsTornBy}
-use Rattle.disk_api.specs.MemoryLaws.{content_is_image, torn_whole}
+use Rattle.disk_api.specs.laws.MemoryLaws.{content_is_image, torn_whole}
 use Rattle.disk_api.specs.declared.step.Step.{Step}
 use Rattle.disk_api.specs.declared.step.Step.TheVariants.{Write, Cut, Sync}
 use Rattle.disk_api.proofs.Taken.{content_after-push, IsImageAfter-push}

@@ -1,7 +1,7 @@
 -- A disk in memory after a call that changed nothing, and after one that took a step.
 use Rattle.std.proofs.Common.{◌≡◌, ℕ, Some, List, [], ◌∷◌, ◌++◌, length, refl, sym, ◌∙◌, ap, subst, arith}
 use Rattle.std.proofs.lemmas.List.{take_all}
-use Rattle.disk_api.specs.MemoryLaws.{bytes_are_left}
+use Rattle.disk_api.specs.laws.MemoryLaws.{bytes_are_left}
 use Rattle.disk_api.specs.declared.step.Step.TheVariants.{Write, Cut, Sync}
 use Rattle.disk_api.specs.Content.{Torn, IsCut}
 use Rattle.disk_api.specs.Images.{Elapses, Follows, Reaches, Keeps, IsOnly}

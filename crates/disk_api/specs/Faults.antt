@@ -1,6 +1,6 @@
 -- A disk's count of faults.
 use Rattle.std.specs.Prelude.{◌≤◌, ℕ, Result, OnErr, IsErrOf}
-use Rattle.fault_count.specs.Rise.{HasRisen}
+use Rattle.host_calls.specs.Rise.{HasRisen}
 use Rattle.disk_api.specs.declared.disk.DiskStop.{DiskStop}
 use Rattle.disk_api.specs.declared.disk.DiskStop.TheVariants.{Fault}
 

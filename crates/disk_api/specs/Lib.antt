@@ -1,12 +1,10 @@
 pub mod Content
 pub mod Faults
-pub mod FileLaws
 pub mod Images
 pub mod Memory
-pub mod MemoryLaws
 pub mod Over
 pub mod Played
-pub mod RunLaws
 pub mod Runs
 pub mod Steps
-pub mod Stops
+pub mod inner
+pub mod laws

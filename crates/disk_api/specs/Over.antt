@@ -1,6 +1,6 @@
 -- The file that a disk is over, and how often a file of the operating system has failed.
 use Rattle.std.specs.Prelude.{ℕ}
-use Rattle.raw_calls.specs.Counts.{fault_count}
+use Rattle.host_calls.specs.Counts.{fault_count}
 use Rattle.disk_api.specs.declared.file.FileDisk.{FileDisk}
 use Rattle.disk_api.specs.declared.host_file.HostFile.{HostFile}
 

@@ -4,10 +4,10 @@ ghost use Rattle.std.specs.Prelude.{◌≡◌, ◌≤◌, length, option_map, Er
 ghost use Rattle.disk_api.specs.Content.{overwritten, Torn, BothKnown, Gives};
 ghost use Rattle.disk_api.specs.Images.{Stays, Follows, Reaches, Keeps, Elapses};
 ghost use Rattle.disk_api.specs.Faults.{CountsFaults, CountsStops};
-ghost use Rattle.fault_count.specs.Rise.{HasRisen};
+ghost use Rattle.host_calls.specs.Rise.{HasRisen};
 
 use crate::{Disk, DiskStop, HostFile, RawFile};
-use raw_calls::CallFault;
+use host_calls::CallFault;
 use std::alloc::Global;
 
 /// A disk over a file, by default one of the operating system, of which a contract learns nothing.

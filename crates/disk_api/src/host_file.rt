@@ -1,10 +1,10 @@
 // A file of the operating system: the trusted edge. Each call is std's, once.
 ghost use Rattle.std.specs.Prelude.{◌≡◌, ◌+◌, ◌^◌, ◌<◌, ◌≤◌, length, None, Ok, Err, IfOk, IfErr, OnOk};
-ghost use Rattle.disk_api.specs.FileLaws.{known_is_left};
-ghost use Rattle.disk_api.specs.Stops.{stop_of};
+ghost use Rattle.disk_api.specs.laws.FileLaws.{known_is_left};
+ghost use Rattle.disk_api.specs.inner.Stops.{stop_of};
 
 use crate::{DiskStop, RawFile};
-use raw_calls::{CallFault, Tally, called, taken};
+use host_calls::{CallFault, Tally, called, taken};
 use std::os::unix::fs::FileExt;
 use std::path::Path;
 use std::{fs, io};
@@ -103,7 +103,7 @@ fn write_within(file: &fs::File, at: u64, bytes: &[u8]) -> io::Result<usize>
 }
 
 impl RawFile for HostFile {
-    ghost use Rattle.raw_calls.specs.Counts.{fault_count, patience_of};
+    ghost use Rattle.host_calls.specs.Counts.{fault_count, patience_of};
 
     ghost content = { λ _. None };
 

@@ -1,13 +1,13 @@
 // A disk in memory, which keeps each change, so that each moment's images are known and can be made.
 ghost use Rattle.std.specs.Prelude.{◌≡◌, ◌+◌, ◌-◌, ◌≤◌, ℕ, min, Some, None, IsTrue, true, cond, length, vec_len, vec_capacity, ◌<◌, IfOk, OnOk, OnErr, ◌↔◌, IsErrOf, [], ◌∷◌, ◌++◌};
 ghost use Rattle.disk_api.specs.Content.{overwritten, cut_to, Gives};
-ghost use Rattle.fault_count.specs.Rise.{HasRisen};
+ghost use Rattle.host_calls.specs.Rise.{HasRisen};
 ghost use Rattle.disk_api.specs.Steps.{content_after, steps_fit};
 
 use crate::image::{replayed, synced, torn};
 use crate::step::{Step, overwrite};
 use crate::{Disk, DiskStop};
-use fault_count::raised;
+use host_calls::raised;
 use std::alloc::{AllocError, Global};
 
 /// A file in memory, whose calls can be made to fail and whose crash images can be taken.
@@ -175,7 +175,7 @@ impl Disk for MemoryDisk {
     ghost use Rattle.disk_api.specs.Images.{Stays, Follows, Reaches, Keeps, IsOnly, Elapses};
     ghost use Rattle.disk_api.specs.Faults.{CountsFaults, CountsStops};
     ghost use Rattle.disk_api.specs.Memory.{memory_bytes, memory_moment, memory_faults, IsImage, IsImageSince, fails_next, CountsCall, IsSameFile};
-    ghost use Rattle.disk_api.specs.MemoryLaws.{bytes_are_left, counts_now_in_memory, only_now_in_memory};
+    ghost use Rattle.disk_api.specs.laws.MemoryLaws.{bytes_are_left, counts_now_in_memory, only_now_in_memory};
 
     ghost content = { λ m. Some (memory_bytes m) };
 

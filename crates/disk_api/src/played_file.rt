@@ -1,13 +1,13 @@
 // A file in memory whose calls go as a script says.
 ghost use Rattle.std.specs.Prelude.{◌≡◌, ◌≢◌, ◌+◌, ◌^◌, ◌<◌, ◌≤◌, length, take, Some, None, option_map, IfOk, IfSome, OnOk, OnErr};
-ghost use Rattle.raw_calls.specs.Faults.{CountsAnswer};
+ghost use Rattle.host_calls.specs.Faults.{CountsAnswer};
 ghost use Rattle.disk_api.specs.Content.{overwritten, Torn};
 ghost use Rattle.disk_api.specs.Images.{Follows, Reaches, Keeps, Elapses};
 ghost use Rattle.disk_api.specs.Faults.{CountsStops};
 
 use crate::memory::read_from;
 use crate::{Disk, DiskStop, MemoryDisk, RawFile};
-use raw_calls::{CallFault, Script, Tally};
+use host_calls::{CallFault, Script, Tally};
 use std::alloc::Global;
 
 /// A file in memory, of which each call goes as the next play of a script says: a read or a write comes
@@ -22,7 +22,7 @@ pub struct PlayedFile {
 }
 
 impl PlayedFile {
-    ghost use Rattle.raw_calls.specs.Counts.{fault_count, patience_of};
+    ghost use Rattle.host_calls.specs.Counts.{fault_count, patience_of};
     ghost use Rattle.disk_api.specs.Memory.{memory_bytes, memory_moment, IsImage, IsImageSince};
     ghost use Rattle.disk_api.specs.Played.{played_disk};
 
@@ -97,9 +97,9 @@ fn fault_of(stop: DiskStop) -> CallFault
 }
 
 impl RawFile for PlayedFile {
-    ghost use Rattle.raw_calls.specs.Counts.{fault_count, patience_of};
+    ghost use Rattle.host_calls.specs.Counts.{fault_count, patience_of};
     ghost use Rattle.disk_api.specs.Memory.{memory_bytes, memory_moment, IsImage, IsImageSince};
-    ghost use Rattle.disk_api.specs.MemoryLaws.{bytes_are_left, counts_now_in_memory, only_now_in_memory};
+    ghost use Rattle.disk_api.specs.laws.MemoryLaws.{bytes_are_left, counts_now_in_memory, only_now_in_memory};
 
     ghost content = { λ file. Some (memory_bytes file.disk) };
 

@@ -3,10 +3,10 @@ ghost use Rattle.std.specs.Prelude.{◌≡◌, ◌+◌, ◌^◌, ◌≤◌, ◌<
 ghost use Rattle.disk_api.specs.Content.{overwritten, cut_to, Torn, IsCut, BothKnown, Gives};
 ghost use Rattle.disk_api.specs.Images.{Stays, Follows, Reaches, Keeps, IsOnly, Elapses};
 ghost use Rattle.disk_api.specs.Faults.{CountsFaults, CountsStops};
-ghost use Rattle.raw_calls.specs.Faults.{CountsAnswer};
+ghost use Rattle.host_calls.specs.Faults.{CountsAnswer};
 
 use crate::DiskStop;
-use raw_calls::CallFault;
+use host_calls::CallFault;
 
 /// An open file. A read or a write may move fewer bytes than it is asked for, and a signal may interrupt
 /// it. What the file holds, and what a crash may leave of it, is known or not, as of a disk.

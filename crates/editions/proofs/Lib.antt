@@ -1,4 +1,6 @@
-mod Carried
-mod Following
-mod More
-mod Until
+pub mod MakingLemmas
+pub mod ObjectLemmas
+pub mod PlanLemmas
+pub mod StateLemmas
+pub mod StepLemmas
+pub mod WalkLemmas

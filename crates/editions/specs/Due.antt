@@ -12,7 +12,7 @@ use Rattle.issue_plan.specs.Keys.{id_of, next_keys}
 use Rattle.issue_plan.specs.Work.{new_key_of, role_of, goes_on}
 use Rattle.editions.specs.Edition.{Edition, State, state_after, set_after}
 use Rattle.editions.specs.Table.{IsTable}
-use Rattle.editions.specs.Step.{Ground, configs_at, basis_at}
+use Rattle.editions.specs.Step.{Premises, configs_at, basis_at}
 
 -- How long before its end an object is issued again, in seconds: certificates and ROAs four weeks,
 -- CRLs and manifests eight hours.
@@ -40,18 +40,18 @@ steps_next rows nexts =
 -- An edition is made where it is the first, where commands came, or where something is due at the
 -- moment: an object, or a step of a key rollover.
 abbrev pub is_called_for :
-    Ground → State → List ℕ → ℕ → List Resources → List IssuedRow → Bool
-is_called_for footing before cut moment sets issued =
+    Premises → State → List ℕ → ℕ → List Resources → List IssuedRow → Bool
+is_called_for premises before cut moment sets issued =
     (before.serial == 0) || grows before.cut cut || list_any (is_due moment) issued
-    || steps_next before.rows (next_keys (basis_at footing before cut moment sets))
+    || steps_next before.rows (next_keys (basis_at premises before cut moment sets))
 
 -- Whether an edition with that cut and moment is called for behind these, by the table of what they
 -- leave and by what the desks are certified for at the cut.
-pub record IsCalledFor (footing : Ground) (editions : List Edition) (cut : List ℕ) (moment : ℕ)
+pub record IsCalledFor (premises : Premises) (editions : List Edition) (cut : List ℕ) (moment : ℕ)
     (called : Bool) : Type 0 where
   pub sets : List Resources
-  pub certified : AreCertified (configs_at footing.lists cut) sets
+  pub certified : AreCertified (configs_at premises.lists cut) sets
   pub issued : List IssuedRow
   pub table : IsTable (set_after editions) issued
   pub answer :
-      is_called_for footing (state_after editions) cut moment sets issued ≡ called
+      is_called_for premises (state_after editions) cut moment sets issued ≡ called

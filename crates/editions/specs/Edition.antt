@@ -7,7 +7,7 @@ use Rattle.key_roll.specs.declared.rows.KeyRow.{KeyRow}
 use Rattle.pub_set.specs.declared.steps.Change.{Change}
 use Rattle.pub_set.specs.Objects.{Rise}
 use Rattle.pub_set.specs.Changes.{Contents, uri_of, after_all, change_at, difference}
-use Rattle.edition_keys.specs.Keys.{id_of}
+use Rattle.issue_keys.specs.Keys.{id_of}
 
 -- One publication: its serial, its moment, how many commands of each desk it takes in, the live
 -- keys, and what it changes in the published set.

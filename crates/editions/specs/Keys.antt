@@ -5,12 +5,13 @@ use Rattle.key_roll.specs.declared.work.KeyName.{KeyName}
 use Rattle.key_roll.specs.declared.work.KeyName.TheVariants.{Live, Fresh}
 use Rattle.key_roll.specs.declared.work.NewKey.{NewKey}
 use Rattle.key_ids.specs.declared.identifier.KeyId.{KeyId}
-use Rattle.edition_keys.specs.Keys.{id_of, fresh_row}
+use Rattle.issue_keys.specs.Keys.{id_of, fresh_row}
 use Rattle.issue_plan.specs.declared.keys.NextKey.{NextKey}
 use Rattle.issue_plan.specs.Work.{new_key_of}
 
 -- A live key that goes on: the same key, with the role and the stage that it has next.
-pub record GoesOn (rows : List KeyRow) (id : KeyId) (next : NextKey) (key : KeyRow) : Type 0 where
+pub record IsCarriedOver (rows : List KeyRow) (id : KeyId) (next : NextKey) (key : KeyRow)
+    : Type 0 where
   pub row : KeyRow
   pub live : Contains rows row
   pub named : id_of row ≡ id.bytes
@@ -24,7 +25,7 @@ pub record IsNew (rows : List KeyRow) (next : NextKey) (key : KeyRow) : Type 0 w
   pub apart : All (λ live. id_of live ≢ id_of key) rows
 
 abbrev pub IsNextBy : List KeyRow → NextKey → KeyName → KeyRow → Type 0
-IsNextBy rows next (Live id) key = GoesOn rows id next key
+IsNextBy rows next (Live id) key = IsCarriedOver rows id next key
 IsNextBy rows next (Fresh desk) key = IsNew rows next key
 
 -- A row for each of the next keys, in their order.

@@ -5,22 +5,23 @@ use Rattle.authority_book.specs.Settings.{Settings}
 use Rattle.entitle.specs.declared.trees.Owed.{Owed}
 use Rattle.entitle.specs.Certified.{names_of}
 use Rattle.entitle.specs.Owed.{AreOwed}
-use Rattle.key_ids.specs.Places.{Bases, folder_of}
+use Rattle.key_ids.specs.Uris.{Bases, folder_of}
 use Rattle.key_roll.specs.declared.rows.KeyRow.{KeyRow}
 use Rattle.key_roll.specs.declared.rows.Role.TheVariants.{Current}
 use Rattle.pub_set.specs.declared.objects.Object.{Object}
 use Rattle.pub_set.specs.Objects.{content_at, IsAscending}
 use Rattle.pub_set.specs.Changes.{Contents}
-use Rattle.rp_rules.specs.Certificates.{Setting}
+use Rattle.payloads.specs.ManifestFormats.{manifest_number, this_update_of}
+use Rattle.rp_rules.specs.Certificates.{WalkContext}
 use Rattle.rp_rules.specs.Objects.{SignedManifest, manifest_in}
 use Rattle.rp_rules.specs.Walk.{Visit}
 use Rattle.rp_rules.specs.Sound.{IsSoundBy}
 use Rattle.rp_rules.specs.Yield.{Yielded, yield}
 use Rattle.issue_values.specs.Bodies.{roa_entry}
 use Rattle.issue_plan.specs.Keys.{row_of}
-use Rattle.edition_publishers.specs.Certificates.{name_at}
+use Rattle.issue_drafts.specs.Certificates.{name_at}
 use Rattle.editions.specs.Edition.{Edition}
-use Rattle.editions.specs.Step.{Ground, configs_at}
+use Rattle.editions.specs.Step.{Premises, configs_at}
 
 -- An owed origin, as a walk yields it: with the folder of its authority.
 abbrev pub yielded_for : Bases → List NameRow → Owed → Yielded
@@ -31,28 +32,28 @@ yielded_for site names owed = record {
 }
 
 -- How a relying party looks at the set of the edition, which has that anchor's key.
-abbrev pub looking : Ground → Edition → KeyRow → Setting
-looking footing edition anchor = record {
-  vouched = footing.vouched;
+abbrev pub looking : Premises → Edition → KeyRow → WalkContext
+looking premises edition anchor = record {
+  vouched = premises.vouched;
   anchor = anchor.key.bytes;
-  bases = footing.site;
+  bases = premises.site;
   moment = edition.moment;
 }
 
 -- The set is sound at the edition's moment under the key of the trust anchor, and yields the origins
 -- that are owed at the cut, each once.
-pub record IsPublished (footing : Ground) (edition : Edition) (set : Contents) : Type 0 where
+pub record IsPublished (premises : Premises) (edition : Edition) (set : Contents) : Type 0 where
   pub anchor : KeyRow
   pub current : row_of edition.rows 0 Current ≡ Some anchor
   pub objects : List Object
   pub ascending : IsAscending objects
   pub are : (uri : List ℕ) → content_at objects uri ≡ set uri
   pub visits : List Visit
-  pub sound : IsSoundBy (looking footing edition anchor) objects visits
+  pub sound : IsSoundBy (looking premises edition anchor) objects visits
   pub owed : List Owed
-  pub owes : AreOwed (configs_at footing.lists edition.cut) owed
+  pub owes : AreOwed (configs_at premises.lists edition.cut) owed
   pub yields : IsPermutation
-      (map (yielded_for footing.site (names_of (configs_at footing.lists edition.cut))) owed)
+      (map (yielded_for premises.site (names_of (configs_at premises.lists edition.cut))) owed)
       (yield visits)
   pub once : AllPairs (λ a b. a ≢ b) (yield visits)
 
@@ -62,4 +63,5 @@ abbrev pub ManifestsRise : Contents → Contents → Type 0
 ManifestsRise old new = (uri before after : List ℕ) (was is : SignedManifest)
     → old uri ≡ Some before → new uri ≡ Some after
     → manifest_in before ≡ Some was → manifest_in after ≡ Some is
-    → (after ≡ before) ⊎ ((was.body.0 < is.body.0) × (was.body.1.0 < is.body.1.0))
+    → (after ≡ before) ⊎ ((manifest_number was.body < manifest_number is.body)
+    × (this_update_of was.body < this_update_of is.body))

@@ -8,16 +8,16 @@ use Rattle.authority_book.specs.Fold.{fold_of}
 use Rattle.entitle.specs.declared.trees.Owed.{Owed}
 use Rattle.entitle.specs.Certified.{AreCertified}
 use Rattle.entitle.specs.Owed.{AreOwed}
-use Rattle.key_ids.specs.Places.{Bases}
+use Rattle.key_ids.specs.Uris.{Bases}
 use Rattle.key_roll.specs.declared.rows.KeyRow.{KeyRow}
 use Rattle.key_roll.specs.declared.issued.IssuedRow.{IssuedRow}
 use Rattle.rp_rules.specs.Certificates.{Vouched, VouchesMore}
 use Rattle.issue_values.specs.Certificates.{IsEditionMoment}
 use Rattle.issue_plan.specs.Keys.{Basis, next_keys}
-use Rattle.issue_plan.specs.Wanted.{Standing}
-use Rattle.edition_keys.specs.Keys.{id_of}
-use Rattle.edition_drafts.specs.Drafts.{serial_behind}
-use Rattle.edition_signing.specs.Objects.{Entries, number_of}
+use Rattle.issue_plan.specs.Wanted.{PlanInput}
+use Rattle.issue_keys.specs.Keys.{id_of}
+use Rattle.issue_drafts.specs.Drafts.{serial_behind}
+use Rattle.issue_sign.specs.Objects.{Entries, number_of}
 use Rattle.editions.specs.Edition.{Edition, State, state_after, set_after, cut_at, AreChanges}
 use Rattle.editions.specs.Superseded.{AreSuperseded}
 use Rattle.editions.specs.Table.{IsTable}
@@ -27,7 +27,7 @@ use Rattle.editions.specs.Objects.{IsNewSet}
 
 -- Over what editions are made: the commands of each desk, the bases of the repository, and which
 -- signatures are vouched.
-pub record Ground : Type 0 where
+pub record Premises : Type 0 where
   pub lists : List (List Command)
   pub site : Bases
   pub vouched : Vouched
@@ -43,7 +43,7 @@ AreMore (list ∷ lists) [] = ⊥
 AreMore (list ∷ lists) (more ∷ mores) = BeginsWith list more × AreMore lists mores
 
 -- Of the same repository, with more commands at each desk and more that is vouched.
-pub record IsMore (less more : Ground) : Type 0 where
+pub record IsMore (less more : Premises) : Type 0 where
   pub lists : AreMore less.lists more.lists
   pub site : more.site ≡ less.site
   pub vouched : VouchesMore less.vouched more.vouched
@@ -84,81 +84,99 @@ pub record AreCounted (edition : Edition) : Type 0 where
 
 -- A key after the edition. With a new CRL and manifest it has the next number, and one serial more
 -- than its certificates and ROAs took; else its CRL is as it was.
-abbrev pub counted : Standing → List KeyRow → Entries → KeyRow → KeyRow
-counted standing keys entries key =
-    if keeps_point standing keys key
-    then record key { next_serial = serial_behind (new_objects standing keys) key }
+abbrev pub counted : PlanInput → List KeyRow → Entries → KeyRow → KeyRow
+counted plan_input keys entries key =
+    if keeps_point plan_input keys key
+    then record key { next_serial = serial_behind (new_objects plan_input keys) key }
     else record key {
-      next_serial = serial_behind (new_objects standing keys) key + 1;
+      next_serial = serial_behind (new_objects plan_input keys) key + 1;
       number = number_of key;
-      this_update = standing.basis.moment;
+      this_update = plan_input.basis.moment;
       revoked = entries key;
     }
 
 -- ---- the step
 
 -- What an edition with that cut and moment is made from, over what stood before it.
-abbrev pub basis_at : Ground → State → List ℕ → ℕ → List Resources → Basis
-basis_at footing before cut moment sets = record {
+abbrev pub basis_at : Premises → State → List ℕ → ℕ → List Resources → Basis
+basis_at premises before cut moment sets = record {
   rows = before.rows;
-  configs = configs_at footing.lists cut;
+  configs = configs_at premises.lists cut;
   sets = sets;
   moment = moment;
 }
 
 -- What the edition is made from, and judged by.
-abbrev pub standing_at :
-    Ground → State → Edition → List Resources → List Owed → List IssuedRow → Standing
-standing_at footing before edition sets owed issued = record {
-  basis = basis_at footing before edition.cut edition.moment sets;
+abbrev pub plan_input_at :
+    Premises → State → Edition → List Resources → List Owed → List IssuedRow → PlanInput
+plan_input_at premises before edition sets owed issued = record {
+  basis = basis_at premises before edition.cut edition.moment sets;
   owed = owed;
   issued = issued;
-  site = footing.site;
+  site = premises.site;
 }
 
 -- The CRL of each key that gets a new one lists just what is superseded under it.
-abbrev pub AreRevoked : List Edition → ℕ → Standing → List KeyRow → Entries → Type 0
-AreRevoked editions place standing keys entries =
-    All (λ key. keeps_point standing keys key ≡ false
+abbrev pub AreRevoked : List Edition → ℕ → PlanInput → List KeyRow → Entries → Type 0
+AreRevoked editions place plan_input keys entries =
+    All (λ key. keeps_point plan_input keys key ≡ false
     → AreSuperseded editions place (id_of key) (entries key)) keys
 
--- All that the edition is made of, over what stood before it.
-pub record IsMadeOver (footing : Ground) (editions : List Edition) (edition : Edition)
-    (standing : Standing) : Type 0 where
-  pub table : IsTable (set_after editions) standing.issued
-  pub certified : AreCertified standing.basis.configs standing.basis.sets
-  pub owes : AreOwed standing.basis.configs standing.owed
+-- So the edition that follows the others.
+abbrev pub AreRevokedBy : List Edition → Edition → PlanInput → List KeyRow → Entries → Type 0
+AreRevokedBy editions edition =
+    AreRevoked (editions ++ edition ∷ []) (length editions)
+
+-- All that the edition is made of, over what stood before it, with what each new CRL lists.
+pub record IsMadeBy
+    (AreListed : List Edition → Edition → PlanInput → List KeyRow → Entries → Type 0)
+    (premises : Premises) (editions : List Edition) (edition : Edition)
+    (plan_input : PlanInput) : Type 0 where
+  pub table : IsTable (set_after editions) plan_input.issued
+  pub certified : AreCertified plan_input.basis.configs plan_input.basis.sets
+  pub owes : AreOwed plan_input.basis.configs plan_input.owed
   pub keys : List KeyRow
-  pub next : AreNext standing.basis.rows (next_keys standing.basis) keys
+  pub next : AreNext plan_input.basis.rows (next_keys plan_input.basis) keys
   pub entries : Entries
-  pub rows : edition.rows ≡ map (counted standing keys entries) keys
+  pub rows : edition.rows ≡ map (counted plan_input keys entries) keys
   pub set : IsNewSet (record {
-    vouched = footing.vouched;
-    standing = standing;
+    vouched = premises.vouched;
+    plan_input = plan_input;
     keys = keys;
     entries = entries;
     old = set_after editions;
     new = set_after (editions ++ edition ∷ []);
   })
-  pub revoked : AreRevoked (editions ++ edition ∷ []) (length editions) standing keys entries
+  pub listed : AreListed editions edition plan_input keys entries
 
--- The edition follows the others at that clock.
-pub record IsStep (footing : Ground) (clock : ℕ) (editions : List Edition) (edition : Edition)
-    : Type 0 where
+-- So with what is superseded under each key.
+abbrev pub IsMadeOver : Premises → List Edition → Edition → PlanInput → Type 0
+IsMadeOver premises editions edition plan_input =
+    IsMadeBy AreRevokedBy premises editions edition plan_input
+
+-- The edition follows the others at that clock, with what each new CRL lists.
+pub record IsStepBy
+    (AreListed : List Edition → Edition → PlanInput → List KeyRow → Entries → Type 0)
+    (premises : Premises) (clock : ℕ) (editions : List Edition) (edition : Edition) : Type 0 where
   pub serial : edition.serial ≡ (state_after editions).serial + 1
   pub moment : edition.moment ≡ next_moment clock (state_after editions)
   pub dated : IsEditionMoment edition.moment
   pub counted : AreCounted edition
-  pub cut : IsCut footing.lists (state_after editions).cut edition.cut
+  pub cut : IsCut premises.lists (state_after editions).cut edition.cut
   pub sets : List Resources
   pub owed : List Owed
   pub issued : List IssuedRow
-  pub made : IsMadeOver footing editions edition
-      (standing_at footing (state_after editions) edition sets owed issued)
+  pub made : IsMadeBy AreListed premises editions edition
+      (plan_input_at premises (state_after editions) edition sets owed issued)
   pub changes :
       AreChanges (set_after editions) (set_after (editions ++ edition ∷ [])) edition.changes
 
+-- The edition follows the others at that clock.
+abbrev pub IsStep : Premises → ℕ → List Edition → Edition → Type 0
+IsStep premises clock editions edition = IsStepBy AreRevokedBy premises clock editions edition
+
 -- Each of the editions follows those before it, at some clock.
-abbrev pub AreSteps : Ground → List Edition → Type 0
-AreSteps footing editions = (place : ℕ) (edition : Edition) → slice_get editions place ≡ Some edition
-    → (clock : ℕ) × IsStep footing clock (take place editions) edition
+abbrev pub AreSteps : Premises → List Edition → Type 0
+AreSteps premises editions = (place : ℕ) (edition : Edition) → slice_get editions place
+    ≡ Some edition
+    → (clock : ℕ) × IsStep premises clock (take place editions) edition

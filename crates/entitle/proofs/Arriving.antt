@@ -13,7 +13,7 @@ use Rattle.authority_book.specs.declared.rows.NameRow.{NameRow}
 use Rattle.authority_book.specs.Settings.{Settings}
 use Rattle.authority_book.specs.Listed.{place_of}
 use Rattle.entitle.specs.Certified.{Grant, names_of, is_anchor, grant_of, passed_on, certified, most_parents}
-use Rattle.entitle.specs.Steps.{reaches, IsReachedBy, IsSteps, has_of, set_at, has_at}
+use Rattle.entitle.specs.inner.Steps.{reaches, IsReachedBy, IsSteps, has_of, set_at, has_at}
 use Rattle.entitle.proofs.Reaching.{reaches_next, certified_next, certified_none, certified_stays, reaches_up}
 use Rattle.entitle.proofs.Parents.{parent_placed, place_is}
 

@@ -76,17 +76,17 @@ from_granted_to configs child (Some config) grant is = by_test config.deleted is
     by_test true at = absurd (cc)
     by_test false at = from_parent configs child config.parent grant at
 
-pub record HasPlace (configs : List Settings) (grant : Grant) : Type 0 where
+pub record HasParentDesk (configs : List Settings) (grant : Grant) : Type 0 where
   pub place : ℕ
   pub is : IsPlaceOf (names_of configs) grant.parent place
 
 -- A parent that grants something has a place in the tree.
-pub parent_placed : (configs : List Settings) (name : List ℕ) (grant : Grant) → grant_of configs name ≡ Some grant → HasPlace configs grant
+pub parent_placed : (configs : List Settings) (name : List ℕ) (grant : Grant) → grant_of configs name ≡ Some grant → HasParentDesk configs grant
 parent_placed configs name grant is =
     let parent = from_granted_to configs name (config_of configs name) grant is in
     by_place (place_of (names_of configs) grant.parent) refl parent.config parent.is
   where
     by_place : (place : Option ℕ) → place_of (names_of configs) grant.parent ≡ place → (config : Settings) →
-        at_place configs place ≡ Some config → HasPlace configs grant
+        at_place configs place ≡ Some config → HasParentDesk configs grant
     by_place None found config at = absurd (cc)
     by_place (Some place) found config at = record { place = place; is = place_is (names_of configs) grant.parent place found }

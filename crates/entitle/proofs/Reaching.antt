@@ -6,7 +6,7 @@ use Rattle.res_sets.specs.Numbers.{family_end}
 use Rattle.res_sets.specs.Triples.{has}
 use Rattle.authority_book.specs.Settings.{Settings}
 use Rattle.entitle.specs.Certified.{Grant, is_anchor, grant_of, passed_on, certified}
-use Rattle.entitle.specs.Steps.{reaches, reaches_from}
+use Rattle.entitle.specs.inner.Steps.{reaches, reaches_from}
 
 -- A name that is granted nothing is out of reach.
 pub reaches_last : (configs : List Settings) (parents : ℕ) (name : List ℕ) → is_anchor name ≡ false → grant_of configs name ≡ None →

@@ -1,3 +1,3 @@
 pub mod Certified
-pub mod Steps
 pub mod Owed
+pub mod inner

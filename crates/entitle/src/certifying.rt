@@ -1,4 +1,4 @@
-//! Sets that come down from the trust anchor.
+//! Sets that come down from the trust anchor (RFC 6487 section 7.2, RFC 6492 section 3.3).
 
 ghost use Rattle.std.specs.Prelude.{◌≡◌, ◌≤◌, ◌<◌, ◌-◌, ℕ, List, length, IfOk, OnOk};
 ghost use Rattle.res_sets.specs.declared.numbers.Family.{Family};
@@ -6,7 +6,7 @@ ghost use Rattle.res_sets.specs.Triples.{has};
 ghost use Rattle.authority_book.specs.Settings.{Settings};
 ghost use Rattle.entitle.specs.Certified as certified;
 ghost use Rattle.entitle.specs.Certified.{settings_of, names_of, grant_of, passed_on, most_parents, AreCertified};
-ghost use Rattle.entitle.specs.Steps.{IsSteps, AreSteps, AreAfter, has_at};
+ghost use Rattle.entitle.specs.inner.Steps.{IsSteps, AreSteps, AreAfter, has_at};
 
 use crate::links::{grant_of, is_anchor, names_of, parent_of, place_of};
 use crate::trees::Tree;

@@ -1,4 +1,5 @@
-//! What the authorities of a tree are certified for, and which of their route origins are owed.
+//! What the authorities of a tree are certified for (RFC 6487 section 7.2), and which of their
+//! route origins are owed (RFC 9582 section 5).
 #![tactic(auto)]
 
 mod certifying;

@@ -6,7 +6,7 @@ ghost use Rattle.authority_book.specs.Verdict.{most_authorities};
 ghost use Rattle.entitle.specs.Certified as certified;
 
 use authority_book::{Config, NameRow};
-use names::Name;
+use names::{ANCHOR, Name};
 use res_sets::Resources;
 
 /// A parent, and what it grants.
@@ -20,7 +20,7 @@ pub struct Link<'a> {
 pub fn is_anchor(name: &Name) -> bool
     ensures { result ≡ certified.is_anchor name.now }
 {
-    name.as_str() == "ta"
+    name.as_str() == ANCHOR
 }
 
 /// The names of the tree.
@@ -34,7 +34,7 @@ pub fn names_of(configs: &[Config]) -> &[NameRow]
     }
 }
 
-/// The place of the name in the tree.
+/// The place of the name in the tree. An index from 0, which is the number of its desk.
 pub fn place_of(configs: &[Config], name: &Name) -> Option<usize>
     ensures { result ≡ listed.place_of (certified.names_of (certified.settings_of configs.now)) name.now }
 {

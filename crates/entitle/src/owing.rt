@@ -1,4 +1,4 @@
-//! Origins whose prefixes are held.
+//! Origins whose prefixes are held (RFC 9582 section 5).
 
 ghost use Rattle.std.specs.Prelude.{◌≡◌, ◌↔◌, ◌++◌, ℕ, List, slice_get, IsTrue, IfOk, OnOk};
 ghost use Rattle.origins.specs.declared.Origin.{Origin};

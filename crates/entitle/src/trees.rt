@@ -9,9 +9,10 @@ pub struct Tree {
     pub sets: Vec<Resources>,
 }
 
-/// A route origin that an authority owes a ROA for, and the authority's desk.
+/// A route origin that an authority owes a ROA for, and the authority's desk (RFC 9582 section 5).
 #[derive(Clone, Copy, Debug, PartialEq, Eq)]
 pub struct Owed {
+    /// Desks are numbered from 0, which is the trust anchor's.
     pub desk: u32,
     pub origin: Origin,
 }

@@ -7,7 +7,7 @@ use Rattle.std.proofs.lemmas.Option.{none-some}
 use Rattle.gate_journal.specs.Format.{header, spelled, held_for, taken_by}
 use Rattle.gate_journal.specs.Storing.{stored, entry_bytes, IsBehindGate, HasRecord, IsStoring}
 use Rattle.gate_journal.specs.View.{RecoversTo}
-use Rattle.gate_journal.specs.Kept.{IsLaidOut}
+use Rattle.gate_journal.specs.inner.Kept.{IsLaidOut}
 use Rattle.gate_journal.proofs.Records.{entry, entry_bytes-append, spelled-push}
 use Rattle.gate_journal.proofs.Sizes.{taken_by-spelled}
 use Rattle.gate_journal.proofs.Whole.{AreWithin, holds_closed}

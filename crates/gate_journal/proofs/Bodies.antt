@@ -3,7 +3,7 @@ use Rattle.std.proofs.Common.{◌≡◌, ℕ, zero, suc, ◌+◌, ◌-◌, ◌�
 use Rattle.std.proofs.lemmas.List.{drop-drop, get_or-take}
 use Rattle.std.specs.Prelude.{slice_get}
 use Rattle.gate_journal.specs.Format.{taken_by, payloads}
-use Rattle.gate_journal.specs.Kept.{IsMeasured, places_of, pair_of, sizes_of}
+use Rattle.gate_journal.specs.inner.Kept.{IsMeasured, places_of, pair_of, sizes_of}
 use Rattle.gate_journal.specs.declared.place.Place.{Place}
 use Rattle.gate_journal.proofs.Sizes.{length-sizes_of}
 use Rattle.gate_journal.proofs.Placed.{get_or-map}

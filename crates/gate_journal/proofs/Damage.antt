@@ -3,7 +3,7 @@ use Rattle.std.proofs.Common.{◌≡◌, inl, inr, ℕ, suc, ◌+◌, ◌<◌, t
 use Rattle.std.proofs.lemmas.Bool.{le-leb, cond-true, cond-false}
 use Rattle.std.specs.Prelude.{nat_le}
 use Rattle.gate_journal.specs.Format.{spelled, size_of, is_whole, behind, has_header, damaged_in, damaged_at}
-use Rattle.gate_journal.specs.Reading.{IsHarmed}
+use Rattle.gate_journal.specs.inner.Reading.{IsHarmed}
 use Rattle.gate_journal.specs.declared.place.Place.{Place}
 use Rattle.gate_journal.proofs.Whole.{damaged_at-read}
 use Rattle.gate_journal.proofs.Opened.{HasRead}

@@ -5,8 +5,8 @@ use Rattle.std.specs.Prelude.{nat_le}
 use Rattle.std.specs.Option.{option_map}
 use Rattle.disk_api.specs.Content.{BothKnown}
 use Rattle.gate_journal.specs.Format.{header, recovered, opened, IsUnopened}
-use Rattle.gate_journal.specs.Kept.{IsLaidOut}
-use Rattle.gate_journal.specs.Reading.{Finds, Opens}
+use Rattle.gate_journal.specs.inner.Kept.{IsLaidOut}
+use Rattle.gate_journal.specs.inner.Reading.{Finds, Opens}
 use Rattle.gate_journal.specs.declared.place.Place.{Place}
 use Rattle.gate_journal.proofs.Laid.{recovered-short, recovered-closed}
 use Rattle.gate_journal.proofs.Whole.{damaged_at-closed, damaged_short}

@@ -7,8 +7,8 @@ use Rattle.std.specs.Option.{option_map, unwrap_or}
 use Rattle.disk_api.specs.Images.{IsOnly}
 use Rattle.gate_journal.specs.Format.{recovered}
 use Rattle.gate_journal.specs.Storing.{stored, entry_bytes, IsStoringKnown}
-use Rattle.gate_journal.specs.Kept.{IsLaidOut, IsKept, IsGuarded, shows, sizes_of, pair_of}
-use Rattle.gate_journal.specs.Reading.{Opens}
+use Rattle.gate_journal.specs.inner.Kept.{IsLaidOut, IsConsistentJournal, IsGuarded, shows, sizes_of, pair_of}
+use Rattle.gate_journal.specs.inner.Reading.{Opens}
 use Rattle.gate_journal.specs.View.{RecoversTo, RecoversToKnown, RecoversToOrWith, RecoversToInDoubt, stake_of}
 use Rattle.gate_journal.specs.declared.place.Place.{Place}
 use Rattle.gate_journal.proofs.Laid.{shown}
@@ -45,7 +45,7 @@ module _ (limit count : ℕ) where
 
   -- what may be left while a record is stored
   pub storing_stands : (payload : List ℕ) → length payload < 2 ^ 64 → length payload ≤ limit → (content : Option (List ℕ)) (may_leave : List ℕ → Type 0) (held : ℕ) (places : List Place) (doubt : Option (List ℕ)) (shut : Option (ℕ × ℕ)) → shut ≡ None
-      → IsKept content may_leave count held places shut → IsGuarded content may_leave limit count doubt shut → (c : List ℕ) → IsStoringKnown held (entry_bytes payload) content c → RecoversToOrWith limit (shows count content) payload c
+      → IsConsistentJournal content may_leave count held places shut → IsGuarded content may_leave limit count doubt shut → (c : List ℕ) → IsStoringKnown held (entry_bytes payload) content c → RecoversToOrWith limit (shows count content) payload c
   storing_stands payload few fits None may_leave held places doubt shut opened kept guarded c storing = tt
   storing_stands payload few fits (Some bytes) may_leave held places doubt shut opened kept guarded c storing =
       let laid = kept.known.1 in
@@ -66,7 +66,7 @@ module _ (limit count : ℕ) where
 
   -- after it is stored
   pub guarded_stored : (payload : List ℕ) → length payload < 2 ^ 64 → length payload ≤ limit → (content now : Option (List ℕ)) (may_leave after : List ℕ → Type 0) (held : ℕ) (places : List Place) (place : Place) (doubt new_doubt : Option (List ℕ)) (shut : Option (ℕ × ℕ)) → shut ≡ None
-      → IsKept content may_leave count held places shut → IsGuarded content may_leave limit count doubt shut → now ≡ option_map (stored held (entry_bytes payload)) content → IsOnly now after → count < length places → pair_of place ≡ (held + 8, length payload) → new_doubt ≡ None
+      → IsConsistentJournal content may_leave count held places shut → IsGuarded content may_leave limit count doubt shut → now ≡ option_map (stored held (entry_bytes payload)) content → IsOnly now after → count < length places → pair_of place ≡ (held + 8, length payload) → new_doubt ≡ None
       → IsGuarded now after limit (count + 1) new_doubt shut
   guarded_stored payload few fits None now may_leave after held places place doubt new_doubt shut opened kept guarded is only room at none = record {
     within = subst (λ (o : Option (List ℕ)). IfSome (shows (count + 1) o) (λ all. AreWithin limit all)) (sym is) tt;

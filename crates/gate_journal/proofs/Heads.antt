@@ -6,7 +6,7 @@ use Rattle.std.proofs.lemmas.Nat.{be_bytes_8}
 use Rattle.std.specs.Prelude.{nat_le}
 use Rattle.std.specs.Int.{w64, to_be_bytes, from_be_bytes}
 use Rattle.gate_journal.specs.Format.{size_of, is_whole}
-use Rattle.gate_journal.specs.Reading.{Fills, IsHarmed, StandsAt}
+use Rattle.gate_journal.specs.inner.Reading.{Fills, IsHarmed, StandsAt}
 use Rattle.gate_journal.specs.declared.open.Head.TheVariants.{Record}
 
 module _ (bytes : List ℕ) (at got : ℕ) (head : List ℕ) (nine : length head ≡ 9) (fills : Fills bytes at got head) (some : 0 < got) (is_open : get_or head 0 0 ≡ 1) where

@@ -6,9 +6,9 @@ use Rattle.std.proofs.lemmas.Option.{none-some}
 use Rattle.std.specs.Option.{option_map, option_or, unwrap_or}
 use Rattle.disk_api.specs.Content.{BothKnown}
 use Rattle.disk_api.specs.Images.{IsOnly}
-use Rattle.fault_count.specs.Rise.{HasRisen}
+use Rattle.host_calls.specs.Rise.{HasRisen}
 use Rattle.gate_journal.specs.Storing.{stored, entry_bytes, IsStoring}
-use Rattle.gate_journal.specs.Kept.{IsMeasured, IsLaidOut, IsKept, pair_of, sizes_of, shows}
+use Rattle.gate_journal.specs.inner.Kept.{IsMeasured, IsLaidOut, IsConsistentJournal, pair_of, sizes_of, shows}
 use Rattle.gate_journal.specs.declared.place.Place.{Place}
 use Rattle.gate_journal.proofs.Laid.{shown}
 use Rattle.gate_journal.proofs.Appended.{laid_storing, laid_stored, laid_long}
@@ -18,13 +18,13 @@ use Rattle.gate_journal.proofs.Stored.{IsLong}
 abbrev Laid : ℕ → List Place → Option (ℕ × ℕ) → Option (List ℕ) → Type 0
 Laid count places shut content = IfSome content (λ bytes. (records : List (List ℕ)) × IsLaidOut records (sizes_of count places) shut bytes)
 
-pub kept_long : (content : Option (List ℕ)) (may_leave : List ℕ → Type 0) (count held : ℕ) (places : List Place) (shut : Option (ℕ × ℕ)) → IsKept content may_leave count held places shut → IsLong held content
+pub kept_long : (content : Option (List ℕ)) (may_leave : List ℕ → Type 0) (count held : ℕ) (places : List Place) (shut : Option (ℕ × ℕ)) → IsConsistentJournal content may_leave count held places shut → IsLong held content
 kept_long None may_leave count held places shut kept = tt
 kept_long (Some bytes) may_leave count held places shut kept = laid_long kept.known.1 held kept.measured.held_is
 
 module _ (payload : List ℕ) (few : length payload < 2 ^ 64) where
-  pub kept_failed : (content now : Option (List ℕ)) (may_leave after : List ℕ → Type 0) (count held : ℕ) (places : List Place) (rose : ℕ × ℕ) → IsKept content may_leave count held places None
-      → BothKnown (IsStoring held (entry_bytes payload)) content now → HasRisen rose.0 rose.1 → IsKept now after count held places (Some rose)
+  pub kept_failed : (content now : Option (List ℕ)) (may_leave after : List ℕ → Type 0) (count held : ℕ) (places : List Place) (rose : ℕ × ℕ) → IsConsistentJournal content may_leave count held places None
+      → BothKnown (IsStoring held (entry_bytes payload)) content now → HasRisen rose.0 rose.1 → IsConsistentJournal now after count held places (Some rose)
   kept_failed None now may_leave after count held places rose kept both risen = record {
     measured = kept.measured;
     known = subst (λ (o : Option (List ℕ)). Laid count places (Some rose) o) (sym both) tt;
@@ -38,7 +38,7 @@ module _ (payload : List ℕ) (few : length payload < 2 ^ 64) where
     risen = risen;
   }
 
-  pub shows_failed : (content now : Option (List ℕ)) (may_leave : List ℕ → Type 0) (count held : ℕ) (places : List Place) → IsKept content may_leave count held places None
+  pub shows_failed : (content now : Option (List ℕ)) (may_leave : List ℕ → Type 0) (count held : ℕ) (places : List Place) → IsConsistentJournal content may_leave count held places None
       → BothKnown (IsStoring held (entry_bytes payload)) content now → shows count now ≡ shows count content
   shows_failed None now may_leave count held places kept both = ap (λ (o : Option (List ℕ)). shows count o) both
   shows_failed (Some bytes) now may_leave count held places kept both =
@@ -59,9 +59,9 @@ module _ (payload : List ℕ) (few : length payload < 2 ^ 64) where
   stored_laid count held places place records bytes measured laid room at =
       subst (λ (l : List ℕ). IsLaidOut (records ++ payload ∷ []) l None (stored held (entry_bytes payload) bytes)) (sym (sizes_stored count held places place room at)) (laid_stored laid held measured.held_is payload few)
 
-  pub kept_stored : (content now : Option (List ℕ)) (may_leave after : List ℕ → Type 0) (count held : ℕ) (places : List Place) (place : Place) → IsKept content may_leave count held places None
+  pub kept_stored : (content now : Option (List ℕ)) (may_leave after : List ℕ → Type 0) (count held : ℕ) (places : List Place) (place : Place) → IsConsistentJournal content may_leave count held places None
       → now ≡ option_map (stored held (entry_bytes payload)) content → IsOnly now after → count < length places → pair_of place ≡ (held + 8, length payload)
-      → IsKept now after (count + 1) (held + (length payload + 9)) (set places count place) None
+      → IsConsistentJournal now after (count + 1) (held + (length payload + 9)) (set places count place) None
   kept_stored None now may_leave after count held places place kept is only room at = record {
     measured = measured_stored count held places place kept.measured room at;
     known = subst (λ (o : Option (List ℕ)). Laid (count + 1) (set places count place) None o) (sym is) tt;
@@ -75,7 +75,7 @@ module _ (payload : List ℕ) (few : length payload < 2 ^ 64) where
     risen = tt;
   }
 
-  pub shows_stored : (content now : Option (List ℕ)) (may_leave after : List ℕ → Type 0) (count held : ℕ) (places : List Place) (place : Place) → IsKept content may_leave count held places None
+  pub shows_stored : (content now : Option (List ℕ)) (may_leave after : List ℕ → Type 0) (count held : ℕ) (places : List Place) (place : Place) → IsConsistentJournal content may_leave count held places None
       → now ≡ option_map (stored held (entry_bytes payload)) content → count < length places → pair_of place ≡ (held + 8, length payload)
       → shows (count + 1) now ≡ option_map (λ all. all ++ payload ∷ []) (shows count content)
   shows_stored None now may_leave after count held places place kept is room at = ap (λ (o : Option (List ℕ)). shows (count + 1) o) is
@@ -88,26 +88,26 @@ module _ (payload : List ℕ) (few : length payload < 2 ^ 64) where
 
 -- the same of an open journal, where what was stored is called new
 module _ (payload : List ℕ) (few : length payload < 2 ^ 64) (new : List ℕ) (spelled_out : new ≡ entry_bytes payload) (content : Option (List ℕ)) (may_leave : List ℕ → Type 0) (count held : ℕ) (places : List Place) (shut : Option (ℕ × ℕ))
-    (opened : shut ≡ None) (kept : IsKept content may_leave count held places shut) where
-  at_open : IsKept content may_leave count held places None
-  at_open = subst (λ (s : Option (ℕ × ℕ)). IsKept content may_leave count held places s) opened kept
+    (opened : shut ≡ None) (kept : IsConsistentJournal content may_leave count held places shut) where
+  at_open : IsConsistentJournal content may_leave count held places None
+  at_open = subst (λ (s : Option (ℕ × ℕ)). IsConsistentJournal content may_leave count held places s) opened kept
 
-  pub open_failed : (now : Option (List ℕ)) (after : List ℕ → Type 0) (rose : ℕ × ℕ) → BothKnown (IsStoring held new) content now → HasRisen rose.0 rose.1 → IsKept now after count held places (Some rose)
+  pub open_failed : (now : Option (List ℕ)) (after : List ℕ → Type 0) (rose : ℕ × ℕ) → BothKnown (IsStoring held new) content now → HasRisen rose.0 rose.1 → IsConsistentJournal now after count held places (Some rose)
   open_failed now after rose both risen = kept_failed payload few content now may_leave after count held places rose at_open (subst (λ (l : List ℕ). BothKnown (IsStoring held l) content now) spelled_out both) risen
 
   pub open_failed_shows : (now : Option (List ℕ)) → BothKnown (IsStoring held new) content now → shows count now ≡ shows count content
   open_failed_shows now both = shows_failed payload few content now may_leave count held places at_open (subst (λ (l : List ℕ). BothKnown (IsStoring held l) content now) spelled_out both)
 
   pub open_stored : (now : Option (List ℕ)) (after : List ℕ → Type 0) (place : Place) → now ≡ option_map (stored held new) content → IsOnly now after → count < length places → pair_of place ≡ (held + 8, length payload)
-      → IsKept now after (count + 1) (held + (length payload + 9)) (set places count place) shut
+      → IsConsistentJournal now after (count + 1) (held + (length payload + 9)) (set places count place) shut
   open_stored now after place is only room at =
-      subst (λ (s : Option (ℕ × ℕ)). IsKept now after (count + 1) (held + (length payload + 9)) (set places count place) s) (sym opened)
+      subst (λ (s : Option (ℕ × ℕ)). IsConsistentJournal now after (count + 1) (held + (length payload + 9)) (set places count place) s) (sym opened)
       (kept_stored payload few content now may_leave after count held places place at_open (subst (λ (l : List ℕ). now ≡ option_map (stored held l) content) spelled_out is) only room at)
 
   pub open_sized : (now : Option (List ℕ)) (after : List ℕ → Type 0) (place : Place) (size : ℕ) → size ≡ length payload → now ≡ option_map (stored held new) content → IsOnly now after → count < length places → pair_of place ≡ (held + 8, size)
-      → IsKept now after (count + 1) (held + (size + 9)) (set places count place) shut
+      → IsConsistentJournal now after (count + 1) (held + (size + 9)) (set places count place) shut
   open_sized now after place size same is only room at =
-      subst (λ (n : ℕ). IsKept now after (count + 1) (held + (n + 9)) (set places count place) shut) (sym same) (open_stored now after place is only room (at ∙ ap (λ (n : ℕ). (held + 8, n)) same))
+      subst (λ (n : ℕ). IsConsistentJournal now after (count + 1) (held + (n + 9)) (set places count place) shut) (sym same) (open_stored now after place is only room (at ∙ ap (λ (n : ℕ). (held + 8, n)) same))
 
   pub open_stored_shows : (now : Option (List ℕ)) (place : Place) → now ≡ option_map (stored held new) content → count < length places → pair_of place ≡ (held + 8, length payload)
       → shows (count + 1) now ≡ option_map (λ all. all ++ payload ∷ []) (shows count content)
@@ -119,8 +119,8 @@ pub place_free : (count size room n : ℕ) → n < cond (nat_lt count size) room
 place_free count size room n lt = grind (arith, nat_tests)
 
 -- other places behind those of the records
-pub kept_places : (content : Option (List ℕ)) (may_leave : List ℕ → Type 0) (count held : ℕ) (places more : List Place) (shut : Option (ℕ × ℕ)) → IsKept content may_leave count held places shut → count ≤ length more → take count more ≡ take count places
-    → IsKept content may_leave count held more shut
+pub kept_places : (content : Option (List ℕ)) (may_leave : List ℕ → Type 0) (count held : ℕ) (places more : List Place) (shut : Option (ℕ × ℕ)) → IsConsistentJournal content may_leave count held places shut → count ≤ length more → take count more ≡ take count places
+    → IsConsistentJournal content may_leave count held more shut
 kept_places content may_leave count held places more shut kept counted same = record {
   measured = measured_same count held places more kept.measured counted same;
   known = subst (λ (l : List ℕ). IfSome content (λ bytes. (records : List (List ℕ)) × IsLaidOut records l shut bytes)) (ap (λ (l : List Place). map (λ (place : Place). place.size) l) (sym same)) kept.known;
@@ -132,8 +132,8 @@ pub more_room : (count few many room : ℕ) → few ≤ many → cond (nat_lt co
 more_room count few many room le = grind (arith, nat_tests)
 
 -- reads change nothing of it, and a fault shuts it
-pub kept_read : (content now : Option (List ℕ)) (may_leave after : List ℕ → Type 0) (count held : ℕ) (places : List Place) (shut : Option (ℕ × ℕ)) → IsKept content may_leave count held places shut → now ≡ content → ((c : List ℕ) → after c → may_leave c)
-    → IsKept now after count held places shut
+pub kept_read : (content now : Option (List ℕ)) (may_leave after : List ℕ → Type 0) (count held : ℕ) (places : List Place) (shut : Option (ℕ × ℕ)) → IsConsistentJournal content may_leave count held places shut → now ≡ content → ((c : List ℕ) → after c → may_leave c)
+    → IsConsistentJournal now after count held places shut
 kept_read content now may_leave after count held places shut kept same fewer = record {
   measured = kept.measured;
   known = subst (λ (o : Option (List ℕ)). Laid count places shut o) (sym same) kept.known;
@@ -141,8 +141,8 @@ kept_read content now may_leave after count held places shut kept same fewer = r
   risen = kept.risen;
 }
 
-pub kept_shut : (content : Option (List ℕ)) (may_leave : List ℕ → Type 0) (count held : ℕ) (places : List Place) (shut : Option (ℕ × ℕ)) (rose : ℕ × ℕ) → IsKept content may_leave count held places shut → HasRisen rose.0 rose.1
-    → IsKept content may_leave count held places (Some (unwrap_or shut rose))
+pub kept_shut : (content : Option (List ℕ)) (may_leave : List ℕ → Type 0) (count held : ℕ) (places : List Place) (shut : Option (ℕ × ℕ)) (rose : ℕ × ℕ) → IsConsistentJournal content may_leave count held places shut → HasRisen rose.0 rose.1
+    → IsConsistentJournal content may_leave count held places (Some (unwrap_or shut rose))
 kept_shut None may_leave count held places None rose kept risen = record { measured = kept.measured; known = tt; durable = λ is. absurd (none-some rose (sym is)); risen = risen }
 kept_shut (Some bytes) may_leave count held places None rose kept risen =
     let laid = kept.known.1 in
@@ -157,9 +157,9 @@ kept_shut content may_leave count held places (Some first) rose kept risen = kep
 -- an opened file
 pub kept_found : (content : Option (List ℕ)) (may_leave : List ℕ → Type 0) (count held : ℕ) (places : List Place) → IsMeasured (length places) held places → count ≡ length places
     → IfSome content (λ bytes. (records : List (List ℕ)) × IsLaidOut records (map (λ (place : Place). place.size) places) None bytes) → IsOnly content may_leave
-    → IsKept content may_leave count held places None
+    → IsConsistentJournal content may_leave count held places None
 kept_found content may_leave count held places measured all known only =
-    subst (λ (n : ℕ). IsKept content may_leave n held places None) (sym all) (record {
+    subst (λ (n : ℕ). IsConsistentJournal content may_leave n held places None) (sym all) (record {
       measured = measured;
       known = subst (λ (l : List ℕ). IfSome content (λ bytes. (records : List (List ℕ)) × IsLaidOut records l None bytes)) (sym (all_sizes places)) known;
       durable = λ _. only;

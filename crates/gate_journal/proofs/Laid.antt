@@ -6,7 +6,7 @@ use Rattle.std.specs.Prelude.{nat_le}
 use Rattle.std.specs.Int.{w64, to_be_bytes}
 use Rattle.std.specs.Option.{option_map}
 use Rattle.gate_journal.specs.Format.{header, spelled, records_in, has_header, recovered}
-use Rattle.gate_journal.specs.Kept.{IsLaidOut, IsKept, sizes_of}
+use Rattle.gate_journal.specs.inner.Kept.{IsLaidOut, IsConsistentJournal, sizes_of}
 use Rattle.gate_journal.specs.declared.place.Place.{Place}
 use Rattle.gate_journal.proofs.Records.{AreSmall, records_in-spelled, records_in-closed}
 use Rattle.gate_journal.proofs.Sizes.{length-sizes_of}
@@ -52,12 +52,12 @@ shown {records} {sizes} {shut} {bytes} count counted laid =
     ∙ ap (λ (l : List (List ℕ)). take count l) all.1
     ∙ take_at records (records_in all.0 (laid.gate ∷ laid.tail)) count (omega (arith, counted, ap (λ (l : List ℕ). length l) laid.sizes_are, length-map records length))
 
-module _ (content : Option (List ℕ)) (may_leave : List ℕ → Type 0) (count held : ℕ) (places : List Place) (shut : Option (ℕ × ℕ)) (kept : IsKept content may_leave count held places shut) where
+module _ (content : Option (List ℕ)) (may_leave : List ℕ → Type 0) (count held : ℕ) (places : List Place) (shut : Option (ℕ × ℕ)) (kept : IsConsistentJournal content may_leave count held places shut) where
   pub all_counted : length (sizes_of count places) ≡ count
   all_counted = length-sizes_of count places kept.measured.counted
 
 -- and the sizes are theirs
-pub shown_sizes : (content : Option (List ℕ)) (may_leave : List ℕ → Type 0) (count held : ℕ) (places : List Place) (shut : Option (ℕ × ℕ)) → IsKept content may_leave count held places shut
+pub shown_sizes : (content : Option (List ℕ)) (may_leave : List ℕ → Type 0) (count held : ℕ) (places : List Place) (shut : Option (ℕ × ℕ)) → IsConsistentJournal content may_leave count held places shut
     → IfSome (option_map (λ bytes. take count (recovered bytes)) content) (λ all. sizes_of count places ≡ map length all)
 shown_sizes None may_leave count held places shut kept = tt
 shown_sizes (Some bytes) may_leave count held places shut kept =

@@ -5,7 +5,7 @@ use Rattle.std.proofs.lemmas.List.Elements.{All-push}
 use Rattle.std.specs.List.{All}
 use Rattle.std.specs.Int.{w64, to_be_bytes}
 use Rattle.gate_journal.specs.Format.{header, spelled, size_of, has_header}
-use Rattle.gate_journal.specs.Reading.{Finds, StandsAt}
+use Rattle.gate_journal.specs.inner.Reading.{Finds, StandsAt}
 use Rattle.gate_journal.specs.declared.open.Head.{Head}
 use Rattle.gate_journal.specs.declared.open.Head.TheVariants.{Closed, Record}
 use Rattle.std.proofs.lemmas.Slice.Eq.{slice_eq-Decides}

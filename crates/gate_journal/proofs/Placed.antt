@@ -6,7 +6,7 @@ use Rattle.std.specs.Option.{option_map}
 use Rattle.std.specs.Prelude.{slice_get}
 use Rattle.std.specs.Int.{w64, to_be_bytes}
 use Rattle.gate_journal.specs.Format.{spelled, taken_by}
-use Rattle.gate_journal.specs.Kept.{IsMeasured, IsLaidOut, IsKept, places_of, pair_of, sizes_of, shows}
+use Rattle.gate_journal.specs.inner.Kept.{IsMeasured, IsLaidOut, IsConsistentJournal, places_of, pair_of, sizes_of, shows}
 use Rattle.gate_journal.specs.declared.place.Place.{Place}
 use Rattle.gate_journal.proofs.Records.{length-to_be_bytes, spelled-more}
 use Rattle.gate_journal.proofs.Laid.{shown}
@@ -53,7 +53,7 @@ laid_place {records} {shut} {bytes} count held places laid index place measured 
     ∙ ap (λ (p : Place). pair_of p) (get_or-take count places index place lt ∙ sym is) in
     subst (λ (p : ℕ × ℕ). IsPlaced records index p.0 p.1 bytes) pair (placed records (laid.gate ∷ laid.tail) bytes 16 index (pair_of place) there (omega (arith, lt, all)))
 
-pub read_place : (content : Option (List ℕ)) (may_leave : List ℕ → Type 0) (count held : ℕ) (places : List Place) (shut : Option (ℕ × ℕ)) (index : ℕ) (place : Place) (payload : List ℕ) → IsKept content may_leave count held places shut → index < count → place ≡ get_or places index place
+pub read_place : (content : Option (List ℕ)) (may_leave : List ℕ → Type 0) (count held : ℕ) (places : List Place) (shut : Option (ℕ × ℕ)) (index : ℕ) (place : Place) (payload : List ℕ) → IsConsistentJournal content may_leave count held places shut → index < count → place ≡ get_or places index place
     → IfSome content (λ bytes. payload ≡ take place.size (drop place.at bytes)) → IfSome (shows count content) (λ all. slice_get all index ≡ Some payload)
 read_place None may_leave count held places shut index place payload kept lt is read = tt
 read_place (Some bytes) may_leave count held places shut index place payload kept lt is read =
@@ -61,14 +61,14 @@ read_place (Some bytes) may_leave count held places shut index place payload kep
     ∙ (laid_place count held places kept.known.1 index place kept.measured lt is).payload ∙ ap (λ (l : List ℕ). Some l) (sym read)
 
 -- the first bytes of it
-read_front : (content : Option (List ℕ)) (may_leave : List ℕ → Type 0) (count held : ℕ) (places : List Place) (shut : Option (ℕ × ℕ)) (index want : ℕ) (place : Place) (front : List ℕ) → IsKept content may_leave count held places shut → index < count → place ≡ get_or places index place → want ≤ place.size
+read_front : (content : Option (List ℕ)) (may_leave : List ℕ → Type 0) (count held : ℕ) (places : List Place) (shut : Option (ℕ × ℕ)) (index want : ℕ) (place : Place) (front : List ℕ) → IsConsistentJournal content may_leave count held places shut → index < count → place ≡ get_or places index place → want ≤ place.size
     → IfSome content (λ bytes. front ≡ take want (drop place.at bytes)) → IfSome (shows count content) (λ all. IfSome (slice_get all index) (λ payload. front ≡ take want payload))
 read_front None may_leave count held places shut index want place front kept lt is short read = tt
 read_front (Some bytes) may_leave count held places shut index want place front kept lt is short read =
     let there = read_place (Some bytes) may_leave count held places shut index place (take place.size (drop place.at bytes)) kept lt is refl in
     subst (λ (o : Option (List ℕ)). IfSome o (λ payload. front ≡ take want payload)) (sym there) (read ∙ sym (take-take want place.size (drop place.at bytes) short))
 
-pub front_read : (content : Option (List ℕ)) (may_leave : List ℕ → Type 0) (count held : ℕ) (places : List Place) (shut : Option (ℕ × ℕ)) (index want : ℕ) (place : Place) (old new rest : List ℕ) → IsKept content may_leave count held places shut → index < count → place ≡ get_or places index place → want ≤ place.size
+pub front_read : (content : Option (List ℕ)) (may_leave : List ℕ → Type 0) (count held : ℕ) (places : List Place) (shut : Option (ℕ × ℕ)) (index want : ℕ) (place : Place) (old new rest : List ℕ) → IsConsistentJournal content may_leave count held places shut → index < count → place ≡ get_or places index place → want ≤ place.size
     → length old ≡ want → length new ≡ want → IfSome content (λ bytes. new ≡ take (length old) (drop place.at bytes)) → IfSome (shows count content) (λ all. IfSome (slice_get all index) (λ payload. take want (new ++ rest) ≡ take want payload))
 front_read None may_leave count held places shut index want place old new rest kept lt is short room long read = tt
 front_read (Some bytes) may_leave count held places shut index want place old new rest kept lt is short room long read =
@@ -84,7 +84,7 @@ pub below_count : (count : ℕ) (places : List Place) (index : ℕ) → count �
 below_count count places index counted lt = omega (arith, length-sizes_of count places counted)
 
 -- all records, as they lie in the file
-pub read_body : (content : Option (List ℕ)) (may_leave : List ℕ → Type 0) (count held : ℕ) (places : List Place) (shut : Option (ℕ × ℕ)) (body : List ℕ) → IsKept content may_leave count held places shut → IfSome content (λ bytes. body ≡ take (held - 17) (drop 16 bytes))
+pub read_body : (content : Option (List ℕ)) (may_leave : List ℕ → Type 0) (count held : ℕ) (places : List Place) (shut : Option (ℕ × ℕ)) (body : List ℕ) → IsConsistentJournal content may_leave count held places shut → IfSome content (λ bytes. body ≡ take (held - 17) (drop 16 bytes))
     → IfSome (shows count content) (λ all. body ≡ spelled all)
 read_body None may_leave count held places shut body kept read = tt
 read_body (Some bytes) may_leave count held places shut body kept read =

@@ -4,7 +4,7 @@ use Rattle.std.proofs.lemmas.List.{map-append, length-map, length-take, take_all
 use Rattle.std.proofs.lemmas.Grind.{take-set_at}
 use Rattle.std.specs.Int.{w64, to_be_bytes}
 use Rattle.gate_journal.specs.Format.{spelled, taken_by, held_for}
-use Rattle.gate_journal.specs.Kept.{IsMeasured, places_of, pair_of, sizes_of}
+use Rattle.gate_journal.specs.inner.Kept.{IsMeasured, places_of, pair_of, sizes_of}
 use Rattle.gate_journal.specs.declared.place.Place.{Place}
 use Rattle.gate_journal.proofs.Records.{length-to_be_bytes}
 

@@ -5,7 +5,7 @@ use Rattle.std.specs.Option.{option_map}
 use Rattle.disk_api.specs.Content.{overwritten, Torn, BothKnown}
 use Rattle.disk_api.specs.Images.{Follows, IsOnly, Keeps, Elapses}
 use Rattle.disk_api.specs.Runs.{LeavesOnly}
-use Rattle.disk_api.specs.RunLaws.{started, goes_on}
+use Rattle.disk_api.specs.laws.RunLaws.{started, goes_on}
 use Rattle.disk_api.specs.declared.disk.Disk.{Ghosts as DiskGhosts}
 use Rattle.gate_journal.specs.Storing.{stored, IsStoring, IsStoringKnown}
 use Rattle.gate_journal.proofs.Torn.{staged, torn_behind, staged_behind, length-staged, torn_gate, stored_is, stored_storing}

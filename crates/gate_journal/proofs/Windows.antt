@@ -1,7 +1,7 @@
 -- What stands in a window.
 use Rattle.std.proofs.Common.{◌≡◌, ℕ, zero, suc, ◌+◌, ◌-◌, ◌≤◌, min, Option, Some, None, List, [], ◌∷◌, length, take, drop, IfSome, refl, sym, ◌∙◌, ap, arith}
 use Rattle.std.proofs.lemmas.List.{drop-drop, drop-take}
-use Rattle.gate_journal.specs.Reading.{Fills, IsWindow}
+use Rattle.gate_journal.specs.inner.Reading.{Fills, IsWindow}
 
 take-take : (a b : ℕ) (l : List ℕ) → a ≤ b → take a (take b l) ≡ take a l
 take-take zero b l le = refl

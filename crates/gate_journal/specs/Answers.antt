@@ -1,7 +1,7 @@
 -- When a call of a journal is refused, and what each refusal leaves.
 use Rattle.std.specs.Prelude.{◌≡◌, ◌<◌, ◌≤◌, ℕ, ◌+◌, Some, None, Result, Ok, Err, List, length}
 use Rattle.std.specs.Option.{unwrap_or}
-use Rattle.fault_count.specs.Rise.{HasRisen}
+use Rattle.host_calls.specs.Rise.{HasRisen}
 use Rattle.disk_api.specs.declared.disk.Disk.{Ghosts as DiskGhosts}
 use Rattle.gate_journal.specs.Format.{held_for}
 use Rattle.gate_journal.specs.View.{View}
@@ -12,7 +12,7 @@ use Rattle.gate_journal.specs.declared.fault.AppendFault.{AppendFault}
 use Rattle.gate_journal.specs.declared.fault.AppendFault.TheVariants.{Shut, JournalFull, DiskFault}
 
 -- the journal is open, and a record of the needed bytes fits
-pub record HasPlace {D : Type 0} (journal : View D) (needed : ℕ) : Type 0 where
+pub record CanAppend {D : Type 0} (journal : View D) (needed : ℕ) : Type 0 where
   pub is_open : journal.shut ≡ None
   pub fits : held_for journal.sizes + needed ≤ journal.limit
 
@@ -28,7 +28,7 @@ pub record IsFullAnswer {D : Type 0} (held needed asked : ℕ) (old new : View D
   pub same : new ≡ old
 
 pub record IsFaultAnswer {D : Type 0} (disk_of : DiskGhosts D) (rose : ℕ × ℕ) (payload : List ℕ) (old new : View D) : Type 0 where
-  pub place : HasPlace old (length payload + 9)
+  pub place : CanAppend old (length payload + 9)
   pub before : rose.0 ≡ disk_of.fault_count old.disk
   pub after : rose.1 ≡ disk_of.fault_count new.disk
   pub risen : HasRisen rose.0 rose.1

@@ -73,7 +73,7 @@ impl Entry {
         Entry::ended(bytes)
     }
 
-    /// The payload's length.
+    /// The payload's length. In bytes.
     pub fn len(&self) -> u64
         ensures { result ≡ length self.now }
     {

@@ -7,7 +7,7 @@ use disk_api::{Disk, DiskStop};
 use std::alloc::{AllocError, AllocFailed};
 use thiserror::Error;
 
-/// Why a journal can't be opened or read.
+/// Why a journal can't be opened or read. Offsets are in bytes.
 #[derive(Clone, Copy, Debug, PartialEq, Eq, Error)]
 pub enum JournalFault {
     #[error("the disk failed")]
@@ -27,12 +27,13 @@ pub struct OpenRefused<D: Disk> {
     pub fault: JournalFault,
 }
 
-/// Why a record wasn't appended.
+/// Why a record wasn't appended. It is asked in this order.
 #[derive(Drop)]
 pub enum AppendFault<D: Disk> {
     /// An earlier call failed.
     Shut { rose: Rose<D> },
-    /// The bytes up to the closed gate and those of the record are more than the limit.
+    /// The bytes up to the closed gate, `held`, and those of the record, `needed`, are more than
+    /// the limit.
     JournalFull { held: u64, needed: u64 },
     /// The disk failed, and the journal is shut. The record may count after a restart, or not.
     DiskFault { rose: Rose<D> },
@@ -40,7 +41,7 @@ pub enum AppendFault<D: Disk> {
 
 impl From<DiskStop> for JournalFault {
     ghost use Rattle.std.specs.Prelude.{◌≡◌};
-    ghost use Rattle.gate_journal.specs.Reading.{fault_of};
+    ghost use Rattle.gate_journal.specs.inner.Reading.{fault_of};
 
     ghost from_gives = { λ stop fault. fault ≡ fault_of stop };
 

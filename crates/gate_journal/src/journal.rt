@@ -3,7 +3,7 @@ ghost use Rattle.std.specs.Prelude.{◌≡◌, ◌≤◌, ◌<◌, ◌+◌, ◌-
 ghost use Rattle.std.specs.Option.{option_map};
 ghost use Rattle.disk_api.specs.Content.{BothKnown};
 ghost use Rattle.disk_api.specs.Runs.{LeavesOnly, Rests};
-ghost use Rattle.fault_count.specs.Rise.{HasRisen};
+ghost use Rattle.host_calls.specs.Rise.{HasRisen};
 ghost use Rattle.gate_journal.specs.Format.{spelled, recovered, damaged_at, taken_by, held_for, payloads, opened, IsUnopened};
 ghost use Rattle.gate_journal.specs.Storing.{stored, entry_bytes};
 ghost use Rattle.gate_journal.specs.View.{View, RecoversToKnown, RecoversToOrWith, RecoversToInDoubt, stake_of, IsSafe, HasSizes, IsSameButRoom};
@@ -39,18 +39,18 @@ pub struct Journal<D: Disk> {
 impl<D: Disk> Model for Journal<D> {
     ghost use Rattle.std.specs.Prelude.{◌-◌, nat_lt, cond, take, length, vec_capacity};
     ghost use Rattle.gate_journal.specs.View.{View};
-    ghost use Rattle.gate_journal.specs.Kept.{IsKept, IsGuarded, shows, sizes_of};
+    ghost use Rattle.gate_journal.specs.inner.Kept.{IsConsistentJournal, IsGuarded, shows, sizes_of};
 
     ghost Value = { View D };
 
     ghost view = { λ j. record { disk = j.disk; records = shows j.count (D.content j.disk); sizes = sizes_of j.count j.places.items; limit = j.limit; places = length j.places.items - j.count; room = cond (nat_lt j.count (length j.places.items)) (vec_capacity j.buffer - 8) 0; doubt = j.doubt; shut = j.shut } };
 
-    ghost invariant = { λ j. IsKept (D.content j.disk) (D.may_leave j.disk) j.count j.held j.places.items j.shut
+    ghost invariant = { λ j. IsConsistentJournal (D.content j.disk) (D.may_leave j.disk) j.count j.held j.places.items j.shut
         × IsGuarded (D.content j.disk) (D.may_leave j.disk) j.limit j.count j.doubt j.shut };
 }
 
 impl<D: Disk> Journal<D> {
-    ghost use Rattle.gate_journal.specs.Answers.{HasPlace, IsRefusal, IsAppendFault, IsFaultAnswer, IsReadFault, IsSameButDisk, disk_after};
+    ghost use Rattle.gate_journal.specs.Answers.{CanAppend, IsRefusal, IsAppendFault, IsFaultAnswer, IsReadFault, IsSameButDisk, disk_after};
 
     /// Opens the journal on a disk, beginning with a sync. A file of at most 17 bytes is made a new
     /// journal, and a longer one stays as it is. It reads the head of each record.
@@ -104,7 +104,8 @@ impl<D: Disk> Journal<D> {
         self.count as u64
     }
 
-    /// The offset just past the closed gate: the bytes that the records take, with the header.
+    /// The offset just past the closed gate: the bytes that the records take, with the header. In
+    /// bytes.
     pub fn held(&self) -> u64
         ensures held { result ≡ held_for self.now.sizes }
         ensures sizes { HasSizes self.now }
@@ -163,7 +164,7 @@ impl<D: Disk> Journal<D> {
     /// Why a record that takes `needed` bytes in the file, 9 of them for its gate and its length,
     /// isn't appended: the journal is shut, or full.
     pub fn refusal(&self, needed: u64) -> Option<AppendFault<D>>
-        ensures answer { MatchOption result (HasPlace self.now needed) (λ fault. IsRefusal fault needed self.now) }
+        ensures answer { MatchOption result (CanAppend self.now needed) (λ fault. IsRefusal fault needed self.now) }
         ensures safe { IsSafe D.Disk self.now }
     {
         if let Some((before, after)) = self.shut {
@@ -180,13 +181,15 @@ impl<D: Disk> Journal<D> {
 
     /// Appends a record, by four calls of the disk and with no memory of its own. At `Ok` the record
     /// is kept: from then on each crash leaves it. A large buffer is given back then.
+    ///
+    /// Refused in this order: `Shut`, `JournalFull`, `DiskFault`.
     pub fn append(&mut self, payload: &[u8]) -> Result<(), AppendFault<D>>
         requires { length payload.now < self.old.room }
 
         ensures appended { OnOk result (self.new.records ≡ option_map (λ all. all ++ payload.now ∷ []) self.old.records) }
         ensures bytes { OnOk result (D.content self.new.disk ≡ option_map (stored (held_for self.old.sizes) (entry_bytes payload.now)) (D.content self.old.disk)) }
         ensures sizes { OnOk result (self.new.sizes ≡ self.old.sizes ++ length payload.now ∷ []) }
-        ensures place { OnOk result (HasPlace self.old (length payload.now + 9) × (self.new.shut ≡ None)) }
+        ensures place { OnOk result (CanAppend self.old (length payload.now + 9) × (self.new.shut ≡ None)) }
         ensures durable { OnOk result ((c : List ℕ) → D.may_leave self.new.disk c → RecoversToKnown self.new.limit self.new.records c) }
         ensures given_back { OnOk result (self.new.room ≤ 2 ^ 16) }
 
@@ -224,7 +227,7 @@ impl<D: Disk> Journal<D> {
         ensures appended { OnOk result (self.new.records ≡ option_map (λ all. all ++ entry ∷ []) self.old.records) }
         ensures bytes { OnOk result (D.content self.new.disk ≡ option_map (stored (held_for self.old.sizes) (entry_bytes entry)) (D.content self.old.disk)) }
         ensures sizes { OnOk result (self.new.sizes ≡ self.old.sizes ++ length entry ∷ []) }
-        ensures place { OnOk result (HasPlace self.old (length entry + 9) × (self.new.shut ≡ None)) }
+        ensures place { OnOk result (CanAppend self.old (length entry + 9) × (self.new.shut ≡ None)) }
         ensures durable { OnOk result ((c : List ℕ) → D.may_leave self.new.disk c → RecoversToKnown self.new.limit self.new.records c) }
         ensures given_back { OnOk result (self.new.room ≤ self.old.room) }
 
@@ -248,7 +251,7 @@ impl<D: Disk> Journal<D> {
     /// journal is shut, and keeps it.
     fn put(&mut self, entry: Entry) -> Result<Entry, Rose<D>>
         requires free { 0 < self.old.places }
-        requires place { HasPlace self.old (length entry + 9) }
+        requires place { CanAppend self.old (length entry + 9) }
         ensures appended { OnOk result (self.new.records ≡ option_map (λ all. all ++ entry ∷ []) self.old.records) }
         ensures bytes { OnOk result (D.content self.new.disk ≡ option_map (stored (held_for self.old.sizes) (entry_bytes entry)) (D.content self.old.disk)) }
         ensures sizes { OnOk result (self.new.sizes ≡ self.old.sizes ++ length entry ∷ []) }
@@ -284,7 +287,8 @@ impl<D: Disk> Journal<D> {
     }
 
     /// The payload of a record, read from the disk. A fault of the disk shuts the journal. It never
-    /// answers `Damaged`: a file that somebody has cut short is answered as out of memory.
+    /// answers `Damaged`: a file that somebody has cut short is answered as out of memory. Records
+    /// are numbered from 0.
     pub fn record(&mut self, alloc: Global, index: u64) -> Result<Vec<u8>, JournalFault>
         requires { index < length self.old.sizes }
 
@@ -302,7 +306,8 @@ impl<D: Disk> Journal<D> {
     }
 
     /// Reads the first bytes of a record's payload, as many as there are or as there is room for, and
-    /// says how many. It takes no memory of its own, and answers faults as `record` does.
+    /// says how many. It takes no memory of its own, and answers faults as `record` does. Records are
+    /// numbered from 0.
     pub fn front(&mut self, index: u64, into: &mut [u8]) -> Result<usize, JournalFault>
         requires { index < length self.old.sizes }
 
@@ -340,7 +345,7 @@ impl<D: Disk> Journal<D> {
         self.read(alloc, Place { at: 16, size })
     }
 
-    /// The payload of a record within the bytes of all.
+    /// The payload of a record within the bytes of all. Records are numbered from 0.
     pub fn payload<'a>(&self, body: &'a [u8], index: u64) -> &'a [u8]
         requires index { index < length self.now.sizes }
         requires body { length body.now ≡ taken_by self.now.sizes }

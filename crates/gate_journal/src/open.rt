@@ -5,11 +5,11 @@ ghost use Rattle.disk_api.specs.Content.{BothKnown};
 ghost use Rattle.disk_api.specs.Images.{IsOnly};
 ghost use Rattle.disk_api.specs.Runs.{LeavesOnly};
 ghost use Rattle.disk_api.specs.Faults.{CountsFaults, CountsStops};
-ghost use Rattle.fault_count.specs.Rise.{HasRisen};
+ghost use Rattle.host_calls.specs.Rise.{HasRisen};
 ghost use Rattle.gate_journal.specs.Format.{header, has_header, recovered, damaged_at, opened, IsUnopened};
-ghost use Rattle.gate_journal.specs.Reading.{Fills, IsWindow, IsHead, StandsAt, IsHarmed, Finds, Opens};
+ghost use Rattle.gate_journal.specs.inner.Reading.{Fills, IsWindow, IsHead, StandsAt, IsHarmed, Finds, Opens};
 ghost use Rattle.disk_api.specs.Runs.{Rests};
-ghost use Rattle.gate_journal.specs.Kept.{IsMeasured};
+ghost use Rattle.gate_journal.specs.inner.Kept.{IsMeasured};
 ghost use Rattle.gate_journal.specs.View.{RecoversToKnown};
 
 use crate::JournalFault;

@@ -1,6 +1,6 @@
 // The word of a fault of a disk: only this crate makes one.
 ghost use Rattle.std.specs.Prelude.{◌≡◌, ℕ};
-ghost use Rattle.fault_count.specs.Rise.{HasRisen};
+ghost use Rattle.host_calls.specs.Rise.{HasRisen};
 
 use disk_api::Disk;
 use std::marker::{Model, PhantomData};
@@ -34,7 +34,7 @@ impl<D: Disk> Rose<D> {
         }
     }
 
-    /// The count before the call that failed.
+    /// The count before the call that failed. How many calls had failed by then.
     pub fn before(&self) -> u64
         ensures count { result ≡ self.now.0 }
         ensures risen { HasRisen self.now.0 self.now.1 }
@@ -42,7 +42,7 @@ impl<D: Disk> Rose<D> {
         self.before
     }
 
-    /// The count after it.
+    /// The count after it. How many calls had failed by then.
     pub fn after(&self) -> u64
         ensures count { result ≡ self.now.1 }
         ensures risen { HasRisen self.now.0 self.now.1 }

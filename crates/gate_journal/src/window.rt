@@ -1,7 +1,7 @@
 // A part of the file, read in one piece, in which heads are looked for.
 ghost use Rattle.std.specs.Prelude.{◌≡◌, ◌≤◌, ◌<◌, ◌+◌, ◌-◌, ◌^◌, ◌↔◌, ℕ, List, min, length, take, drop, IsTrue, IfSome, IfOk, OnOk, slice_index};
 ghost use Rattle.disk_api.specs.Faults.{CountsFaults};
-ghost use Rattle.gate_journal.specs.Reading.{IsWindow};
+ghost use Rattle.gate_journal.specs.inner.Reading.{IsWindow};
 ghost use Rattle.disk_api.specs.Runs.{Rests};
 
 use crate::open::read_part;

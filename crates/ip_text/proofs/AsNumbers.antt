@@ -4,8 +4,8 @@ use Rattle.std.specs.Prelude.{OkIff}
 use Rattle.std.specs.Result.{result_ok}
 use Rattle.ip_text.specs.Reader.{Reads}
 use Rattle.ip_text.specs.Number.{IsDecimalText, IsSaturatedText, FollowsMark, IsAsNumberText}
-use Rattle.ip_text.specs.NumberLaws.{one_decimal}
-use Rattle.ip_text.specs.AsNumberLaws.{number_follows}
+use Rattle.ip_text.specs.laws.NumberLaws.{one_decimal}
+use Rattle.ip_text.specs.laws.AsNumberLaws.{number_follows}
 
 -- and what follows the mark is one, where it fits
 follows_number : (text rest : List ℕ) (n : ℕ) → FollowsMark text rest → n < 2 ^ 32 → IsDecimalText rest n → IsAsNumberText text n

@@ -2,7 +2,7 @@
 use Rattle.std.proofs.Common.{◌≡◌, ℕ, true, false, ◌==◌, eq-eqb, eqb-true, List, [], ◌∷◌, sym, ◌∙◌, inl, inr}
 use Rattle.std.proofs.lemmas.Bool.{false≢true, or_cases, or_parts}
 use Rattle.std.specs.List.{list_any}
-use Rattle.ip_text.specs.Ipv6Laws.{HasNoDot}
+use Rattle.ip_text.specs.laws.Ipv6Laws.{HasNoDot}
 
 -- where no byte of a text is found to be a dot, none is
 pub no_dot_found : (text : List ℕ) → list_any (λ b. b == 46) text ≡ false → HasNoDot text

@@ -2,8 +2,4 @@ pub mod Reader
 pub mod Number
 pub mod Ipv4
 pub mod Ipv6
-pub mod NumberLaws
-pub mod AsNumberLaws
-pub mod Ipv4Laws
-pub mod ByteLaws
-pub mod Ipv6Laws
+pub mod laws

@@ -21,7 +21,8 @@ pub fn read_ipv6(text: &[u8]) -> Option<u128>
     Some(address.to_bits())
 }
 
-/// Appends the address as RFC 5952 prints it, with no dotted part, at most 39 bytes. An `Err` may
+/// Appends the address as RFC 5952 section 4 prints it, with no dotted part, at most 39 bytes. An
+/// `Err` may
 /// leave a part of it.
 pub fn push_ipv6(out: &mut String, address: u128) -> Result<(), AllocError>
     ensures { OnOk result (string_bytes out.new ≡ string_bytes out.old ++ ipv6_text address) }

@@ -1,4 +1,5 @@
-//! Decimal numbers, AS numbers and IP addresses as texts.
+//! Decimal numbers, AS numbers (RFC 5396) and IP addresses (RFC 4291 section 2.2, RFC 5952) as
+//! texts.
 //!
 //! The readers take whole texts and no memory.
 #![tactic(auto)]

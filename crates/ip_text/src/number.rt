@@ -34,7 +34,7 @@ fn after_mark(text: &[u8]) -> &[u8]
 }
 
 /// The AS number that the whole text writes: a decimal number below 2^32, with or without `AS` in
-/// front, in any case of its letters.
+/// front, in any case of its letters (asplain, RFC 5396; of 32 bits, RFC 6793).
 pub fn read_as_number(text: &[u8]) -> Option<u32>
     ensures { Reads (IsAsNumberText text.now) result }
 {

@@ -6,19 +6,19 @@ use Rattle.std.proofs.lemmas.List.{take-append-drop}
 use Rattle.std.proofs.lemmas.List.Elements.{All-append, All-cons}
 use Rattle.signer_api.specs.State.{SignerState}
 use Rattle.signer_ring.specs.Ring.{Keeps}
-use Rattle.ring_calls.specs.Calls.{after_calls, IsVouched}
+use Rattle.signer_ring.specs.Calls.{after_calls, IsVouched}
 use Rattle.key_roll.specs.declared.rows.KeyRow.{KeyRow}
-use Rattle.edition_keys.specs.Keys.{kept_rows}
-use Rattle.edition_keys.specs.Making.{making, AreMade}
-use Rattle.edition_publishers.specs.Finding.{Keys, keys_at, all_keys}
-use Rattle.edition_publishers.specs.Certificates.{Setting}
-use Rattle.edition_signing.specs.Calls.{first_calls, second_calls, content_calls, last_calls}
-use Rattle.edition_outcome.specs.Outcome.{all_of, row_after}
-use Rattle.edition_outcome.specs.declared.outcome.Made.{Made}
-use Rattle.issue_make.specs.Naming.{CanName}
-use Rattle.issue_make.specs.Work.{IsWork}
-use Rattle.issue_make.specs.Ready.{AreReady}
-use Rattle.issue_make.specs.Finished.{signing_of, IsFinished}
+use Rattle.issue_keys.specs.Keys.{kept_rows}
+use Rattle.issue_keys.specs.Making.{making, AreMade}
+use Rattle.issue_drafts.specs.Finding.{Keys, keys_at, all_keys}
+use Rattle.issue_drafts.specs.Certificates.{IssueInput}
+use Rattle.issue_sign.specs.Calls.{first_calls, second_calls, content_calls, last_calls}
+use Rattle.issue_make.specs.Outcome.{all_of, row_after}
+use Rattle.issue_make.specs.declared.outcome.Made.{Made}
+use Rattle.issue_make.specs.inner.Naming.{CanName}
+use Rattle.issue_make.specs.Work.{CanMake}
+use Rattle.issue_make.specs.inner.Ready.{AreReady}
+use Rattle.issue_make.specs.inner.Finished.{signing_of, IsFinished}
 use Rattle.issue_make.specs.Made.{calls_of, IsMade}
 use Rattle.issue_make.proofs.Parts.{grouped}
 use Rattle.issue_make.proofs.Stops.{calls-on}
@@ -28,27 +28,27 @@ makings-vouched ring [] = λ k d lt. absurd (omega arith)
 makings-vouched ring (row ∷ fresh) = All-cons (IsVouched ring) (making row) (map making fresh) tt (makings-vouched ring fresh)
 
 -- Over the keys that stay and those that were made the objects can be made.
-pub are-ready : (s : Setting) (live rows : List KeyRow) (n : ℕ) (old between : List SignerState) → IsWork s live (length old)
+pub are-ready : (s : IssueInput) (live rows : List KeyRow) (n : ℕ) (old between : List SignerState) → CanMake s live (length old)
     → Keeps old between → n ≤ length rows → take n rows ≡ kept_rows s.work live → AreMade s.work.new_keys live old between (drop n rows)
     → All (λ row. CanName s.site row.name) s.names → AreReady s live rows n (length between)
 are-ready s live rows n old between work keeps inside kept made named = record {
-  work = subst (IsWork s live) (sym keeps.count) work;
+  work = subst (CanMake s live) (sym keeps.count) work;
   are = record { kept = kept; fresh = made.keys; apart = made.apart };
   inside = inside;
   named = named;
 }
 
-pub is-made : (s : Setting) (live rows : List KeyRow) (n : ℕ) (old between new : List SignerState) (made : Made)
+pub is-made : (s : IssueInput) (live rows : List KeyRow) (n : ℕ) (old between new : List SignerState) (made : Made)
     → AreMade s.work.new_keys live old between (drop n rows)
     → IsFinished s live rows (keys_at rows n) between new made → IsMade s live old new made
 is-made s live rows n old between new made are f =
-    let c = f.course in
+    let c = f.trace in
     let fresh : drop n rows ≡ c.keys.fresh = sym (ap (λ (keys : Keys). keys.fresh) f.over) in
     let all : rows ≡ all_keys c.keys = sym (take-append-drop n rows) ∙ sym (ap all_keys f.over) in
     let calls : calls_of s c ≡ map making c.keys.fresh ++ signing_of s c =
     grouped (map making c.keys.fresh) (first_calls s c.keys (all_of s c) c.entries c.objects) (second_calls s c.keys (all_of s c) c.objects)
     (content_calls s c.files c.listed) (last_calls s c.keys (all_of s c) c.listed) in record {
-      course = c;
+      trace = c;
       is_course = f.is_course;
       signers = f.signers ∙ (ap (λ (ring : List SignerState). after_calls ring (signing_of s c))
           (are.signers ∙ ap (λ (l : List KeyRow). after_calls old (map making l)) fresh)

@@ -9,25 +9,25 @@ use Rattle.std.proofs.lemmas.List.Sums.{count_by-le-length}
 use Rattle.std.proofs.lemmas.Option.{slice_get_within}
 use Rattle.signer_api.specs.State.{SignerState}
 use Rattle.key_roll.specs.declared.rows.KeyRow.{KeyRow}
-use Rattle.edition_publishers.specs.Finding.{Keys, keys_at}
-use Rattle.edition_publishers.specs.Certificates.{Setting}
-use Rattle.edition_drafts.specs.Drafts.{Draft, drafts, manifests, is_numbered, serial_behind}
-use Rattle.edition_drafts.specs.Serials.{given_serial}
-use Rattle.edition_drafts.specs.UriOrder.{apart-permuted}
-use Rattle.edition_drafts.specs.Views.{draft_of, manifest_of}
-use Rattle.edition_drafts.specs.declared.draft.Draft as code
-use Rattle.edition_drafts.specs.declared.draft.ManifestDraft as listed
-use Rattle.point_lists.specs.Revoking.{has_point}
-use Rattle.edition_signing.specs.Objects.{Entries, Signed}
-use Rattle.edition_signing.specs.Basis.{Basis}
-use Rattle.edition_signing.specs.Made.{answers_of, signed, of_drafts, of_manifests}
-use Rattle.issue_make.specs.Plans.{puts, IsPlan}
-use Rattle.issue_make.specs.Signing.{basis_of, AreSigned}
-use Rattle.issue_make.specs.Outcomes.{uris_in, AreWhole, CanComeOut}
-use Rattle.issue_make.specs.Work.{IsWork}
-use Rattle.issue_make.specs.declared.plans.Plan.{Plan}
+use Rattle.issue_drafts.specs.Finding.{Keys, keys_at}
+use Rattle.issue_drafts.specs.Certificates.{IssueInput}
+use Rattle.issue_drafts.specs.Drafts.{Draft, drafts, manifests, is_numbered, serial_behind}
+use Rattle.issue_drafts.specs.Serials.{given_serial}
+use Rattle.issue_drafts.specs.laws.UriOrder.{apart-permuted}
+use Rattle.issue_drafts.specs.Views.{draft_of, manifest_of}
+use Rattle.issue_drafts.specs.declared.draft.Draft as code
+use Rattle.issue_drafts.specs.declared.draft.ManifestDraft as listed
+use Rattle.issue_drafts.specs.Revoking.{has_point}
+use Rattle.issue_sign.specs.Objects.{Entries, Signed}
+use Rattle.issue_sign.specs.SignInput.{SignInput}
+use Rattle.issue_sign.specs.Made.{answers_of, signed, of_drafts, of_manifests}
+use Rattle.issue_make.specs.Plans.{puts, IsObjectPlan}
+use Rattle.issue_make.specs.inner.Signing.{basis_of, AreSigned}
+use Rattle.issue_make.specs.inner.Outcomes.{uris_in, AreWhole, CanComeOut}
+use Rattle.issue_make.specs.Work.{CanMake}
+use Rattle.issue_make.specs.declared.plans.ObjectPlan.{ObjectPlan}
 use Rattle.issue_make.specs.declared.objects.Objects.{Objects}
-use Rattle.issue_make.proofs.Premises.{AreRows, keys-are, serials-of, numbers-of}
+use Rattle.issue_make.proofs.Conditions.{AreRows, keys-are, serials-of, numbers-of}
 use Rattle.issue_make.proofs.Signed.{as-many-made}
 
 -- ---- URIs
@@ -41,7 +41,7 @@ manifest-uris : (ms : List listed.ManifestDraft)
 manifest-uris [] = refl
 manifest-uris (m ∷ ms) = ap (λ (l : List (List ℕ)). m.uri ∷ l) (manifest-uris ms)
 
-uris-are : (plan : Plan)
+uris-are : (plan : ObjectPlan)
     → map (λ (d : Draft). d.uri) (map draft_of plan.drafts.items ++ map manifest_of plan.manifests.items) ≡ uris_in plan
 uris-are plan =
     map-append (λ (d : Draft). d.uri) (map draft_of plan.drafts.items) (map manifest_of plan.manifests.items)
@@ -53,7 +53,7 @@ moved-apart us vs moved apart =
     subst (λ (l : List (List ℕ)). AllPairs (λ a b. a ≢ b) l) (map-id vs)
     (apart-permuted (λ (u : List ℕ). u) us vs moved (subst (λ (l : List (List ℕ)). AllPairs (λ a b. a ≢ b) l) (sym (map-id us)) apart))
 
-uris-apart : (s : Setting) (keys : Keys) (rows : List KeyRow) (plan : Plan) → IsPlan s keys rows plan
+uris-apart : (s : IssueInput) (keys : Keys) (rows : List KeyRow) (plan : ObjectPlan) → IsObjectPlan s keys rows plan
     → AllPairs (λ a b. a ≢ b) (map (λ d. d.uri) (puts s keys) ++ s.work.withdrawn)
     → AllPairs (λ a b. a ≢ b) (uris_in plan ++ s.work.withdrawn)
 uris-apart s keys rows plan p once =
@@ -68,10 +68,10 @@ uris-apart s keys rows plan p once =
 -- ---- lengths
 
 -- As many objects as drafts, and a place for the key of each manifest.
-whole : (s : Setting) (keys : Keys) (rows : List KeyRow) (entries : Entries) (plan : Plan) (old new : List SignerState)
-    (objects : Objects) → IsPlan s keys rows plan → AreSigned s keys rows entries plan old new objects → AreWhole plan objects
+whole : (s : IssueInput) (keys : Keys) (rows : List KeyRow) (entries : Entries) (plan : ObjectPlan) (old new : List SignerState)
+    (objects : Objects) → IsObjectPlan s keys rows plan → AreSigned s keys rows entries plan old new objects → AreWhole plan objects
 whole s keys rows entries plan old new objects p are =
-    let basis : Basis = basis_of s keys rows entries are.files in
+    let basis : SignInput = basis_of s keys rows entries are.files in
     let made : List Signed = signed (map draft_of plan.drafts.items) (map answers_of objects.drafted.items) in
     let lists : List Signed = signed (map manifest_of plan.manifests.items) (map answers_of objects.listed.items) in
     let first = as-many-made s basis (of_drafts s basis) (map draft_of plan.drafts.items) old are.between objects.drafted.items made
@@ -96,7 +96,7 @@ small-serial : (all : List Draft) (row : KeyRow) → length all < 2 ^ 63 → row
     → serial_behind all row + 1 < 2 ^ 64
 small-serial all row few small = let counted = count_by-le-length (is_numbered row) all in omega (arith, counted)
 
-small-serials : (s : Setting) (keys : Keys) (rows : List KeyRow) (plan : Plan) → IsPlan s keys rows plan
+small-serials : (s : IssueInput) (keys : Keys) (rows : List KeyRow) (plan : ObjectPlan) → IsObjectPlan s keys rows plan
     → All (λ row. row.next_serial < 2 ^ 62) rows → All (λ n. n + 1 < 2 ^ 64) plan.serials.next.items
 small-serials s keys rows plan p small =
     let many = length_permutation (drafts s keys) (map draft_of plan.drafts.items) p.drafts.permutation in
@@ -108,8 +108,8 @@ small-serials s keys rows plan p small =
 
 -- ---- all of it
 
-pub can-come-out : (s : Setting) (live rows : List KeyRow) (n signers : ℕ) → IsWork s live signers → AreRows s live rows n
-    → (plan : Plan) → IsPlan s (keys_at rows n) rows plan → (entries : Entries) → plan.revoked.items ≡ map entries rows
+pub can-come-out : (s : IssueInput) (live rows : List KeyRow) (n signers : ℕ) → CanMake s live signers → AreRows s live rows n
+    → (plan : ObjectPlan) → IsObjectPlan s (keys_at rows n) rows plan → (entries : Entries) → plan.revoked.items ≡ map entries rows
     → (old new : List SignerState) (objects : Objects) → AreSigned s (keys_at rows n) rows entries plan old new objects
     → CanComeOut s rows plan objects
 can-come-out s live rows n signers work are plan p entries is old new objects signed-are =

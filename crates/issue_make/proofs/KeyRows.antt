@@ -1,5 +1,5 @@
 -- What holds of an edition's keys, those that stay and those that were made.
-use Rattle.std.proofs.Common.{◌≡◌, ◌≢◌, ℕ, ◌≤◌, suc, Bool, true, false, not, ◌||◌, cond, Option, None, Some, List, [], ◌∷◌, ◌++◌, length, get_or, map, filter, refl, sym, ap, subst, ◌∙◌, arith}
+use Rattle.std.proofs.Common.{◌≡◌, ◌≢◌, ℕ, ◌≤◌, suc, Bool, true, false, not, ◌||◌, cond, Option, List, [], ◌∷◌, ◌++◌, length, get_or, map, filter, refl, sym, ap, subst, ◌∙◌, arith}
 use Rattle.std.specs.List.{All, AllPairs}
 use Rattle.std.specs.List.Sorted.{IsNonDecreasing, IsNonDecreasingBy}
 use Rattle.std.specs.Str.{bytes_eq}
@@ -13,9 +13,10 @@ use Rattle.key_roll.specs.declared.rows.KeyRow.{KeyRow}
 use Rattle.key_roll.specs.declared.work.Work.{Work}
 use Rattle.key_roll.specs.declared.work.NewKey.{NewKey}
 use Rattle.key_roll.specs.declared.work.RoleWork.{RoleWork}
-use Rattle.edition_keys.specs.Keys.{id_of, is_dropped, with_role, role_of, kept_rows, fresh_row, fresh_rows, AreFresh}
-use Rattle.edition_keys.specs.Making.{AreApart, clashes}
+use Rattle.issue_keys.specs.Keys.{id_of, is_dropped, with_role, role_of, kept_rows, fresh_row, fresh_rows, AreFresh}
+use Rattle.issue_keys.specs.Making.{AreApart, clashes}
 use Rattle.issue_make.proofs.Parts.{all-of-map}
+use Rattle.issue_keys.specs.laws.KeyLaws.{same-id}
 
 -- ---- each of them
 
@@ -137,10 +138,6 @@ map-pairs f (row ∷ rows) same pairs =
     (all-map (Differ row) (Differ (f row)) f rows (λ other apart e. apart (sym (same row) ∙ (e ∙ same other)))
     (λ k d lt. pairs 0 (suc k) d (omega arith) (omega arith)))
     (map-pairs f rows same (λ i j d low high. pairs (suc i) (suc j) d (omega arith) (omega arith)))
-
-same-id : (row : KeyRow) (r : Option RoleWork) → id_of (with_role row r) ≡ id_of row
-same-id row None = refl
-same-id row (Some r) = refl
 
 pub keys-apart : (work : Work) (rows fresh : List KeyRow) → AllPairs (λ a b. id_of a ≢ id_of b) rows
     → AreApart (map id_of rows) fresh → AllPairs (λ a b. id_of a ≢ id_of b) (kept_rows work rows ++ fresh)

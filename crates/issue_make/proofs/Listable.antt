@@ -14,30 +14,30 @@ use Rattle.std.proofs.lemmas.Slice.Eq.{bytes_eq-Decides}
 use Rattle.std.proofs.Math.Seq.{take-append_seam, drop-append_seam}
 use Rattle.hex.specs.Hex.{encode_lower}
 use Rattle.payloads.specs.ManifestFormats.{is_name}
-use Rattle.key_ids.specs.Places.{anchor_uri, cert_uri, crl_uri}
+use Rattle.key_ids.specs.Uris.{anchor_uri, cert_uri, crl_uri}
 use Rattle.issue_values.specs.Publishing.{roa_uri}
 use Rattle.origins.specs.Origin.{origin_text}
 use Rattle.key_roll.specs.declared.rows.KeyRow.{KeyRow}
 use Rattle.key_roll.specs.declared.work.CertWork.{CertWork}
 use Rattle.key_roll.specs.declared.work.RoaWork.{RoaWork}
 use Rattle.key_roll.specs.declared.work.PointWork.{PointWork}
-use Rattle.edition_keys.specs.Keys.{id_of}
-use Rattle.edition_publishers.specs.Finding.{Keys, key_named, keys_at}
-use Rattle.edition_publishers.specs.Certificates.{Setting, is_key, made_uri, name_at}
-use Rattle.edition_drafts.specs.Drafts.{Draft, certificate_draft, roa_draft, crl_draft, drafts, manifests}
-use Rattle.edition_drafts.specs.Drafts.Kind.{Certificate, Roa, Crl}
-use Rattle.edition_drafts.specs.Views.{draft_of, manifest_of, IsPlaced}
-use Rattle.edition_drafts.specs.declared.draft.Draft as code
-use Rattle.edition_drafts.specs.declared.draft.ManifestDraft as listed
-use Rattle.point_lists.specs.Revoking.{is_touched}
-use Rattle.point_lists.specs.Files.{IsListable, AreListable, folder_at, is_kept, is_made_under}
-use Rattle.issue_make.specs.Plans.{puts, IsPlan}
-use Rattle.issue_make.specs.Work.{IsWork}
+use Rattle.issue_keys.specs.Keys.{id_of}
+use Rattle.issue_drafts.specs.Finding.{Keys, key_named, keys_at}
+use Rattle.issue_drafts.specs.Certificates.{IssueInput, is_key, made_uri, name_at}
+use Rattle.issue_drafts.specs.Drafts.{Draft, certificate_draft, roa_draft, crl_draft, drafts, manifests}
+use Rattle.issue_drafts.specs.Drafts.Kind.{Certificate, Roa, Crl}
+use Rattle.issue_drafts.specs.Views.{draft_of, manifest_of, IsPlaced}
+use Rattle.issue_drafts.specs.declared.draft.Draft as code
+use Rattle.issue_drafts.specs.declared.draft.ManifestDraft as listed
+use Rattle.issue_drafts.specs.Revoking.{is_touched}
+use Rattle.issue_drafts.specs.Files.{IsListable, AreListable, folder_at, is_kept, is_made_under}
+use Rattle.issue_make.specs.Plans.{puts, IsObjectPlan}
+use Rattle.issue_make.specs.Work.{CanMake}
 use Rattle.issue_make.specs.Work as works
-use Rattle.issue_make.specs.declared.plans.Plan.{Plan}
+use Rattle.issue_make.specs.declared.plans.ObjectPlan.{ObjectPlan}
 use Rattle.issue_make.proofs.Names.{key-name, origin-name}
 use Rattle.issue_make.proofs.Parts.{all-of-map, all-filter-map}
-use Rattle.issue_make.proofs.Premises.{AreRows, keys-are, rows-apart}
+use Rattle.issue_make.proofs.Conditions.{AreRows, keys-are, rows-apart}
 
 -- A file of a folder.
 in-folder : (folder file : List ℕ) → is_name file ≡ true → IsListable folder (folder ++ file)
@@ -49,10 +49,10 @@ in-folder folder file named = record {
 -- ---- what is made
 
 -- The trust anchor's own certificate, or a file of its issuer's authority.
-abbrev IsOwn : Setting → Draft → Type 0
+abbrev IsOwn : IssueInput → Draft → Type 0
 IsOwn s d = (d.uri ≡ anchor_uri s.site) ⊎ IsListable (folder_at s d.issuer) d.uri
 
-made-own : (s : Setting) (issuer subject : KeyRow)
+made-own : (s : IssueInput) (issuer subject : KeyRow)
     → (made_uri s.site s.names issuer subject ≡ anchor_uri s.site) ⊎ IsListable (folder_at s issuer) (made_uri s.site s.names issuer subject)
 made-own s issuer subject = by (is_key issuer subject)
   where
@@ -64,7 +64,7 @@ made-own s issuer subject = by (is_key issuer subject)
     by true = inl refl
     by false = inr (in-folder (folder_at s issuer) (encode_lower (id_of subject) ++ codes ".cer") (key-name subject (codes "cer") refl refl))
 
-certificate-own : (s : Setting) (keys : Keys) (cert : CertWork) → IfSome (certificate_draft s keys cert) (IsOwn s)
+certificate-own : (s : IssueInput) (keys : Keys) (cert : CertWork) → IfSome (certificate_draft s keys cert) (IsOwn s)
 certificate-own s keys cert = by (key_named keys cert.issuer) (key_named keys cert.subject)
   where
     by : (a b : Option KeyRow) → IfSome (option_and_then (λ (issuer : KeyRow).
@@ -77,7 +77,7 @@ certificate-own s keys cert = by (key_named keys cert.issuer) (key_named keys ce
     by (Some issuer) None = tt
     by (Some issuer) (Some subject) = made-own s issuer subject
 
-roa-own : (s : Setting) (keys : Keys) (roa : RoaWork) → IfSome (roa_draft s keys roa) (IsOwn s)
+roa-own : (s : IssueInput) (keys : Keys) (roa : RoaWork) → IfSome (roa_draft s keys roa) (IsOwn s)
 roa-own s keys roa = by (key_named keys roa.issuer)
   where
     by : (a : Option KeyRow) → IfSome (option_map (λ (issuer : KeyRow). record {
@@ -88,7 +88,7 @@ roa-own s keys roa = by (key_named keys roa.issuer)
     by None = tt
     by (Some issuer) = inr (in-folder (folder_at s issuer) (encode_lower (origin_text roa.origin) ++ codes ".roa") (origin-name roa.origin))
 
-crl-own : (s : Setting) (keys : Keys) (point : PointWork) → IfSome (crl_draft s keys point) (IsOwn s)
+crl-own : (s : IssueInput) (keys : Keys) (point : PointWork) → IfSome (crl_draft s keys point) (IsOwn s)
 crl-own s keys point = by (key_named keys point.key)
   where
     by : (a : Option KeyRow) → IfSome (option_map (λ (issuer : KeyRow). record {
@@ -99,7 +99,7 @@ crl-own s keys point = by (key_named keys point.key)
     by None = tt
     by (Some issuer) = inr (in-folder (folder_at s issuer) (encode_lower (id_of issuer) ++ codes ".crl") (key-name issuer (codes "crl") refl refl))
 
-drafts-own : (s : Setting) (keys : Keys) → All (IsOwn s) (drafts s keys)
+drafts-own : (s : IssueInput) (keys : Keys) → All (IsOwn s) (drafts s keys)
 drafts-own s keys =
     All-append (IsOwn s) (filter_map (certificate_draft s keys) s.work.certs ++ filter_map (roa_draft s keys) s.work.roas)
     (filter_map (crl_draft s keys) s.work.points)
@@ -128,7 +128,7 @@ same-key rows a b p q apart first second same =
 
 -- ---- under a key
 
-one-under : (s : Setting) (key : KeyRow) (d : Draft) → (is_key d.issuer key ≡ true → d.issuer ≡ key) → IsOwn s d
+one-under : (s : IssueInput) (key : KeyRow) (d : Draft) → (is_key d.issuer key ≡ true → d.issuer ≡ key) → IsOwn s d
     → is_made_under s key d ≡ true → IsListable (folder_at s key) d.uri
 one-under s key d same (inl anchor) made =
     let other = (and_parts (is_key d.issuer key) (not (bytes_eq d.uri (anchor_uri s.site))) made).1 in
@@ -138,7 +138,7 @@ one-under s key d same (inr is) made =
     subst (λ (k : KeyRow). IsListable (folder_at s k) d.uri)
     (same (and_parts (is_key d.issuer key) (not (bytes_eq d.uri (anchor_uri s.site))) made).0) is
 
-all-under : (s : Setting) (rows : List KeyRow) (key : KeyRow) (place : ℕ) (ds : List code.Draft)
+all-under : (s : IssueInput) (rows : List KeyRow) (key : KeyRow) (place : ℕ) (ds : List code.Draft)
     → AllPairs (λ a b. id_of a ≢ id_of b) rows → slice_get rows place ≡ Some key
     → All (λ d. IsPlaced rows d.issuer) ds → All (IsOwn s) (map draft_of ds)
     → All (λ d. is_made_under s key d ≡ true → IsListable (folder_at s key) d.uri) (map draft_of ds)
@@ -153,7 +153,7 @@ all-under s rows key place (d ∷ ds) apart at placed own =
 
 -- ---- what stays
 
-kept-of : (s : Setting) (keys : Keys) (others : List Draft) (key : KeyRow)
+kept-of : (s : IssueInput) (keys : Keys) (others : List Draft) (key : KeyRow)
     → ((uri : List ℕ) → is_touched s others uri ≡ is_touched s (puts s keys) uri) → works.AreListable s keys key
     → All (λ row. is_kept s others key row ≡ true → IsListable (folder_at s key) row.uri) s.issued
 kept-of s keys others key same listable k d lt kept =
@@ -163,8 +163,8 @@ kept-of s keys others key same listable k d lt kept =
 
 -- ---- for each manifest of a plan
 
-pub listable-of : (s : Setting) (live rows : List KeyRow) (n signers : ℕ) (plan : Plan) → IsWork s live signers → AreRows s live rows n
-    → IsPlan s (keys_at rows n) rows plan
+pub listable-of : (s : IssueInput) (live rows : List KeyRow) (n signers : ℕ) (plan : ObjectPlan) → CanMake s live signers → AreRows s live rows n
+    → IsObjectPlan s (keys_at rows n) rows plan
     → All (λ m. AreListable s (map draft_of plan.drafts.items ++ map manifest_of plan.manifests.items) (map draft_of plan.drafts.items)
     m.issuer.row.now) plan.manifests.items
 listable-of s live rows n signers plan work are p =

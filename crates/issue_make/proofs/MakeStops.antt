@@ -4,22 +4,22 @@ use Rattle.std.specs.List.{All}
 use Rattle.std.proofs.lemmas.List.Elements.{All-nil, All-append}
 use Rattle.signer_api.specs.State.{SignerState, CountsFault}
 use Rattle.signer_ring.specs.Ring.{ChangesOne}
-use Rattle.ring_calls.specs.Calls.{Call, after_calls}
+use Rattle.signer_ring.specs.Calls.{Call, after_calls}
 use Rattle.key_roll.specs.declared.rows.KeyRow.{KeyRow}
 use Rattle.key_roll.specs.declared.work.NewKey.{NewKey}
-use Rattle.edition_keys.specs.declared.fault.MakeFault.{MakeFault}
-use Rattle.edition_keys.specs.declared.fault.MakeFault.TheVariants.{SignerFault, KeyClash, Memory}
-use Rattle.edition_keys.specs.Keys.{id_of, AreBegun, AreFresh}
-use Rattle.edition_keys.specs.Making.{making, AreApart, AreMade, IsKeyStop}
-use Rattle.edition_publishers.specs.Finding.{Keys}
-use Rattle.edition_publishers.specs.Certificates.{Setting}
-use Rattle.edition_drafts.specs.Views.{draft_of, manifest_of}
-use Rattle.edition_signing.specs.Objects.{Entries, Signed}
-use Rattle.edition_signing.specs.Basis.{Basis}
-use Rattle.edition_signing.specs.Made.{answers_of, signed, of_drafts, of_manifests}
+use Rattle.issue_keys.specs.declared.fault.MakeFault.{MakeFault}
+use Rattle.issue_keys.specs.declared.fault.MakeFault.TheVariants.{SignerFault, KeyClash, Memory}
+use Rattle.issue_keys.specs.Keys.{id_of, AreBegun, AreFresh}
+use Rattle.issue_keys.specs.Making.{making, AreApart, AreMade, IsKeyStop}
+use Rattle.issue_drafts.specs.Finding.{Keys}
+use Rattle.issue_drafts.specs.Certificates.{IssueInput}
+use Rattle.issue_drafts.specs.Views.{draft_of, manifest_of}
+use Rattle.issue_sign.specs.Objects.{Entries, Signed}
+use Rattle.issue_sign.specs.SignInput.{SignInput}
+use Rattle.issue_sign.specs.Made.{answers_of, signed, of_drafts, of_manifests}
 use Rattle.issue_make.specs.Made.{IsSigning, IsBegun, IsStop}
-use Rattle.issue_make.specs.Signing.{basis_of, AreSigned, IsSigningStop}
-use Rattle.issue_make.specs.declared.plans.Plan.{Plan}
+use Rattle.issue_make.specs.inner.Signing.{basis_of, AreSigned, IsSigningStop}
+use Rattle.issue_make.specs.declared.plans.ObjectPlan.{ObjectPlan}
 use Rattle.issue_make.specs.declared.objects.Objects.{Objects}
 use Rattle.issue_make.proofs.Stops.{drafts-sign, manifests-sign, calls-on}
 
@@ -28,7 +28,7 @@ use Rattle.issue_make.proofs.Stops.{drafts-sign, manifests-sign, calls-on}
 begun : (new_keys : List NewKey) (fresh : List KeyRow) → AreFresh new_keys fresh → AreBegun new_keys fresh
 begun new_keys fresh are = record { news = are.news; keys = are.keys; by_desk = are.by_desk; rows = are.rows }
 
-only-keys : (s : Setting) (live fresh : List KeyRow) → AreBegun s.work.new_keys fresh → AreApart (map id_of live) fresh
+only-keys : (s : IssueInput) (live fresh : List KeyRow) → AreBegun s.work.new_keys fresh → AreApart (map id_of live) fresh
     → IsBegun s live (map making fresh)
 only-keys s live fresh keys apart = record {
   fresh = fresh;
@@ -40,7 +40,7 @@ only-keys s live fresh keys apart = record {
   after = inl refl;
 }
 
-behind-keys : (s : Setting) (live fresh : List KeyRow) (signing : List Call) → AreFresh s.work.new_keys fresh
+behind-keys : (s : IssueInput) (live fresh : List KeyRow) (signing : List Call) → AreFresh s.work.new_keys fresh
     → AreApart (map id_of live) fresh → All IsSigning signing → IsBegun s live (map making fresh ++ signing)
 behind-keys s live fresh signing are apart signs = record {
   fresh = fresh;
@@ -54,7 +54,7 @@ behind-keys s live fresh signing are apart signs = record {
 
 -- ---- while keys are made, and behind it
 
-pub stop-keys : (s : Setting) (live : List KeyRow) (old new : List SignerState) (fault : MakeFault)
+pub stop-keys : (s : IssueInput) (live : List KeyRow) (old new : List SignerState) (fault : MakeFault)
     → IsKeyStop s.work.new_keys live old new fault → IsStop s live old new fault
 stop-keys s live old new (SignerFault n) stop = record {
   calls = map making stop.made;
@@ -64,14 +64,14 @@ stop-keys s live old new (SignerFault n) stop = record {
 stop-keys s live old new (KeyClash id) stop = stop
 stop-keys s live old new Memory stop = inl stop
 
-pub stop-short : (s : Setting) (live : List KeyRow) (old new : List SignerState) (fresh : List KeyRow)
+pub stop-short : (s : IssueInput) (live : List KeyRow) (old new : List SignerState) (fresh : List KeyRow)
     → AreMade s.work.new_keys live old new fresh → IsStop s live old new Memory
 stop-short s live old new fresh made =
     inr (map making fresh, only-keys s live fresh (begun s.work.new_keys fresh made.keys) made.apart, made.signers)
 
 -- ---- while objects are signed, and behind it
 
-pub stop-signing : (s : Setting) (live : List KeyRow) (old between new : List SignerState) (fresh : List KeyRow) (fault : MakeFault)
+pub stop-signing : (s : IssueInput) (live : List KeyRow) (old between new : List SignerState) (fresh : List KeyRow) (fault : MakeFault)
     → AreMade s.work.new_keys live old between fresh → IsSigningStop between new fault → IsStop s live old new fault
 stop-signing s live old between new fresh (SignerFault n) made stop = record {
   calls = map making fresh ++ stop.0;
@@ -87,12 +87,12 @@ stop-signing s live old between new fresh Memory made stop = inr (
 )
 
 -- Behind all calls.
-pub stop-signed : (s : Setting) (live : List KeyRow) (old between new : List SignerState) (fresh : List KeyRow)
-    (keys : Keys) (rows : List KeyRow) (entries : Entries) (plan : Plan) (objects : Objects)
+pub stop-signed : (s : IssueInput) (live : List KeyRow) (old between new : List SignerState) (fresh : List KeyRow)
+    (keys : Keys) (rows : List KeyRow) (entries : Entries) (plan : ObjectPlan) (objects : Objects)
     → AreMade s.work.new_keys live old between fresh → AreSigned s keys rows entries plan between new objects
     → IsStop s live old new Memory
 stop-signed s live old between new fresh keys rows entries plan objects made are =
-    let basis : Basis = basis_of s keys rows entries are.files in
+    let basis : SignInput = basis_of s keys rows entries are.files in
     let drafted : List Signed = signed (map draft_of plan.drafts.items) (map answers_of objects.drafted.items) in
     let listed : List Signed = signed (map manifest_of plan.manifests.items) (map answers_of objects.listed.items) in
     let first : List Call = (of_drafts s basis).calls drafted in

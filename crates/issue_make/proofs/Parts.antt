@@ -10,9 +10,9 @@ use Rattle.authority_book.specs.declared.rows.NameRow.{NameRow}
 use Rattle.key_roll.specs.declared.rows.KeyRow.{KeyRow}
 use Rattle.key_roll.specs.declared.work.KeyName.{KeyName}
 use Rattle.key_roll.specs.declared.work.KeyName.TheVariants.{Live, Fresh}
-use Rattle.edition_keys.specs.Keys.{id_of}
-use Rattle.edition_publishers.specs.Finding.{Keys, all_keys, key_named}
-use Rattle.edition_publishers.specs.Certificates.{name_at}
+use Rattle.issue_keys.specs.Keys.{id_of}
+use Rattle.issue_drafts.specs.Finding.{Keys, all_keys, key_named}
+use Rattle.issue_drafts.specs.Certificates.{name_at}
 
 pub at-place : {X : Type 0} (P : X → Type 0) (xs : List X) (k : ℕ) (x : X) → slice_get xs k ≡ Some x → All P xs → P x
 at-place P xs k x at all = subst P (get_or_from_slice_get xs k x x at) (all k x (slice_get_within xs k x at))

@@ -8,13 +8,13 @@ use Rattle.std.proofs.lemmas.List.{get_or_append_left, get_or-append-add, length
 use Rattle.std.proofs.lemmas.List.Sorted.{sum_by-IsPermutation}
 use Rattle.pub_set.specs.Objects.{uri_cmp, Rise}
 use Rattle.key_roll.specs.declared.rows.KeyRow.{KeyRow}
-use Rattle.edition_drafts.specs.Drafts.{Draft, has_serial, is_numbered, serial_behind}
-use Rattle.edition_drafts.specs.Serials.{given_serial}
-use Rattle.edition_drafts.specs.Views.{draft_of, manifest_of}
-use Rattle.edition_drafts.specs.declared.draft.Draft as code
-use Rattle.edition_drafts.specs.declared.draft.ManifestDraft as manifests
-use Rattle.edition_publishers.specs.Certificates.{Setting}
-use Rattle.point_lists.specs.Touching.{AreTouched}
+use Rattle.issue_drafts.specs.Drafts.{Draft, has_serial, is_numbered, serial_behind}
+use Rattle.issue_drafts.specs.Serials.{given_serial}
+use Rattle.issue_drafts.specs.Views.{draft_of, manifest_of}
+use Rattle.issue_drafts.specs.declared.draft.Draft as code
+use Rattle.issue_drafts.specs.declared.draft.ManifestDraft as manifests
+use Rattle.issue_drafts.specs.Certificates.{IssueInput}
+use Rattle.issue_drafts.specs.Touching.{AreTouched}
 
 pub front-pairs : {X : Type 0} (R : X → X → Type 0) (xs ys : List X) → AllPairs R (xs ++ ys) → AllPairs R xs
 front-pairs {X} R xs ys pairs i j d low high =
@@ -61,7 +61,7 @@ map-agree {X} {Y} f g (x ∷ xs) same = both (same x) (map-agree f g xs same)
 
 -- ---- the parts of a plan, of lists that are looked at as slices
 
-pub touched-by : (s : Setting) (touched : List (List ℕ)) (ds seen : List code.Draft) (ms listed : List manifests.ManifestDraft)
+pub touched-by : (s : IssueInput) (touched : List (List ℕ)) (ds seen : List code.Draft) (ms listed : List manifests.ManifestDraft)
     → seen ≡ ds → listed ≡ ms
     → ((puts : List Draft) → IsPermutation (map draft_of seen ++ map manifest_of listed) puts → AreTouched s puts touched)
     → (puts : List Draft) → IsPermutation (map draft_of ds ++ map manifest_of ms) puts → AreTouched s puts touched

@@ -8,7 +8,7 @@ use Rattle.std.proofs.lemmas.List.Elements.{All-append}
 use Rattle.std.proofs.lemmas.List.Sorted.{All-permutation}
 use Rattle.std.proofs.lemmas.Option.{slice_get_within, get_or_from_slice_get}
 use Rattle.cert_obj.specs.Values.{is_uri}
-use Rattle.key_ids.specs.Places.{anchor_uri, cert_uri, crl_uri}
+use Rattle.key_ids.specs.Uris.{anchor_uri, cert_uri, crl_uri}
 use Rattle.authority_book.specs.declared.rows.NameRow.{NameRow}
 use Rattle.key_roll.specs.declared.rows.KeyRow.{KeyRow}
 use Rattle.key_roll.specs.declared.work.CertWork.{CertWork}
@@ -16,40 +16,40 @@ use Rattle.key_roll.specs.declared.work.RoaWork.{RoaWork}
 use Rattle.key_roll.specs.declared.work.PointWork.{PointWork}
 use Rattle.issue_values.specs.Publishing.{Publishing, publishing, roa_uri}
 use Rattle.issue_values.specs.declared.publishers.Publisher.{Publisher}
-use Rattle.edition_keys.specs.Keys.{id_of}
-use Rattle.edition_publishers.specs.Finding.{Keys, keys_at, all_keys, key_named}
-use Rattle.edition_publishers.specs.Certificates.{Setting, publishing_of, certificate_of, made_for, standing_for, issuer_for, first_of, is_key, name_at, made_uri, names_key}
-use Rattle.edition_drafts.specs.Drafts as words
-use Rattle.edition_drafts.specs.Drafts.{Kind, certificate_draft, roa_draft, crl_draft}
-use Rattle.edition_drafts.specs.Drafts.Kind.{Certificate, Roa, Crl, Manifest}
-use Rattle.edition_drafts.specs.Views.{draft_of, manifest_of, kind_of, IsPlaced, IsSubjectPlaced}
-use Rattle.edition_drafts.specs.declared.draft.KeyAt.{KeyAt}
-use Rattle.edition_drafts.specs.declared.draft.Draft as code
-use Rattle.edition_drafts.specs.declared.draft.ManifestDraft as manifests
-use Rattle.edition_drafts.specs.declared.draft.DraftKind.{DraftKind}
-use Rattle.edition_drafts.specs.declared.draft.DraftKind.TheVariants as variants
-use Rattle.issue_make.specs.Naming.{CanName}
+use Rattle.issue_keys.specs.Keys.{id_of}
+use Rattle.issue_drafts.specs.Finding.{Keys, keys_at, all_keys, key_named}
+use Rattle.issue_drafts.specs.Certificates.{IssueInput, publishing_of, certificate_of, made_for, standing_for, issuer_for, first_of, is_key, name_at, made_uri, names_key}
+use Rattle.issue_drafts.specs.Drafts as words
+use Rattle.issue_drafts.specs.Drafts.{Kind, certificate_draft, roa_draft, crl_draft}
+use Rattle.issue_drafts.specs.Drafts.Kind.{Certificate, Roa, Crl, Manifest}
+use Rattle.issue_drafts.specs.Views.{draft_of, manifest_of, kind_of, IsPlaced, IsSubjectPlaced}
+use Rattle.issue_drafts.specs.declared.draft.KeyAt.{KeyAt}
+use Rattle.issue_drafts.specs.declared.draft.Draft as code
+use Rattle.issue_drafts.specs.declared.draft.ManifestDraft as manifests
+use Rattle.issue_drafts.specs.declared.draft.DraftKind.{DraftKind}
+use Rattle.issue_drafts.specs.declared.draft.DraftKind.TheVariants as variants
+use Rattle.issue_make.specs.inner.Naming.{CanName}
 use Rattle.issue_make.specs.Plans.{puts}
 use Rattle.issue_make.specs.Work.{IsCertified}
-use Rattle.issue_make.specs.Ready.{IsReady}
-use Rattle.issue_make.specs.Signing.{CanIssueIn, CanBe, CanBeSigned}
-use Rattle.issue_make.specs.declared.plans.Plan.{Plan}
+use Rattle.issue_make.specs.inner.Ready.{IsReady}
+use Rattle.issue_make.specs.inner.Signing.{CanIssueIn, CanBe, CanBeSigned}
+use Rattle.issue_make.specs.declared.plans.ObjectPlan.{ObjectPlan}
 use Rattle.issue_make.proofs.Parts.{at-place, all-of-map, all-front, all-back, all-filter-map, named-holds, name-holds}
-use Rattle.issue_make.proofs.Premises.{keys-are, names-of, signers-of, numbers-of}
+use Rattle.issue_make.proofs.Conditions.{keys-are, names-of, signers-of, numbers-of}
 use Rattle.issue_make.proofs.Listable.{listable-of}
 
 -- ---- URIs that certificates can name
 
-abbrev CanNameAll : Setting → Type 0
+abbrev CanNameAll : IssueInput → Type 0
 CanNameAll s = All (λ (row : NameRow). CanName s.site row.name) s.names
 
-abbrev HaveNames : Setting → Keys → Type 0
+abbrev HaveNames : IssueInput → Keys → Type 0
 HaveNames s keys = All (λ (row : KeyRow). row.desk < length s.names) (all_keys keys)
 
-can-name : (s : Setting) (desk : ℕ) → CanNameAll s → desk < length s.names → CanName s.site (name_at s.names desk)
+can-name : (s : IssueInput) (desk : ℕ) → CanNameAll s → desk < length s.names → CanName s.site (name_at s.names desk)
 can-name s desk named low = name-holds (CanName s.site) s.names desk low named
 
-made-can : (s : Setting) (issuer subject : KeyRow) → CanNameAll s → issuer.desk < length s.names
+made-can : (s : IssueInput) (issuer subject : KeyRow) → CanNameAll s → issuer.desk < length s.names
     → is_uri (made_uri s.site s.names issuer subject) ≡ true
 made-can s issuer subject named low = by (is_key issuer subject)
   where
@@ -68,7 +68,7 @@ issuer-holds P keys certs row issuer e all = by (find (λ (cert : CertWork). nam
     by None e = absurd cc
     by (Some cert) e = named-holds P keys cert.issuer issuer e all
 
-made-for-can : (s : Setting) (keys : Keys) (row : KeyRow) (uri : List ℕ) → CanNameAll s → HaveNames s keys
+made-for-can : (s : IssueInput) (keys : Keys) (row : KeyRow) (uri : List ℕ) → CanNameAll s → HaveNames s keys
     → made_for s keys row ≡ Some uri → is_uri uri ≡ true
 made-for-can s keys row uri named have e = by (issuer_for keys s.work.certs row) refl e
   where
@@ -81,7 +81,7 @@ made-for-can s keys row uri named have e = by (issuer_for keys s.work.certs row)
         (made-can s issuer row named
         (issuer-holds (λ (r : KeyRow). r.desk < length s.names) keys s.work.certs row issuer f have))
 
-certificate-can : (s : Setting) (keys : Keys) (row : KeyRow) → CanNameAll s → HaveNames s keys → row.desk < length s.names
+certificate-can : (s : IssueInput) (keys : Keys) (row : KeyRow) → CanNameAll s → HaveNames s keys → row.desk < length s.names
     → IsCertified s keys row → is_uri (certificate_of s keys row) ≡ true
 certificate-can s keys row named have low certified = by (eqb row.desk 0) refl
   where
@@ -102,11 +102,11 @@ certificate-can s keys row named have low certified = by (eqb row.desk 0) refl
 
 -- ---- keys at their places
 
-many : (s : Setting) (keys : Keys) (rows : List KeyRow) (ps : List Publisher) → map publishing ps ≡ map (publishing_of s keys) rows
+many : (s : IssueInput) (keys : Keys) (rows : List KeyRow) (ps : List Publisher) → map publishing ps ≡ map (publishing_of s keys) rows
     → length ps ≡ length rows
 many s keys rows ps e = sym (length-map ps publishing) ∙ (ap length e ∙ length-map rows (publishing_of s keys))
 
-certificate-at : (s : Setting) (keys : Keys) (rows : List KeyRow) (ps : List Publisher) (k : ℕ) (row : KeyRow)
+certificate-at : (s : IssueInput) (keys : Keys) (rows : List KeyRow) (ps : List Publisher) (k : ℕ) (row : KeyRow)
     → map publishing ps ≡ map (publishing_of s keys) rows → slice_get rows k ≡ Some row
     → is_uri (certificate_of s keys row) ≡ true → HoldsAt (λ p. is_uri p.certificate ≡ true) ps k
 certificate-at s keys rows ps k row e at uri d =
@@ -123,7 +123,7 @@ certificate-at s keys rows ps k row e at uri d =
 
 -- ---- what a plan over ready keys has
 
-module _ (s : Setting) (live rows : List KeyRow) (n signers : ℕ) (plan : Plan) (is : IsReady s live rows n signers plan) where
+module _ (s : IssueInput) (live rows : List KeyRow) (n signers : ℕ) (plan : ObjectPlan) (is : IsReady s live rows n signers plan) where
   have-names : HaveNames s (keys_at rows n)
   have-names =
       subst (All (λ (row : KeyRow). row.desk < length s.names)) (sym (take-append-drop n rows))
@@ -175,7 +175,7 @@ NamesRoa Manifest uri = Unit {0}
 abbrev IsNamed : words.Draft → Type 0
 IsNamed d = NamesRoa d.kind d.uri
 
-certificate-named : (s : Setting) (keys : Keys) (cert : CertWork) → IfSome (certificate_draft s keys cert) IsNamed
+certificate-named : (s : IssueInput) (keys : Keys) (cert : CertWork) → IfSome (certificate_draft s keys cert) IsNamed
 certificate-named s keys cert = by (key_named keys cert.issuer) (key_named keys cert.subject)
   where
     by : (o p : Option KeyRow) → IfSome (option_and_then (λ (issuer : KeyRow). option_map (λ (subject : KeyRow). record {
@@ -187,7 +187,7 @@ certificate-named s keys cert = by (key_named keys cert.issuer) (key_named keys 
     by (Some issuer) None = tt
     by (Some issuer) (Some subject) = tt
 
-roa-named : (s : Setting) (keys : Keys) (roa : RoaWork) → CanNameAll s → HaveNames s keys → IfSome (roa_draft s keys roa) IsNamed
+roa-named : (s : IssueInput) (keys : Keys) (roa : RoaWork) → CanNameAll s → HaveNames s keys → IfSome (roa_draft s keys roa) IsNamed
 roa-named s keys roa named have = by (key_named keys roa.issuer) refl
   where
     by : (o : Option KeyRow) → key_named keys roa.issuer ≡ o → IfSome (option_map (λ (issuer : KeyRow). record {
@@ -200,7 +200,7 @@ roa-named s keys roa named have = by (key_named keys roa.issuer) refl
         (can-name s issuer.desk named
         (named-holds (λ (r : KeyRow). r.desk < length s.names) keys roa.issuer issuer e have)).roa roa.origin
 
-crl-named : (s : Setting) (keys : Keys) (point : PointWork) → IfSome (crl_draft s keys point) IsNamed
+crl-named : (s : IssueInput) (keys : Keys) (point : PointWork) → IfSome (crl_draft s keys point) IsNamed
 crl-named s keys point = by (key_named keys point.key)
   where
     by : (o : Option KeyRow) → IfSome (option_map (λ (issuer : KeyRow). record {
@@ -211,7 +211,7 @@ crl-named s keys point = by (key_named keys point.key)
     by None = tt
     by (Some issuer) = tt
 
-all-named : (s : Setting) (keys : Keys) → CanNameAll s → HaveNames s keys → All IsNamed (words.drafts s keys)
+all-named : (s : IssueInput) (keys : Keys) → CanNameAll s → HaveNames s keys → All IsNamed (words.drafts s keys)
 all-named s keys named have =
     let certs = filter_map (certificate_draft s keys) s.work.certs in
     let roas = filter_map (roa_draft s keys) s.work.roas in
@@ -223,7 +223,7 @@ all-named s keys named have =
     (all-filter-map IsNamed (crl_draft s keys) s.work.points (crl-named s keys))
 
 -- An object can be made for what is placed and named.
-kind-can : (rows : List KeyRow) (plan : Plan) (issuer : KeyAt) (uri : List ℕ) (kind : DraftKind)
+kind-can : (rows : List KeyRow) (plan : ObjectPlan) (issuer : KeyAt) (uri : List ℕ) (kind : DraftKind)
     → length plan.publishers.items ≡ length rows → length plan.revoked.items ≡ length rows → IsPlaced rows issuer
     → IsSubjectPlaced rows kind → NamesRoa (kind_of kind) uri → CanBe plan issuer uri kind
 kind-can rows plan issuer uri (variants.Authority subject held) long short at placed named =
@@ -232,7 +232,7 @@ kind-can rows plan issuer uri (variants.Route origin) long short at placed named
 kind-can rows plan issuer uri variants.Crl long short at placed named =
     let inside : issuer.place < length rows = slice_get_within rows issuer.place issuer.row.now at in omega arith
 
-pub can-be-signed : (s : Setting) (live rows : List KeyRow) (n signers : ℕ) (plan : Plan) → IsReady s live rows n signers plan
+pub can-be-signed : (s : IssueInput) (live rows : List KeyRow) (n signers : ℕ) (plan : ObjectPlan) → IsReady s live rows n signers plan
     → CanBeSigned s plan signers
 can-be-signed s live rows n signers plan is =
     let keys = keys_at rows n in

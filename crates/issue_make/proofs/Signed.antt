@@ -6,37 +6,37 @@ use Rattle.issue_values.specs.Publishing.{publishing}
 use Rattle.payloads.specs.declared.values.ListedFile.{ListedFile}
 use Rattle.payloads.specs.ManifestFormats.{file_view}
 use Rattle.key_roll.specs.declared.rows.KeyRow.{KeyRow}
-use Rattle.edition_publishers.specs.Finding.{Keys}
-use Rattle.edition_publishers.specs.Certificates.{Setting, setting_of}
-use Rattle.edition_drafts.specs.Drafts as words
-use Rattle.edition_drafts.specs.Views.{draft_of, IsPlaced, IsSubjectPlaced}
-use Rattle.edition_drafts.specs.Serials.{given_serial}
-use Rattle.edition_drafts.specs.declared.draft.Draft as code
-use Rattle.edition_drafts.specs.declared.draft.ManifestDraft as manifests
-use Rattle.point_lists.specs.Tables.{IsTable}
-use Rattle.edition_signing.specs.Objects.{Entries, Files}
+use Rattle.issue_drafts.specs.Finding.{Keys}
+use Rattle.issue_drafts.specs.Certificates.{IssueInput, input_of}
+use Rattle.issue_drafts.specs.Drafts as words
+use Rattle.issue_drafts.specs.Views.{draft_of, IsPlaced, IsSubjectPlaced}
+use Rattle.issue_drafts.specs.Serials.{given_serial}
+use Rattle.issue_drafts.specs.declared.draft.Draft as code
+use Rattle.issue_drafts.specs.declared.draft.ManifestDraft as manifests
+use Rattle.issue_drafts.specs.Tables.{IsTable}
+use Rattle.issue_sign.specs.Objects.{Entries, Files}
 use Rattle.signer_api.specs.State.{SignerState}
-use Rattle.point_lists.specs.Files.{AreMerged, kept_files, made_files}
-use Rattle.edition_signing.specs.Objects.{Signed}
-use Rattle.edition_signing.specs.Basis.{Basis, IsBasis, AreDrafts, AreManifests}
-use Rattle.edition_signing.specs.Made.{Way, AreMade}
-use Rattle.edition_signing.specs.declared.object.Object.{Object}
-use Rattle.edition_signing.specs.declared.edition.Edition.{Edition}
-use Rattle.issue_make.specs.Plans.{IsPlan}
-use Rattle.issue_make.specs.Signing.{basis_of}
-use Rattle.issue_make.specs.declared.plans.Plan.{Plan}
+use Rattle.issue_drafts.specs.Files.{AreMerged, kept_files, made_files}
+use Rattle.issue_sign.specs.Objects.{Signed}
+use Rattle.issue_sign.specs.SignInput.{SignInput, IsSignInput, AreDrafts, AreManifests}
+use Rattle.issue_sign.specs.Made.{Way, AreMade}
+use Rattle.issue_sign.specs.declared.object.Object.{Object}
+use Rattle.issue_sign.specs.declared.edition.Edition.{Edition}
+use Rattle.issue_make.specs.Plans.{IsObjectPlan}
+use Rattle.issue_make.specs.inner.Signing.{basis_of}
+use Rattle.issue_make.specs.declared.plans.ObjectPlan.{ObjectPlan}
 use Rattle.issue_make.proofs.Parts.{all-of-map}
 
-pub is-basis : (edition : Edition) (keys : Keys) (rows : List KeyRow) (entries : Entries) (files : Files) (plan : Plan)
+pub is-basis : (edition : Edition) (keys : Keys) (rows : List KeyRow) (entries : Entries) (files : Files) (plan : ObjectPlan)
     → edition.publishers.now ≡ plan.publishers.items → edition.revoked.now ≡ plan.revoked.items
-    → IsPlan (setting_of edition.setting.now) keys rows plan → plan.revoked.items ≡ map entries rows
-    → IsBasis edition (basis_of (setting_of edition.setting.now) keys rows entries files)
+    → IsObjectPlan (input_of edition.input.now) keys rows plan → plan.revoked.items ≡ map entries rows
+    → IsSignInput edition (basis_of (input_of edition.input.now) keys rows entries files)
 is-basis edition keys rows entries files plan published revoked p is =
     record { publishers = ap (map publishing) published ∙ p.publishers; entries = revoked ∙ is }
 
-pub are-drafts : (s : Setting) (keys : Keys) (rows : List KeyRow) (entries : Entries) (files : Files) (plan : Plan)
+pub are-drafts : (s : IssueInput) (keys : Keys) (rows : List KeyRow) (entries : Entries) (files : Files) (plan : ObjectPlan)
     (ds : List code.Draft) (given : List ℕ)
-    → ds ≡ plan.drafts.items → given ≡ plan.serials.given.items → IsPlan s keys rows plan
+    → ds ≡ plan.drafts.items → given ≡ plan.serials.given.items → IsObjectPlan s keys rows plan
     → AreDrafts (basis_of s keys rows entries files) ds given
 are-drafts s keys rows entries files plan ds given e f p = record {
   issuers = subst (λ (l : List code.Draft). All (λ d. IsPlaced rows d.issuer) l) (sym e) p.issuers;
@@ -48,9 +48,9 @@ twice : (files : Files) (ms : List manifests.ManifestDraft) → map files (map (
 twice files [] = refl
 twice files (m ∷ ms) = ap (λ (l : List (List (List ℕ × List ℕ))). files m.issuer.row.now ∷ l) (twice files ms)
 
-pub are-manifests : (s : Setting) (keys : Keys) (rows : List KeyRow) (entries : Entries) (plan : Plan)
+pub are-manifests : (s : IssueInput) (keys : Keys) (rows : List KeyRow) (entries : Entries) (plan : ObjectPlan)
     (R : KeyRow → List (List ℕ × List ℕ) → Type 0) (ms listed : List manifests.ManifestDraft) (next : List ℕ) (lists : List (List ListedFile))
-    → ms ≡ plan.manifests.items → listed ≡ plan.manifests.items → next ≡ plan.serials.next.items → IsPlan s keys rows plan
+    → ms ≡ plan.manifests.items → listed ≡ plan.manifests.items → next ≡ plan.serials.next.items → IsObjectPlan s keys rows plan
     → (table : IsTable R (map (λ m. m.issuer.row.now) listed) (map (map file_view) lists))
     → AreManifests (basis_of s keys rows entries table.of) ms next lists
 are-manifests s keys rows entries plan R ms listed next lists e h f p table = record {
@@ -70,7 +70,7 @@ as-many files ms lists is =
     omega arith
 
 -- As many objects as drafts.
-pub as-many-made : (s : Setting) (b : Basis) (way : Way) (drafts : List words.Draft) (old new : List SignerState)
+pub as-many-made : (s : IssueInput) (b : SignInput) (way : Way) (drafts : List words.Draft) (old new : List SignerState)
     (objects : List Object) (made : List Signed) → AreMade s b way drafts old new objects made → length objects ≡ length drafts
 as-many-made s b way drafts old new objects made are =
     let one : length (map (λ (o : Object). o.bytes) objects) ≡ length objects = length-map objects (λ (o : Object). o.bytes) in
@@ -81,7 +81,7 @@ as-many-made s b way drafts old new objects made are =
     omega arith
 
 -- The files of manifests, from a table of them.
-pub lists-of : (s : Setting) (all : List words.Draft) (ds seen : List code.Draft) (ms listed : List manifests.ManifestDraft)
+pub lists-of : (s : IssueInput) (all : List words.Draft) (ds seen : List code.Draft) (ms listed : List manifests.ManifestDraft)
     (hashes told : List (List ℕ)) (lists : List (List (List ℕ × List ℕ)))
     → seen ≡ ds → listed ≡ ms → told ≡ hashes
     → (table : IsTable (λ key list. AreMerged (kept_files s all key) (made_files s key (zip (map draft_of seen) told)) list)

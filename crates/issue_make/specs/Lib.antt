@@ -1,8 +1,5 @@
-pub mod Naming
-pub mod Plans
-pub mod Signing
-pub mod Outcomes
-pub mod Work
-pub mod Ready
-pub mod Finished
 pub mod Made
+pub mod Outcome
+pub mod Plans
+pub mod Work
+pub mod inner

@@ -3,26 +3,26 @@ use Rattle.std.specs.Prelude.{◌≡◌, ◌≢◌, ◌<◌, ◌≤◌, ◌^◌,
 use Rattle.issue_values.specs.Publishing.{publishing}
 use Rattle.issue_values.specs.Bodies.{AreRevoked}
 use Rattle.key_roll.specs.declared.rows.KeyRow.{KeyRow}
-use Rattle.edition_keys.specs.Keys.{id_of}
-use Rattle.edition_publishers.specs.Finding.{Keys, Finds}
-use Rattle.edition_publishers.specs.Certificates.{Setting, publishing_of}
-use Rattle.edition_publishers.specs.declared.finder.KeyFinder.{KeyFinder}
-use Rattle.edition_drafts.specs.Drafts.{Draft, AreOrdered, serial_behind}
-use Rattle.edition_drafts.specs.Drafts as words
-use Rattle.edition_drafts.specs.Views.{draft_of, manifest_of, IsPlaced, IsSubjectPlaced}
-use Rattle.edition_drafts.specs.Serials.{given_serial}
-use Rattle.revoked_entries.specs.Firsts.{AreFirsts}
-use Rattle.point_lists.specs.Revoking.{has_point, candidates}
-use Rattle.point_lists.specs.Touching.{AreTouched}
-use Rattle.point_lists.specs.Tables.{IsTable}
-use Rattle.issue_make.specs.declared.plans.Plan.{Plan}
+use Rattle.issue_keys.specs.Keys.{id_of}
+use Rattle.issue_drafts.specs.Finding.{Keys, Finds}
+use Rattle.issue_drafts.specs.Certificates.{IssueInput, publishing_of}
+use Rattle.issue_drafts.specs.declared.finder.KeyFinder.{KeyFinder}
+use Rattle.issue_drafts.specs.Drafts.{Draft, AreOrdered, serial_behind}
+use Rattle.issue_drafts.specs.Drafts as words
+use Rattle.issue_drafts.specs.Views.{draft_of, manifest_of, IsPlaced, IsSubjectPlaced}
+use Rattle.issue_drafts.specs.Serials.{given_serial}
+use Rattle.issue_drafts.specs.Firsts.{AreFirsts}
+use Rattle.issue_drafts.specs.Revoking.{has_point, candidates}
+use Rattle.issue_drafts.specs.Touching.{AreTouched}
+use Rattle.issue_drafts.specs.Tables.{IsTable}
+use Rattle.issue_make.specs.declared.plans.ObjectPlan.{ObjectPlan}
 
 -- All that is put.
-abbrev pub puts : Setting → Keys → List Draft
+abbrev pub puts : IssueInput → Keys → List Draft
 puts s keys = words.drafts s keys ++ words.manifests s keys
 
 -- What the planning asks of the rows of the edition's keys.
-pub record CanPlan (s : Setting) (keys : Keys) (rows : List KeyRow) (finder : KeyFinder)
+pub record CanPlanObjects (s : IssueInput) (keys : Keys) (rows : List KeyRow) (finder : KeyFinder)
     : Type 0 where
   pub names : All (λ row. row.desk < length s.names) rows
   pub finds : Finds keys finder
@@ -33,7 +33,8 @@ pub record CanPlan (s : Setting) (keys : Keys) (rows : List KeyRow) (finder : Ke
   pub revoked : All (λ row. AreRevoked s.work.moment row.revoked) rows
 
 -- It is the plan of that work over those rows.
-pub record IsPlan (s : Setting) (keys : Keys) (rows : List KeyRow) (plan : Plan) : Type 0 where
+pub record IsObjectPlan (s : IssueInput) (keys : Keys) (rows : List KeyRow) (plan : ObjectPlan)
+    : Type 0 where
   pub publishers : map publishing plan.publishers.items ≡ map (publishing_of s keys) rows
   pub drafts : AreOrdered (words.drafts s keys) (map draft_of plan.drafts.items)
   pub issuers : All (λ d. IsPlaced rows d.issuer) plan.drafts.items

@@ -3,7 +3,7 @@ use Rattle.std.specs.Prelude.{◌≡◌, ◌≢◌, ◌<◌, ◌^◌, ℕ, true,
 use Rattle.std.specs.Prelude.{AllPairs, ◌⊎◌, IsSome, IfSome}
 use Rattle.pub_set.specs.Objects.{found_at, Rise}
 use Rattle.cert_obj.specs.Values.{is_uri}
-use Rattle.key_ids.specs.Places.{Bases}
+use Rattle.key_ids.specs.Uris.{Bases}
 use Rattle.authority_book.specs.declared.rows.NameRow.{NameRow}
 use Rattle.key_roll.specs.declared.rows.KeyRow.{KeyRow}
 use Rattle.key_roll.specs.declared.issued.Issued.{Issued}
@@ -11,16 +11,16 @@ use Rattle.key_roll.specs.declared.work.Work.{Work}
 use Rattle.key_roll.specs.declared.work.KeyName.{KeyName}
 use Rattle.issue_values.specs.Certificates.{IsEditionMoment}
 use Rattle.issue_values.specs.Bodies.{AreRevoked}
-use Rattle.edition_keys.specs.Keys.{id_of, kept_rows}
-use Rattle.edition_publishers.specs.Finding.{Keys, key_named}
-use Rattle.edition_publishers.specs.Certificates.{Setting, made_for, standing_for}
-use Rattle.edition_drafts.specs.Drafts.{manifests}
-use Rattle.point_lists.specs.Files.{is_kept, folder_at, IsListable}
-use Rattle.edition_outcome.specs.Outcome.{AreKeys}
+use Rattle.issue_keys.specs.Keys.{id_of, kept_rows}
+use Rattle.issue_drafts.specs.Finding.{Keys, key_named}
+use Rattle.issue_drafts.specs.Certificates.{IssueInput, made_for, standing_for}
+use Rattle.issue_drafts.specs.Drafts.{manifests}
+use Rattle.issue_drafts.specs.Files.{is_kept, folder_at, IsListable}
+use Rattle.issue_make.specs.Outcome.{AreKeys}
 use Rattle.issue_make.specs.Plans.{puts}
 
-abbrev pub setting_of : Work → List NameRow → Issued → Bases → Setting
-setting_of work names issued site =
+abbrev pub input_of : Work → List NameRow → Issued → Bases → IssueInput
+input_of work names issued site =
     record { work = work; names = names; issued = issued.rows; site = site }
 
 -- The key is there.
@@ -29,20 +29,20 @@ IsThere keys name = IsSome (key_named keys name)
 
 -- The trust anchor's key, or one whose certificate is made or stands, at a URI that a certificate
 -- can name.
-abbrev pub IsCertified : Setting → Keys → KeyRow → Type 0
+abbrev pub IsCertified : IssueInput → Keys → KeyRow → Type 0
 IsCertified s keys row =
     row.desk ≢ 0 → IsSome (made_for s keys row)
     ⊎ (IsSome (standing_for s.issued row)
     × IfSome (standing_for s.issued row) (λ uri. is_uri uri ≡ true))
 
 -- What a key has that stands and stays can be listed.
-abbrev pub AreListable : Setting → Keys → KeyRow → Type 0
+abbrev pub AreListable : IssueInput → Keys → KeyRow → Type 0
 AreListable s keys key =
     All (λ row. is_kept s (puts s keys) key row ≡ true
     → IsListable (folder_at s key) row.uri) s.issued
 
 -- What holds of the work, whichever keys are made for it.
-pub record Fits (s : Setting) (keys : Keys) : Type 0 where
+pub record Fits (s : IssueInput) (keys : Keys) : Type 0 where
   -- each key that the work names is there
   pub subjects : All (λ cert. IsThere keys cert.subject) s.work.certs
   pub issuers : All (λ cert. IsThere keys cert.issuer) s.work.certs
@@ -55,7 +55,7 @@ pub record Fits (s : Setting) (keys : Keys) : Type 0 where
   -- each kept file of a key whose point is made can be listed
   pub kept : All (λ d. AreListable s keys d.issuer) (manifests s keys)
 
-pub record IsWork (s : Setting) (rows : List KeyRow) (signers : ℕ) : Type 0 where
+pub record CanMake (s : IssueInput) (rows : List KeyRow) (signers : ℕ) : Type 0 where
   pub moment : IsEditionMoment s.work.moment
   -- signers that are there
   pub new_signers : All (λ new. new.signer < signers) s.work.new_keys

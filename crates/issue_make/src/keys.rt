@@ -1,11 +1,11 @@
-//! The keys of an edition.
+//! The keys of an edition (RFC 6489 section 2).
 
 ghost use Rattle.std.specs.Prelude.{◌≡◌, ◌<◌, ◌≤◌, length, take, drop, All, IfOk, IfErr};
 ghost use Rattle.signer_ring.specs.Ring.{Keeps};
-ghost use Rattle.edition_keys.specs.Keys.{kept_rows};
-ghost use Rattle.edition_keys.specs.Making.{AreMade, IsKeyStop};
+ghost use Rattle.issue_keys.specs.Keys.{kept_rows};
+ghost use Rattle.issue_keys.specs.Making.{AreMade, IsKeyStop};
 
-use edition_keys::{MakeFault, kept_rows, make_keys};
+use issue_keys::{MakeFault, kept_rows, make_keys};
 use key_roll::{KeyRow, Work};
 use signer_api::Signer;
 use signer_ring::Ring;
@@ -15,7 +15,7 @@ use std::alloc::Global;
 #[derive(Debug, Drop)]
 pub struct EditionKeys {
     pub rows: Vec<KeyRow>,
-    /// Where the first of the keys that were made stands.
+    /// Where the first of the keys that were made stands. An index in the rows.
     pub first_fresh: usize,
 }
 

@@ -1,14 +1,24 @@
 //! The making of an edition's objects: keys, certificates, CRLs, ROAs and manifests, signed by the signers of a
-//! ring, with the rows and the changes that they come to.
+//! ring, with the rows and the changes that they come to. The objects are those of RFC 6487, RFC 5280 section 5,
+//! RFC 9582 and RFC 9286.
 #![tactic(auto)]
 
+mod counting;
+mod issued;
+mod key_rows;
 mod keys;
 mod making;
 mod naming;
 mod objects;
+mod outcome;
 mod outcomes;
 mod plans;
+mod publishing;
+mod standing;
 
-pub use edition_keys::MakeFault;
-pub use edition_outcome::Made;
+pub use counting::signatures;
+pub use issue_keys::MakeFault;
+pub use key_rows::rows_after;
 pub use making::make;
+pub use outcome::Made;
+pub use publishing::{Numbered, Published, publish};

@@ -1,7 +1,7 @@
 //! What the types of a site and of names say of URIs.
 
 ghost use Rattle.std.specs.Prelude.{◌≡◌, All};
-ghost use Rattle.issue_make.specs.Naming.{CanName};
+ghost use Rattle.issue_make.specs.inner.Naming.{CanName};
 
 use authority_book::NameRow;
 use issue_values::can_be_named;

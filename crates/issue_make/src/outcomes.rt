@@ -3,31 +3,34 @@
 ghost use Rattle.std.specs.Prelude.{◌≢◌, ◌++◌, AllPairs, IfOk};
 ghost use Rattle.issue_values.specs.Certificates.{IsEditionMoment};
 ghost use Rattle.pub_set.specs.Objects.{Rise};
-ghost use Rattle.edition_publishers.specs.Certificates.{setting_of};
-ghost use Rattle.edition_outcome.specs.Outcome.{Course};
-ghost use Rattle.issue_make.specs.Outcomes.{uris_in, AreWhole, CanComeOut, IsOfPlan, IsOfKeys, IsPublished, IsOutcome};
+ghost use Rattle.issue_drafts.specs.Certificates.{input_of};
+ghost use Rattle.issue_make.specs.Outcome.{IssuingTrace};
+ghost use Rattle.issue_make.specs.inner.Outcomes.{uris_in, AreWhole, CanComeOut, IsOfPlan, IsOfKeys, IsPublication, IsOutcome};
 
+use crate::counting::signatures;
+use crate::key_rows::rows_after;
 use crate::objects::Objects;
-use crate::plans::Plan;
-use edition_outcome::{Made, Numbered, Published, publish, rows_after, signatures};
-use edition_publishers::Setting;
+use crate::outcome::Made;
+use crate::plans::ObjectPlan;
+use crate::publishing::{Numbered, Published, publish};
+use issue_drafts::IssueInput;
 use key_roll::KeyRow;
 use std::alloc::{AllocError, Global};
 
 /// What the objects of a plan publish.
 fn publish_plan(
     alloc: Global,
-    setting: &Setting<'_>,
-    plan: &Plan<'_>,
+    input: &IssueInput<'_>,
+    plan: &ObjectPlan<'_>,
     objects: Objects,
 ) -> Result<Published, AllocError>
-    requires moment { IsEditionMoment setting.now.work.now.moment }
-    requires standing { Rise (λ row. row.uri) setting.now.issued.now }
-    requires once { AllPairs (λ a b. a ≢ b) (uris_in plan.now ++ setting.now.work.now.withdrawn) }
+    requires moment { IsEditionMoment input.now.work.now.moment }
+    requires standing { Rise (λ row. row.uri) input.now.issued.now }
+    requires once { AllPairs (λ a b. a ≢ b) (uris_in plan.now ++ input.now.work.now.withdrawn) }
     requires whole { AreWhole plan.now objects }
-    ensures { IfOk result (λ published. (course : Course)
-        → IsOfPlan (setting_of setting.now) plan.now objects course
-        → IsPublished (setting_of setting.now) course published) }
+    ensures { IfOk result (λ published. (trace : IssuingTrace)
+        → IsOfPlan (input_of input.now) plan.now objects trace
+        → IsPublication (input_of input.now) trace published) }
 {
     let numbered = Numbered {
         drafts: &plan.drafts,
@@ -35,27 +38,27 @@ fn publish_plan(
         manifests: &plan.manifests,
         next: &plan.serials.next,
     };
-    let published = publish(alloc, setting, &numbered, objects.drafted, objects.listed)?;
+    let published = publish(alloc, input, &numbered, objects.drafted, objects.listed)?;
     Ok(published)
 }
 
 /// What the objects of a plan come to.
 pub fn outcome(
     alloc: Global,
-    setting: &Setting<'_>,
+    input: &IssueInput<'_>,
     rows: &[KeyRow],
-    plan: Plan<'_>,
+    plan: ObjectPlan<'_>,
     objects: Objects,
 ) -> Result<Made, AllocError>
-    requires { CanComeOut (setting_of setting.now) rows.now plan objects }
-    ensures { IfOk result (λ made. (course : Course)
-        → IsOfPlan (setting_of setting.now) plan.entry objects course
-        → IsOfKeys (setting_of setting.now) rows.now plan.entry course
-        → IsOutcome (setting_of setting.now) rows.now course made) }
+    requires { CanComeOut (input_of input.now) rows.now plan objects }
+    ensures { IfOk result (λ made. (trace : IssuingTrace)
+        → IsOfPlan (input_of input.now) plan.entry objects trace
+        → IsOfKeys (input_of input.now) rows.now plan.entry trace
+        → IsOutcome (input_of input.now) rows.now trace made) }
 {
-    let published = publish_plan(alloc, setting, &plan, objects)?;
+    let published = publish_plan(alloc, input, &plan, objects)?;
     let signatures = signatures(&plan.drafts, &plan.manifests);
-    let Plan {
+    let ObjectPlan {
         publishers: _,
         drafts: _,
         manifests: _,
@@ -64,7 +67,7 @@ pub fn outcome(
         revoked,
         serials,
     } = plan;
-    let moment = setting.work.moment;
+    let moment = input.work.moment;
     let rows = rows_after(alloc, moment, rows, &points, &serials.next, revoked)?;
     Ok(Made {
         changes: published.changes,

@@ -1,23 +1,22 @@
 //! The objects of an edition before they are signed.
 
 ghost use Rattle.std.specs.Prelude.{IfOk};
-ghost use Rattle.edition_publishers.specs.Finding.{keys_at};
-ghost use Rattle.edition_publishers.specs.Certificates.{setting_of};
-ghost use Rattle.issue_make.specs.Plans.{CanPlan, IsPlan};
+ghost use Rattle.issue_drafts.specs.Finding.{keys_at};
+ghost use Rattle.issue_drafts.specs.Certificates.{input_of};
+ghost use Rattle.issue_make.specs.Plans.{CanPlanObjects, IsObjectPlan};
 
-use edition_drafts::{
-    Draft, Drafting, ManifestDraft, Serials, drafts, give_serials, manifest_drafts,
+use issue_drafts::{
+    Draft, Drafting, IssueInput, KeyFinder, ManifestDraft, Serials, Touched, drafts, entries,
+    give_serials, manifest_drafts, points, publishers,
 };
-use edition_publishers::{KeyFinder, Setting, publishers};
 use issue_values::Publisher;
 use items::Items;
 use key_roll::{KeyRow, RevokedRow};
-use point_lists::{Touched, entries, points};
 use std::alloc::{AllocError, Global};
 
 /// The objects of an edition before they are signed, and what its keys come to.
 #[derive(Drop)]
-pub struct Plan<'a> {
+pub struct ObjectPlan<'a> {
     /// Where the keys publish.
     pub publishers: Vec<Publisher>,
     /// By rising URI.
@@ -36,26 +35,26 @@ pub struct Plan<'a> {
 /// Plans the objects of the work over the rows of the edition's keys.
 pub fn plan_objects<'a>(
     alloc: Global,
-    setting: &'a Setting<'a>,
+    input: &'a IssueInput<'a>,
     rows: &'a [KeyRow],
     finder: &'a KeyFinder,
-) -> Result<Plan<'a>, AllocError>
-    requires { CanPlan (setting_of setting.now) (keys_at rows.now finder.now.first_fresh) rows.now finder.now }
-    ensures { IfOk result (IsPlan (setting_of setting.now) (keys_at rows.now finder.now.first_fresh) rows.now) }
+) -> Result<ObjectPlan<'a>, AllocError>
+    requires { CanPlanObjects (input_of input.now) (keys_at rows.now finder.now.first_fresh) rows.now finder.now }
+    ensures { IfOk result (IsObjectPlan (input_of input.now) (keys_at rows.now finder.now.first_fresh) rows.now) }
 {
-    let publishers = publishers(alloc, setting, rows, finder)?;
+    let publishers = publishers(alloc, input, rows, finder)?;
     let at = Drafting {
-        setting,
+        input,
         rows,
         finder,
     };
     let drafts = drafts(alloc, &at)?;
     let manifests = manifest_drafts(alloc, &at)?;
-    let touched = Touched::new(alloc, setting, &drafts, &manifests)?;
+    let touched = Touched::new(alloc, input, &drafts, &manifests)?;
     let points = points(alloc, rows, &manifests)?;
-    let revoked = entries(alloc, setting, rows, &points, &touched)?;
+    let revoked = entries(alloc, input, rows, &points, &touched)?;
     let serials = give_serials(alloc, rows, &drafts)?;
-    Ok(Plan {
+    Ok(ObjectPlan {
         publishers,
         drafts,
         manifests,

@@ -6,7 +6,7 @@ use Rattle.std.proofs.lemmas.List.{append-nil, map-append}
 use Rattle.std.proofs.lemmas.List.Elements.{filter-append}
 use Rattle.std.proofs.lemmas.List.Folds.{list_any-append}
 use Rattle.key_roll.specs.declared.issued.IssuedRow.{IssuedRow}
-use Rattle.issue_plan.specs.Places.{is_among, withdrawn}
+use Rattle.issue_plan.specs.Uris.{is_among, withdrawn}
 
 or_last : (a b : Bool) → cond b true a ≡ (a || (b || false))
 or_last true true = refl

@@ -11,21 +11,11 @@ use Rattle.entitle.specs.Certified.{names_of}
 use Rattle.key_roll.specs.declared.rows.Role.{Role}
 use Rattle.key_roll.specs.declared.rows.Role.TheVariants.{New, Current, Old}
 use Rattle.key_roll.specs.declared.rows.KeyRow.{KeyRow}
+use Rattle.key_roll.specs.Roles.{is_role}
 use Rattle.key_roll.specs.declared.work.KeyName.TheVariants.{Live, Fresh}
 use Rattle.key_roll.specs.Stages.{is_begun, is_activated}
 use Rattle.issue_plan.specs.declared.keys.NextKey.{NextKey}
 use Rattle.issue_plan.specs.declared.keys.Asked.{Asked}
-
-abbrev pub is_role : Role → Role → Bool
-is_role New New = true
-is_role New Current = false
-is_role New Old = false
-is_role Current New = false
-is_role Current Current = true
-is_role Current Old = false
-is_role Old New = false
-is_role Old Current = false
-is_role Old Old = true
 
 -- The identifier of a live key.
 abbrev pub id_of : KeyRow → KeyId

@@ -1,4 +1,4 @@
 pub mod Keys
-pub mod Places
+pub mod Uris
 pub mod Wanted
 pub mod Work

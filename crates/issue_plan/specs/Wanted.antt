@@ -13,9 +13,10 @@ use Rattle.key_roll.specs.declared.work.KeyName.{KeyName}
 use Rattle.key_roll.specs.declared.work.CertWork.{CertWork}
 use Rattle.key_roll.specs.declared.work.RoaWork.{RoaWork}
 use Rattle.key_roll.specs.declared.work.PointWork.{PointWork}
-use Rattle.key_ids.specs.Places.{Bases}
+use Rattle.key_ids.specs.Uris.{Bases}
 use Rattle.issue_plan.specs.declared.keys.NextKey.{NextKey}
-use Rattle.issue_plan.specs.Keys.{Basis, is_role}
+use Rattle.issue_plan.specs.Keys.{Basis}
+use Rattle.key_roll.specs.Roles.{is_role}
 
 -- The current key of a desk, if it has one.
 abbrev pub current_of : List NextKey → ℕ → Option KeyName
@@ -89,7 +90,7 @@ pub data Wanted : Type 0 where
 
 -- All that an edition is judged by: what it is made from, the origins that it owes, and what
 -- stands published before it, and where.
-pub record Standing : Type 0 where
+pub record PlanInput : Type 0 where
   pub basis : Basis
   pub owed : List Owed
   pub issued : List IssuedRow
@@ -97,9 +98,9 @@ pub record Standing : Type 0 where
 
 -- Whether what stands serves for what is wanted, so that it stays. Nothing does: an edition issues
 -- all that it wants afresh.
-abbrev pub fits : Standing → Wanted → Bool
-fits standing wanted = false
+abbrev pub fits : PlanInput → Wanted → Bool
+fits plan_input wanted = false
 
 -- Those of some works that make something which doesn't stand already.
-abbrev pub unfit : {X : Type 0} → Standing → (X → Wanted) → List X → List X
-unfit standing object works = filter (λ work. not (fits standing (object work))) works
+abbrev pub unfit : {X : Type 0} → PlanInput → (X → Wanted) → List X → List X
+unfit plan_input object works = filter (λ work. not (fits plan_input (object work))) works

@@ -3,7 +3,7 @@ use Rattle.std.specs.Prelude.{◌≡◌, Bool, false, not, List, filter, map, Op
 use Rattle.std.specs.List.{filter_map, list_any}
 use Rattle.std.specs.Str.{bytes_eq}
 use Rattle.key_ids.specs.declared.identifier.KeyId.{KeyId}
-use Rattle.key_ids.specs.Places.{Bases}
+use Rattle.key_ids.specs.Uris.{Bases}
 use Rattle.entitle.specs.declared.trees.Owed.{Owed}
 use Rattle.entitle.specs.Owed.{AreOwed}
 use Rattle.key_roll.specs.declared.rows.KeyRow.{KeyRow}
@@ -15,8 +15,9 @@ use Rattle.key_roll.specs.declared.work.NewKey.{NewKey}
 use Rattle.key_roll.specs.declared.work.RoleWork.{RoleWork}
 use Rattle.issue_plan.specs.declared.keys.NextKey.{NextKey}
 use Rattle.issue_plan.specs.Keys.{Basis, id_of, next_keys}
-use Rattle.issue_plan.specs.Wanted.{Standing, Certificate, Roa, Point, unfit, wanted_certificates, wanted_roas, wanted_points}
-use Rattle.issue_plan.specs.Places.{wanted_uris, withdrawn}
+use Rattle.issue_plan.specs.Wanted.{PlanInput, Certificate, Roa, Point, unfit, wanted_certificates}
+use Rattle.issue_plan.specs.Wanted.{wanted_roas, wanted_points}
+use Rattle.issue_plan.specs.Uris.{wanted_uris, withdrawn}
 
 -- A key that is to be made.
 abbrev pub new_key_by : NextKey → KeyName → Option NewKey
@@ -59,18 +60,18 @@ dropped keys rows = filter (λ id. not (goes_on keys id)) (map id_of rows)
 
 -- The work gives the edition all that it wants, but for what fits, and takes away all that stands
 -- and isn't wanted.
-pub record IsWork (standing : Standing) (keys : List NextKey) (work : Work) : Type 0 where
-  pub moment : work.moment ≡ standing.basis.moment
+pub record IsWork (plan_input : PlanInput) (keys : List NextKey) (work : Work) : Type 0 where
+  pub moment : work.moment ≡ plan_input.basis.moment
   pub new_keys : work.new_keys ≡ filter_map new_key_of keys
   pub roles : work.roles ≡ filter_map role_of keys
-  pub certs : work.certs ≡ unfit standing Certificate
-      (wanted_certificates standing.basis.configs standing.basis.sets keys)
-  pub roas : work.roas ≡ unfit standing Roa (wanted_roas keys standing.owed)
-  pub points : work.points ≡ unfit standing Point (wanted_points keys)
+  pub certs : work.certs ≡ unfit plan_input Certificate
+      (wanted_certificates plan_input.basis.configs plan_input.basis.sets keys)
+  pub roas : work.roas ≡ unfit plan_input Roa (wanted_roas keys plan_input.owed)
+  pub points : work.points ≡ unfit plan_input Point (wanted_points keys)
   pub withdrawn : work.withdrawn
-      ≡ withdrawn (wanted_uris standing.site standing.basis.configs keys standing.owed)
-      standing.issued
-  pub dropped : work.dropped ≡ dropped keys standing.basis.rows
+      ≡ withdrawn (wanted_uris plan_input.site plan_input.basis.configs keys plan_input.owed)
+      plan_input.issued
+  pub dropped : work.dropped ≡ dropped keys plan_input.basis.rows
 
 -- The plan of an edition over this basis, where that stands: the work for the keys that the stages
 -- of rollovers come to, and for the origins that are owed.

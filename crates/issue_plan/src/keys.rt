@@ -1,4 +1,4 @@
-//! The keys of the next edition.
+//! The keys of the next edition (RFC 6489 section 2).
 
 ghost use Rattle.std.specs.Prelude.{◌≡◌, ◌++◌, ◌∷◌, [], ◌+◌, Some, None, Option, length, option_map, slice_get, IfOk, OnOk};
 ghost use Rattle.key_roll.specs.declared.rows.Role.TheVariants.{New, Current, Old};
@@ -12,7 +12,7 @@ use crate::lookups::{name_at, set_at};
 use authority_book::{Config, NameRow};
 use entitle::Tree;
 use key_ids::KeyId;
-use key_roll::{KeyName, KeyRow, Role};
+use key_roll::{KeyName, KeyRow, Role, is_role};
 use res_sets::Resources;
 use std::alloc::{AllocError, Global};
 
@@ -34,7 +34,7 @@ pub struct NextKey {
 }
 
 /// What an authority asks of its keys: its desk, the number of its signer, how many rollovers it was
-/// told to begin and to activate, and the moment.
+/// told to begin and to activate, and the moment. In seconds since 1970.
 #[derive(Clone, Copy)]
 pub struct Asked {
     pub desk: u32,
@@ -52,17 +52,6 @@ pub fn id_of(row: &KeyRow) -> KeyId
     ensures { result ≡ spec.id_of row.now }
 {
     KeyId::of(&row.key.bytes)
-}
-
-/// Whether the two are one role.
-pub fn is_role(role: Role, other: Role) -> bool
-    ensures { result ≡ spec.is_role role other }
-{
-    match role {
-        Role::New => matches!(other, Role::New),
-        Role::Current => matches!(other, Role::Current),
-        Role::Old => matches!(other, Role::Old),
-    }
 }
 
 // The live key of a desk in a role.
@@ -194,7 +183,7 @@ fn activates_at(configs: &[Config], desk: u32) -> u32
     }
 }
 
-/// How many authorities the tree has.
+/// How many authorities the tree has. Desks are numbered from 0 on.
 pub fn desks_of(configs: &[Config]) -> u32
     ensures { result ≡ length (names_of (settings_of configs.now)) }
 {
@@ -242,7 +231,8 @@ fn push_keys(
     Ok(())
 }
 
-/// The keys of the next edition, by desk and role.
+/// The keys of the next edition, by desk and role. `moment` is in seconds since 1970 (RFC 6489
+/// section 2).
 pub fn next_keys(
     alloc: Global,
     rows: &[KeyRow],

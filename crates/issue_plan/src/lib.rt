@@ -1,5 +1,5 @@
-//! What an edition has to make and to withdraw: the keys that it has, all that it wants to stand, and
-//! what stands and isn't wanted.
+//! What an edition has to make and to withdraw: the keys that it has (RFC 6489 section 2), all that
+//! it wants to stand (RFC 6481 section 2), and what stands and isn't wanted.
 #![tactic(auto)]
 
 mod keys;
@@ -9,4 +9,5 @@ mod plans;
 mod wanted;
 
 pub use keys::NextKey;
+pub use lookups::names_of;
 pub use plans::plan;

@@ -1,12 +1,12 @@
-//! Where what is wanted stands, and what stands elsewhere.
+//! Where what is wanted stands, and what stands elsewhere (RFC 6481 section 2).
 
 ghost use Rattle.std.specs.Prelude.{◌≡◌, ◌++◌, ◌∷◌, [], ◌||◌, Bool, ℕ, List, IfOk, OnOk, slice_get, string_bytes};
 ghost use Rattle.std.specs.Str.{bytes_eq};
 ghost use Rattle.std.specs.List.{flat_map};
 ghost use Rattle.std.specs.BTreeSet.{contains_text};
 ghost use Rattle.entitle.specs.Certified.{settings_of, names_of};
-ghost use Rattle.issue_plan.specs.Places as spec;
-ghost use Rattle.issue_plan.specs.Places.{key_uris, owed_uris, is_among, wanted_uris};
+ghost use Rattle.issue_plan.specs.Uris as spec;
+ghost use Rattle.issue_plan.specs.Uris.{key_uris, owed_uris, is_among, wanted_uris};
 
 use crate::keys::NextKey;
 use crate::lookups::{name_at, parent_at};

@@ -2,15 +2,17 @@
 
 ghost use Rattle.std.specs.Prelude.{◌≡◌, map, filter, IfOk};
 ghost use Rattle.std.specs.List.{filter_map};
-ghost use Rattle.entitle.specs.Certified.{settings_of, names_of, AreCertified};
+ghost use Rattle.entitle.specs.Certified.{settings_of};
+ghost use Rattle.entitle.specs.Owed.{AreOwed};
 ghost use Rattle.issue_plan.specs.Work as spec;
 ghost use Rattle.issue_plan.specs.Work.{IsPlan};
 
 use crate::keys::{NextKey, id_of, next_keys};
+use crate::lookups::names_of;
 use crate::places::{wanted_uris, withdrawn};
 use crate::wanted::{certificates, points, roas};
-use authority_book::{Config, NameRow};
-use entitle::{Tree, owed};
+use authority_book::Config;
+use entitle::{Owed, Tree};
 use items::Items;
 use key_ids::{KeyId, Site};
 use key_roll::{Issued, KeyName, KeyRow, NewKey, RoleWork, Work};
@@ -90,35 +92,39 @@ fn dropped(alloc: Global, keys: &[NextKey], rows: &[KeyRow]) -> Result<Vec<KeyId
 
 /// What an edition at the moment makes and withdraws: all that is wanted of these configurations,
 /// which stand at the places of their names, and what stands and isn't wanted. The tree is what these
-/// configurations are certified for.
+/// configurations are certified for, and the origins are those that they are owed.
 ///
 /// Keys and points are in the order of the desks and of the roles, ROAs in that of the desks and of
 /// the origins, what is withdrawn and the keys that end in that in which they are given.
+///
+/// Of what stands before the edition `rows` has the live keys, by desk and role, and `issued` the
+/// objects. `configs` has a configuration for each desk, of which the first is the trust anchor's,
+/// `tree` a set for each desk, and `owed` the origins by desk. `site` is where all of it is
+/// published, and `moment` in seconds since 1970.
 pub fn plan(
     alloc: Global,
     rows: &[KeyRow],
-    names: &[NameRow],
     configs: &[Config],
     tree: &Tree,
+    owed: &[Owed],
     issued: &Issued,
     site: &Site,
     moment: u64,
 ) -> Result<Work, AllocError>
-    requires names { names.now ≡ names_of (settings_of configs.now) }
-    requires certified { AreCertified (settings_of configs.now) tree.now.sets.items }
+    requires { AreOwed (settings_of configs.now) owed.now }
     ensures { IfOk result (IsPlan
         (record { rows = rows.now; configs = settings_of configs.now; sets = tree.now.sets.items; moment = moment })
         issued.now.rows site.now) }
 {
+    let names = names_of(configs);
     let keys = next_keys(alloc, rows, names, configs, tree, moment)?;
-    let owed = owed(alloc, configs, tree)?;
-    let wanted = wanted_uris(alloc, site, names, configs, &keys, &owed)?;
+    let wanted = wanted_uris(alloc, site, names, configs, &keys, owed)?;
     Ok(Work {
         moment,
         new_keys: Items::new(new_keys(alloc, &keys)?),
         roles: Items::new(roles(alloc, &keys)?),
         certs: Items::new(certificates(alloc, configs, tree, &keys)?),
-        roas: Items::new(roas(alloc, &keys, &owed)?),
+        roas: Items::new(roas(alloc, &keys, owed)?),
         points: Items::new(points(alloc, &keys)?),
         withdrawn: Items::new(withdrawn(alloc, &wanted, issued.rows.as_slice())?),
         dropped: Items::new(dropped(alloc, &keys, rows)?),

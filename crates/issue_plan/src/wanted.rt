@@ -1,4 +1,5 @@
-//! What an edition wants to stand: certificates, ROAs and publication points.
+//! What an edition wants to stand: certificates, ROAs and publication points (RFC 6487, RFC 9582,
+//! RFC 9286).
 
 ghost use Rattle.std.specs.Prelude.{◌≡◌, map, IfOk};
 ghost use Rattle.std.specs.List.{filter_map};
@@ -6,11 +7,11 @@ ghost use Rattle.entitle.specs.Certified.{settings_of, names_of};
 ghost use Rattle.issue_plan.specs.Wanted as spec;
 ghost use Rattle.issue_plan.specs.Wanted.{wanted_certificates, wanted_roas, wanted_points};
 
-use crate::keys::{NextKey, is_role};
+use crate::keys::NextKey;
 use crate::lookups::{parent_at, set_at};
 use authority_book::Config;
 use entitle::{Owed, Tree};
-use key_roll::{CertWork, KeyName, PointWork, RoaWork, Role};
+use key_roll::{CertWork, KeyName, PointWork, RoaWork, Role, is_role};
 use provision::{Class, Reply, Request};
 use res_sets::Resources;
 use std::alloc::{AllocError, Global};
@@ -88,7 +89,7 @@ fn certificate_of(
     }))
 }
 
-/// A certificate for each key.
+/// A certificate for each key (RFC 6487 section 4).
 pub fn certificates(
     alloc: Global,
     configs: &[Config],
@@ -117,7 +118,7 @@ fn roa_of(keys: &[NextKey], owed: &Owed) -> Option<RoaWork>
     })
 }
 
-/// A ROA for each owed origin.
+/// A ROA for each owed origin (RFC 9582 section 4).
 pub fn roas(alloc: Global, keys: &[NextKey], owed: &[Owed]) -> Result<Vec<RoaWork>, AllocError>
     ensures { IfOk result (λ roas. roas.items ≡ wanted_roas keys.now owed.now) }
 {
@@ -136,7 +137,7 @@ fn point_of(key: &NextKey) -> PointWork
     PointWork { key: key.name }
 }
 
-/// A point for each key.
+/// A point for each key (a CRL and a manifest, RFC 9286 section 5.1).
 pub fn points(alloc: Global, keys: &[NextKey]) -> Result<Vec<PointWork>, AllocError>
     ensures { IfOk result (λ points. points.items ≡ wanted_points keys.now) }
 {

@@ -1,30 +1,21 @@
 -- Certificates, CRLs and bodies of an edition have spellings.
 use Rattle.std.proofs.Common.{◌≡◌, ℕ, ◌<◌, ◌≤◌, ◌+◌, ◌^◌, true, List, [], ◌∷◌, length, map, Option, Some, None, refl, sym, subst, ap, ◌∙◌, arith}
 use Rattle.moments.specs.Civil.{IsMoment}
-use Rattle.res_sets.specs.declared.numbers.Family.{Family}
 use Rattle.res_sets.specs.declared.holdings.Resources.{Resources}
-use Rattle.res_sets.specs.Numbers.{AreCanonical}
-use Rattle.res_sets.specs.Sets.{RangeSet, IsCanonical}
-use Rattle.res_forms.specs.SetLaws.{canonical_tested}
-use Rattle.res_forms.specs.Views.{set_view}
 use Rattle.key_ids.specs.Base.{rsync_scheme, https_scheme}
-use Rattle.key_ids.specs.Places.{Bases}
+use Rattle.key_ids.specs.Uris.{Bases}
 use Rattle.signer_api.specs.PublicKey.{IsPublicKey}
 use Rattle.origins.specs.declared.Prefix.{Prefix}
 use Rattle.key_roll.specs.declared.rows.RevokedRow.{RevokedRow}
 use Rattle.crl_obj.specs.declared.values.CrlEntry.{CrlEntry}
 use Rattle.crl_obj.specs.Values.{CrlValue, IsCrl, IsEntry, are_rising}
 use Rattle.der.specs.Grammar.{AreBytes}
-use Rattle.der_forms.specs.Forms.{AreAll}
+use Rattle.der.specs.Forms.{AreAll}
 use Rattle.issue_values.specs.Bodies.{crl_entry, AreRevoked}
-use Rattle.cert_obj.specs.Values.{IsListOf, IsCert, IsHeld, Sets, is_uri, sets_of, has_no_numbers}
+use Rattle.cert_obj.specs.Values.{IsCert, IsHeld, Sets, is_uri, sets_of, has_no_numbers}
 use Rattle.issue_values.specs.Publishing.{Publishing, CanPublish, manifest_of}
 use Rattle.issue_values.specs.Certificates.{IsEditionMoment, certificate_life, point_life, anchor_certificate, authority_certificate, entity_certificate, prefix_sets, roa_certificate, manifest_certificate}
 use Rattle.issue_values.proofs.UriTexts.{folder-uri, crl-uri, manifest-uri, notify-uri}
-
--- A set's ranges pass the test of a canonical list.
-pub listed : (family : Family) (set : RangeSet) → set.family ≡ family → IsCanonical set → IsListOf family (set_view set)
-listed family set is canonical = canonical_tested family set.ranges (subst (λ (f : Family). AreCanonical f set.ranges) is canonical)
 
 at-first : (moment : ℕ) → IsEditionMoment moment → IsMoment moment
 at-first moment h = let from = h.from in let to = h.to in record { from = from; to = omega arith }

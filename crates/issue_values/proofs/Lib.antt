@@ -1,3 +1,5 @@
-pub mod UriTexts
+pub mod Ended
 pub mod Leaves
 pub mod Spans
+pub mod Told
+pub mod UriTexts

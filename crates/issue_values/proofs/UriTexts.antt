@@ -10,7 +10,7 @@ use Rattle.hex.specs.Hex.{encode_lower, lower_digits}
 use Rattle.hex.proofs.HexLemmas.{IsAscii-encode_with}
 use Rattle.names.specs.Name.{IsName, is_name_byte}
 use Rattle.key_ids.specs.Base.{IsBase, is_base_byte}
-use Rattle.key_ids.specs.Places.{Bases, anchor_uri, folder_of, file_uri, cert_uri, crl_uri, manifest_uri, notify_uri}
+use Rattle.key_ids.specs.Uris.{Bases, anchor_uri, folder_of, file_uri, cert_uri, crl_uri, manifest_uri, notify_uri}
 use Rattle.cert_obj.specs.Values.{is_ascii_byte, is_uri}
 use Rattle.origins.specs.declared.Origin.{Origin}
 use Rattle.origins.specs.Origin.{origin_text}

@@ -1,6 +1,7 @@
--- What the ROAs, CRLs and manifests of an edition say.
+-- What the ROAs, CRLs and manifests of an edition say (RFC 9582 section 4, RFC 5280 section
+-- 5.1.2, RFC 9286 section 4.2.1).
 use Rattle.std.specs.Prelude.{◌≡◌, ℕ, ◌+◌, ◌≤◌, true, List, [], ◌∷◌, map}
-use Rattle.der_forms.specs.Forms.{AreAll}
+use Rattle.der.specs.Forms.{AreAll}
 use Rattle.origins.specs.declared.Origin.{Origin}
 use Rattle.key_roll.specs.declared.rows.RevokedRow.{RevokedRow}
 use Rattle.crl_obj.specs.declared.values.CrlEntry.{CrlEntry}

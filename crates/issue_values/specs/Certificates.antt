@@ -4,7 +4,7 @@ use Rattle.std.specs.Prelude.{Option, None, Some}
 use Rattle.res_sets.specs.declared.holdings.Resources.{Resources}
 use Rattle.origins.specs.Prefix.{address_bits}
 use Rattle.origins.specs.declared.Prefix.{Prefix}
-use Rattle.key_ids.specs.Places.{Bases, folder_of, notify_uri}
+use Rattle.key_ids.specs.Uris.{Bases, folder_of, notify_uri}
 use Rattle.cert_obj.specs.declared.values.CertKind.TheVariants.{Anchor, Authority, EndEntity}
 use Rattle.cert_obj.specs.Values.{CertValue, Sets, sets_of}
 use Rattle.issue_values.specs.Publishing.{Publishing, crl_of, manifest_of}
@@ -17,12 +17,13 @@ certificate_life = 31_449_600
 abbrev pub point_life : ℕ
 point_life = 86_400
 
--- A moment at which an edition is made: from it on, all these have dates from 2000 to 9999.
+-- A moment at which an edition is made: from it on, all these have dates from 2000 to 9999. In
+-- seconds since 1970.
 pub record IsEditionMoment (moment : ℕ) : Type 0 where
   pub from : 946_684_800 ≤ moment
   pub to : moment ≤ 253_370_764_799
 
--- The trust anchor's certificate, which it signs itself.
+-- The trust anchor's certificate, which it signs itself (RFC 8630 section 2.3).
 abbrev pub anchor_certificate : Bases → ℕ → Publishing → Resources → ℕ → CertValue
 anchor_certificate site moment anchor held serial = record {
   serial = serial;
@@ -95,13 +96,13 @@ prefix_sets p = record {
   v6 = if p.v6 then prefix_span p ∷ [] else [];
 }
 
--- The certificate in a ROA: it holds exactly the prefix of the origin.
+-- The certificate in a ROA: it holds exactly the prefix of the origin (RFC 9582 section 5).
 abbrev pub roa_certificate : Bases → ℕ → Publishing → List ℕ → Prefix → List ℕ → ℕ → CertValue
 roa_certificate site moment issuer key prefix object serial =
     entity_certificate site moment certificate_life issuer key (Some (prefix_sets prefix))
     object serial
 
--- The certificate in a key's manifest: it inherits.
+-- The certificate in a key's manifest: it inherits (RFC 9286 section 5.1).
 abbrev pub manifest_certificate : Bases → ℕ → Publishing → List ℕ → ℕ → CertValue
 manifest_certificate site moment issuer key serial =
     entity_certificate site moment point_life issuer key None (manifest_of site issuer) serial

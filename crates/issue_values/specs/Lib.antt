@@ -1,3 +1,4 @@
-pub mod Publishing
-pub mod Certificates
 pub mod Bodies
+pub mod Certificates
+pub mod Ends
+pub mod Publishing

@@ -1,4 +1,4 @@
--- Keys and where they publish.
+-- Keys and where they publish (RFC 6481 section 2).
 use Rattle.std.specs.Prelude.{◌≡◌, ℕ, List, ◌++◌, length, codes}
 use Rattle.hex.specs.Hex.{encode_lower}
 use Rattle.origins.specs.declared.Origin.{Origin}
@@ -6,7 +6,7 @@ use Rattle.origins.specs.Origin.{origin_text}
 use Rattle.der.specs.Grammar.{AreBytes}
 use Rattle.names.specs.Name.{IsName}
 use Rattle.key_ids.specs.Base.{IsBase, rsync_scheme, https_scheme}
-use Rattle.key_ids.specs.Places.{Bases, file_uri, crl_uri, manifest_uri}
+use Rattle.key_ids.specs.Uris.{Bases, file_uri, crl_uri, manifest_uri}
 use Rattle.signer_api.specs.PublicKey.{IsPublicKey}
 use Rattle.issue_values.specs.declared.publishers.Publisher.{Publisher}
 

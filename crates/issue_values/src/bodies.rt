@@ -1,7 +1,8 @@
-//! What ROAs, CRLs and manifests say.
+//! What ROAs, CRLs and manifests say (RFC 9582 section 4, RFC 5280 section 5.1.2, RFC 9286 section
+//! 4.2.1).
 
 ghost use Rattle.std.specs.Prelude.{◌≡◌, ◌<◌, ◌^◌, map, IfOk};
-ghost use Rattle.der_forms.specs.Forms.{AreAll};
+ghost use Rattle.der.specs.Forms.{AreAll};
 ghost use Rattle.crl_obj.specs.Values.{IsCrl, crl_value};
 ghost use Rattle.payloads.specs.RoaFormats.{IsRoa};
 ghost use Rattle.payloads.specs.RoaReading.{roa_view};
@@ -19,7 +20,7 @@ use origins::Origin;
 use payloads::{ListedFile, ManifestBody, RoaBody, RoaEntry};
 use std::alloc::{AllocError, Global};
 
-/// An origin's ROA: its AS may announce its prefix, up to its maximum.
+/// An origin's ROA: its AS may announce its prefix, up to its maximum (RFC 9582 section 4).
 pub fn roa_body(alloc: Global, origin: &Origin) -> Result<RoaBody, AllocError>
     ensures value { IfOk result (λ body. roa_view body ≡ roa_of origin.now) }
     ensures spelled { IfOk result (λ body. IsRoa (roa_view body)) }
@@ -58,7 +59,8 @@ fn crl_entries(alloc: Global, revoked: &[RevokedRow]) -> Result<Vec<CrlEntry>, A
     Ok(entries)
 }
 
-/// A key's CRL of that number.
+/// A key's CRL of that number (RFC 5280 section 5.1.2). It is made at `moment`, in seconds since
+/// 1970, and good for [`POINT_LIFE`](crate::POINT_LIFE).
 pub fn key_crl(
     alloc: Global,
     moment: u64,
@@ -82,7 +84,8 @@ pub fn key_crl(
     })
 }
 
-/// A key's manifest of that number, which lists these files.
+/// A key's manifest of that number, which lists these files (RFC 9286 section 4.2.1). It is made at
+/// `moment`, in seconds since 1970. The files have to stand by rising name.
 pub fn manifest_body(moment: u64, number: u64, files: Vec<ListedFile>) -> ManifestBody
     requires moment { IsEditionMoment moment }
     requires files { AreListed (map file_view files.items) }

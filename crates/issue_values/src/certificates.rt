@@ -1,4 +1,4 @@
-//! Certificates.
+//! Certificates (RFC 6487 section 4).
 
 ghost use Rattle.std.specs.Prelude.{◌≡◌, ◌+◌, ◌<◌, ◌^◌, true, Some, None, IfOk, string_bytes};
 ghost use Rattle.cert_obj.specs.Values.{IsCert, IsHeld, cert_value, held_value, sets_of, is_uri};
@@ -9,27 +9,20 @@ ghost use Rattle.issue_values.specs.Certificates as values;
 use crate::prefixes::exactly;
 use crate::publishers::Publisher;
 use crate::uris::{anchor_uris, authority_uris, can_publish, entity_uris};
-use cert_obj::{Cert, CertKind, Held};
+use cert_obj::{Cert, CertKind, Held, are_sets};
 use key_ids::Site;
 use origins::Prefix;
 use res_sets::Resources;
 use signer_api::PublicKey;
 use std::alloc::{AllocError, Global};
 
-/// How long certificates of authorities and of ROAs are valid: 52 weeks, in seconds.
+/// How long certificates of authorities and of ROAs are valid: 52 weeks, in seconds (RFC 6487
+/// section 4.6).
 pub const CERTIFICATE_LIFE: u64 = 31_449_600;
 
-/// How long a CRL and a manifest are valid, and the manifest's certificate: a day.
+/// How long a CRL and a manifest are valid, and the manifest's certificate: a day, in seconds (RFC
+/// 9286 section 5.1).
 pub const POINT_LIFE: u64 = 86_400;
-
-/// What the types say: resources are canonical sets.
-fn are_sets(resources: &Resources)
-    ensures { IsHeld (Some (sets_of resources.now)) }
-{
-    let _asn = resources.asn.as_slice();
-    let _v4 = resources.v4.as_slice();
-    let _v6 = resources.v6.as_slice();
-}
 
 /// The trust anchor's certificate.
 fn made_anchor(
@@ -122,7 +115,8 @@ fn made_entity(
     })
 }
 
-/// The trust anchor's certificate, which it signs itself.
+/// The trust anchor's certificate, which it signs itself (RFC 8630 section 2.3). `moment` is its
+/// notBefore, in seconds since 1970.
 pub fn anchor_certificate(
     alloc: Global,
     site: &Site,
@@ -142,7 +136,8 @@ pub fn anchor_certificate(
     Ok(cert)
 }
 
-/// The certificate of another authority's key.
+/// The certificate of another authority's key. `moment` is its notBefore, in seconds since 1970
+/// (RFC 6487 section 4.8.8.1).
 pub fn authority_certificate(
     alloc: Global,
     site: &Site,
@@ -187,7 +182,8 @@ fn roa_entity(
     })
 }
 
-/// The certificate of a ROA's key: it holds exactly the prefix, and names the ROA's URI.
+/// The certificate of a ROA's key: it holds exactly the prefix, and names the ROA's URI (RFC 9582
+/// section 5). `moment` is its notBefore, in seconds since 1970.
 pub fn roa_certificate(
     alloc: Global,
     site: &Site,
@@ -239,7 +235,8 @@ fn manifest_entity(
     })
 }
 
-/// The certificate of the key of an issuer's manifest: it inherits, and names the manifest's URI.
+/// The certificate of the key of an issuer's manifest: it inherits, and names the manifest's URI
+/// (RFC 9286 section 5.1). `moment` is its notBefore, in seconds since 1970.
 pub fn manifest_certificate(
     alloc: Global,
     site: &Site,

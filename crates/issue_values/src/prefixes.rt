@@ -1,10 +1,10 @@
-//! The resources of a ROA's certificate.
+//! The resources of a ROA's certificate (RFC 9582 section 5).
 
 ghost use Rattle.std.specs.Prelude.{◌≡◌, ◌<◌, [], ◌∷◌, IfOk, if◌then◌else◌};
 ghost use Rattle.res_sets.specs.Numbers.{family_end};
 ghost use Rattle.res_sets.specs.declared.numbers.Family.TheVariants.{V4, V6};
-ghost use Rattle.res_forms.specs.Formats.{span_of};
-ghost use Rattle.res_forms.specs.Views.{set_view};
+ghost use Rattle.res_ext.specs.Formats.{span_of};
+ghost use Rattle.res_ext.specs.Views.{set_view};
 ghost use Rattle.cert_obj.specs.Values.{sets_of};
 ghost use Rattle.issue_values.specs.Certificates.{prefix_span, prefix_sets};
 

@@ -1,4 +1,4 @@
-//! Keys and where they publish.
+//! Keys and where they publish (RFC 6481 section 2).
 
 ghost use Rattle.std.specs.Prelude.{◌≡◌};
 ghost use Rattle.sha1.specs.Sha1.{sha1};

@@ -1,10 +1,10 @@
-//! The URIs of certificates.
+//! The URIs of certificates (RFC 6487 sections 4.8.6 to 4.8.8).
 
 ghost use Rattle.std.specs.Prelude.{◌≡◌, ℕ, true, IfOk, string_bytes, List, [], length};
 ghost use Rattle.der.specs.Grammar.{AreBytes};
 ghost use Rattle.cert_obj.specs.Values.{is_uri, uris_value};
 ghost use Rattle.key_ids.specs.Base.{IsBase, rsync_scheme, https_scheme};
-ghost use Rattle.key_ids.specs.Places.{anchor_uri, cert_uri, folder_of, notify_uri};
+ghost use Rattle.key_ids.specs.Uris.{anchor_uri, cert_uri, folder_of, notify_uri};
 ghost use Rattle.names.specs.Name.{IsName};
 ghost use Rattle.issue_values.specs.Publishing.{CanPublish, publishing, crl_of, manifest_of, roa_uri};
 ghost use Rattle.origins.specs.declared.Origin.{Origin};
@@ -64,7 +64,7 @@ pub fn can_be_named(site: &Site, name: &Name)
     is_name(name);
 }
 
-/// The URIs of the trust anchor's certificate.
+/// The URIs of the trust anchor's certificate (RFC 6487 section 4.8.8.1).
 pub fn anchor_uris(alloc: Global, site: &Site, anchor: &Publisher) -> Result<CertUris, AllocError>
     ensures { IfOk result (λ uris. uris_value uris ≡ record {
       crl = [];
@@ -85,7 +85,7 @@ pub fn anchor_uris(alloc: Global, site: &Site, anchor: &Publisher) -> Result<Cer
     })
 }
 
-/// The URIs of another authority's certificate.
+/// The URIs of another authority's certificate (RFC 6487 sections 4.8.6 to 4.8.8).
 pub fn authority_uris(
     alloc: Global,
     site: &Site,
@@ -111,7 +111,7 @@ pub fn authority_uris(
     })
 }
 
-/// The URIs of the certificate of a key that signs the one object there.
+/// The URIs of the certificate of a key that signs the one object there (RFC 6487 section 4.8.8.2).
 pub fn entity_uris(
     alloc: Global,
     site: &Site,

@@ -14,9 +14,9 @@ use Rattle.json_api.specs.declared.slots.Slot.TheVariants.{Absent}
 use Rattle.json_api.specs.Names.{name_of, kind_of}
 use Rattle.json_api.specs.Rows.{Slots, as_row}
 use Rattle.json_api.specs.Table.{fields_of, line_at, first_other, only, of_row, of_members}
-use Rattle.json_api.specs.Slots.{slot_at, left_of, are_taken, first_left}
+use Rattle.json_api.specs.inner.Slots.{slot_at, left_of, are_taken, first_left}
 use Rattle.json_api.specs.Line.{Tells, AreSlots, ReadsValue}
-use Rattle.json_api.specs.Passes.{IsMember, AreMembers}
+use Rattle.json_api.specs.inner.Passes.{IsMember, AreMembers}
 use Rattle.json_api.proofs.Named.{field_named-name_of}
 use Rattle.json_api.proofs.Others.{none_other, first_left-other}
 

@@ -10,9 +10,9 @@ use Rattle.json_api.specs.declared.fields.Field.{Field}
 use Rattle.json_api.specs.declared.slots.Slot.{Slot}
 use Rattle.json_api.specs.declared.slots.Slot.TheVariants.{Absent}
 use Rattle.json_api.specs.Names.{name_of, place_of, kind_of, fields, field_named}
-use Rattle.json_api.specs.Slots.{slot_at}
+use Rattle.json_api.specs.inner.Slots.{slot_at}
 use Rattle.json_api.specs.Line.{Says, Tells}
-use Rattle.json_api.specs.Passes.{IsMember, AreMembers}
+use Rattle.json_api.specs.inner.Passes.{IsMember, AreMembers}
 use Rattle.json_api.proofs.Named.{first_named-is, field_named-name_of, same_place}
 
 no_member : (slots : List Slot) → ((f : Field) → slot_at slots f ≡ Absent) → (found : Option Field) → IsMember found None slots

@@ -1,8 +1,6 @@
 -- No line is read in two ways.
-use mathlib.Core.HLevel.{is_prop→PathP}
 use Rattle.std.proofs.Common.{◌≡◌, ℕ, ◌<◌, ◌^◌, List, [], ◌∷◌, Option, Some, None, IsSomeAnd, inl, inr, refl, sym, ap, subst, ◌∙◌}
 use Rattle.std.specs.Prelude.{Result, codes, option_and_then}
-use Rattle.std.proofs.Props.{props}
 use Rattle.serde_json.specs.Data.{Data, Items, no_items, item}
 use Rattle.serde_json.specs.Find.{get, as_str, as_array, as_number, as_u64}
 use Rattle.serde_json.specs.Read.{read}
@@ -27,6 +25,7 @@ use Rattle.json_api.specs.Names.{name_of, kind_of}
 use Rattle.json_api.specs.Rows.{Slots, as_row, as_name, as_number as number_in, as_resources, as_origins}
 use Rattle.json_api.specs.Table.{row_named, line_of}
 use Rattle.json_api.specs.Line.{AreOriginTexts, IsSetText, AreResources, Says, Tells, AreSlots, ReadsValue, ReadsLine}
+use Rattle.res_sets.specs.laws.SetLaws.{same_resources}
 
 -- what is known of the texts of sets and of origins
 pub record TextsOnce : Type 0 where
@@ -74,19 +73,6 @@ origins_once once (item v vs) (o ∷ os) (p ∷ ps) x y =
 set_once : TextsOnce → (family : Family) (found : Option Data) (a b : RangeSet) → IsSetText family found a → IsSetText family found b → a ≡ b
 set_once once family None a b x y = x ∙ sym y
 set_once once family (Some value) a b x y = held_once (Spells family) (as_str value) a b (λ text. once.set family text a b) x y
-
-family_prop : (f g : Family) → IsProp (f ≡ g)
-family_prop f g = hlevel props
-
-same_resources : (g h : Resources) → g.asn ≡ h.asn → g.v4 ≡ h.v4 → g.v6 ≡ h.v6 → g ≡ h
-same_resources g h a b d = λ i. record {
-  asn = a i;
-  v4 = b i;
-  v6 = d i;
-  asn_family = is_prop→PathP (λ j. (a j).family ≡ Asn) (λ j. family_prop (a j).family Asn) g.asn_family h.asn_family i;
-  v4_family = is_prop→PathP (λ j. (b j).family ≡ V4) (λ j. family_prop (b j).family V4) g.v4_family h.v4_family i;
-  v6_family = is_prop→PathP (λ j. (d j).family ≡ V6) (λ j. family_prop (d j).family V6) g.v6_family h.v6_family i;
-}
 
 resources_once : TextsOnce → (value : Data) (g h : Resources) → AreResources value g → AreResources value h → g ≡ h
 resources_once once value g h x y = same_resources g h

@@ -17,9 +17,9 @@ use Rattle.json_api.specs.declared.slots.Slot.{Slot}
 use Rattle.json_api.specs.declared.slots.Slot.TheVariants as slot
 use Rattle.json_api.specs.Names.{name_of, place_of, kind_of, fields, is_among, field_named}
 use Rattle.json_api.specs.Table.{fields_of, takes, takes_some, is_member, first_other}
-use Rattle.json_api.specs.Slots.{slot_at, is_absent, left_of, is_taken, are_taken, is_taken_some, first_left}
+use Rattle.json_api.specs.inner.Slots.{slot_at, is_absent, left_of, is_taken, are_taken, is_taken_some, first_left}
 use Rattle.json_api.specs.Line.{Says, Tells, AreSlots}
-use Rattle.json_api.specs.Passes.{IsMember, AreMembers}
+use Rattle.json_api.specs.inner.Passes.{IsMember, AreMembers}
 use Rattle.json_api.proofs.Named.{first_named-is}
 
 both : (a b : Bool) → (a && b) ≡ true → (a ≡ true) × (b ≡ true)

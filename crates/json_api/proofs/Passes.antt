@@ -10,11 +10,11 @@ use Rattle.json_api.proofs.Turns.{converted-array, converted-object, item_read, 
 use Rattle.origins.specs.declared.Origin.{Origin}
 use Rattle.origins.specs.Origin.{SpellsOrigin}
 use Rattle.json_api.specs.Line.{AreOriginTexts}
-use Rattle.json_api.specs.Passes.{ReadsValue, ReadsItems, ReadsMembers, AreMembers}
+use Rattle.json_api.specs.inner.Passes.{ReadsValue, ReadsItems, ReadsMembers, AreMembers}
 use Rattle.json_api.specs.declared.slots.Slot.{Slot}
 use Rattle.json_api.specs.declared.slots.Slot.TheVariants.{Absent}
 use Rattle.json_api.specs.declared.fields.Field.{Field}
-use Rattle.json_api.specs.Slots.{slot_at}
+use Rattle.json_api.specs.inner.Slots.{slot_at}
 use Rattle.json_api.proofs.Members.{AreMembers-none}
 
 -- ---- values

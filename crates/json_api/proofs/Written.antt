@@ -3,7 +3,7 @@ use Rattle.std.proofs.Common.{ℕ, ◌≡◌, List, [], ◌∷◌, ◌++◌, app
 use Rattle.json.specs.Token.{Token}
 use Rattle.json.specs.Print.{print, print_from, escape_byte, quoted}
 use Rattle.json_api.specs.Reply.{refusal_spelling}
-use Rattle.json_api.specs.Tokens.{refusal_tokens}
+use Rattle.json_api.specs.inner.Tokens.{refusal_tokens}
 
 regroup-7 : (a b c d e f g : List ℕ) → (((((a ++ b) ++ c) ++ d) ++ e) ++ f) ++ g ≡ a ++ (b ++ (c ++ (d ++ (e ++ (f ++ g)))))
 regroup-7 a b c d e f g = simp append_assoc

@@ -1,12 +1,8 @@
 pub mod Names
-pub mod MemberName
 pub mod Rows
 pub mod Table
-pub mod Slots
 pub mod Line
-pub mod Passes
 pub mod Reply
-pub mod Tokens
 pub mod Refused
 pub mod Texts
-pub mod Members
+pub mod inner

@@ -1,4 +1,4 @@
-//! The members that lines have, and the rows of the table of lines.
+//! The members that lines have, and the rows of the table of lines (RFC 8259 section 4).
 
 ghost use Rattle.std.specs.Prelude.{◌≡◌};
 ghost use Rattle.json_api.specs.Names.{name_of, place_of, kind_of, field_named};

@@ -1,8 +1,8 @@
-//! The reply to `history commands`: each command's line, with all its fields.
+//! The reply to `history commands`: each command's line, with all its fields (RFC 8259 section 4).
 
 ghost use Rattle.std.specs.Prelude.{◌≡◌, ◌+◌, ◌<◌, ◌^◌, ◌++◌, ◌∷◌, [], length, map, IfOk, OnOk, codes};
 ghost use Rattle.json_api.specs.Texts.{commas, named_line, row_line, signer_line, held_line, origins_line, origins_text, origin_member, line_text, history_line, history_lines, history_spelling};
-ghost use Rattle.json_api.specs.Members.{value_text, member_line};
+ghost use Rattle.json_api.specs.inner.Members.{value_text, member_line};
 
 use crate::fields::{Field, Row};
 use crate::texts::{push_number, push_origin, push_quoted, push_resources};

@@ -1,4 +1,4 @@
-//! Commands as lines of JSON, and the replies to them.
+//! Commands as lines of JSON (RFC 8259), and the replies to them.
 #![tactic(auto)]
 
 mod fields;

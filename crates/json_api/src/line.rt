@@ -1,11 +1,12 @@
-//! Lines: one JSON object each, which gives a command to an authority or asks for something.
+//! Lines: one JSON object each (RFC 8259 section 4), which gives a command to an authority or asks
+//! for something.
 
 ghost use Rattle.std.specs.Prelude.{◌≡◌, ◌≢◌, ◌⊎◌, ℕ, List, Result, IfOk, IfSome, MatchResult, Some, None, Ok, Err, IsUtf8, string_bytes};
 ghost use Rattle.serde_json.specs.Data.{Data, object, Members};
 ghost use Rattle.serde_json.specs.Read.{read};
 ghost use Rattle.serde_json.specs.View.{view};
 ghost use Rattle.json_api.specs.Names.{name_of};
-ghost use Rattle.json_api.specs.Slots.{slot_at};
+ghost use Rattle.json_api.specs.inner.Slots.{slot_at};
 ghost use Rattle.json_api.specs.Table.{only};
 ghost use Rattle.json_api.specs.Line.{ReadsLine, ReadsValue};
 ghost use Rattle.json_api.specs.declared.line.LineFault.TheVariants.{Memory};
@@ -59,7 +60,7 @@ enum Text {
 
 impl Model for MemberName {
     ghost use Rattle.std.specs.Prelude.{ℕ, List};
-    ghost use Rattle.json_api.specs.MemberName.{text_of};
+    ghost use Rattle.json_api.specs.inner.MemberName.{text_of};
 
     ghost Value = { List ℕ };
 
@@ -156,7 +157,8 @@ impl LineReader {
     }
 
     /// Reads a line, without its line feed: one JSON object as `serde_json` reads it, with the
-    /// members that the table has for its `command`. Of equal members the last counts.
+    /// members that the table has for its `command`. Of equal members the last counts. A fault is
+    /// told in this order: `BadLine`, `UnknownCommand`, `BadField`; `Memory` may come at any time.
     pub fn read(&mut self, alloc: Global, line: &[u8]) -> Result<Line, LineFault>
         ensures { result ≢ Err Memory → ReadsLine line.now result }
     {

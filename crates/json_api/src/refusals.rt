@@ -22,7 +22,8 @@ pub const MEMORY_REPLY: &str = "{\"code\":40,\"detail\":\"\",\"refused\":\"Memor
 // Room for the longest refusal that needs no escape.
 const REFUSAL_ROOM: usize = 200;
 
-/// Why a line gets no other reply. Telling it takes no memory.
+/// Why a line gets no other reply. Telling it takes no memory. `held` and `needed` are in bytes,
+/// `now` is in seconds since 1970, and devices and signers are numbered from 0.
 #[derive(Clone, Copy, Debug, PartialEq, Eq)]
 pub enum Refused {
     /// No authority has that name.

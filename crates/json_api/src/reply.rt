@@ -1,8 +1,9 @@
-//! The replies, each one object of compact JSON with its members in byte order.
+//! The replies, each one object of compact JSON with its members in byte order (RFC 8259 section
+//! 4).
 
 ghost use Rattle.std.specs.Prelude.{◌≡◌, ◌+◌, ◌≤◌, ◌++◌, decimal, length, vec_len, vec_capacity, IfOk, OnOk};
 ghost use Rattle.json_api.specs.Reply.{accepted_spelling, published_spelling, serial_spelling, refusal_spelling};
-ghost use Rattle.json_api.specs.Tokens.{text_member, number_member, refusal_tokens};
+ghost use Rattle.json_api.specs.inner.Tokens.{text_member, number_member, refusal_tokens};
 
 use json::Writer;
 use names::Name;
@@ -11,6 +12,7 @@ use std::alloc::{AllocError, Global};
 /// What a publication comes to.
 #[derive(Clone, Copy, Debug, PartialEq, Eq)]
 pub struct Published {
+    /// The serial of the edition.
     pub serial: u64,
     /// Seconds since 1970.
     pub moment: u64,
@@ -69,7 +71,8 @@ fn write_number(out: &mut Writer, name: &str, n: u64) -> Result<(), AllocError>
     Ok(())
 }
 
-/// Appends the reply to an accepted command, in the room that is there.
+/// Appends the reply to an accepted command, in the room that is there. `count` is how many
+/// commands of the authority are accepted.
 pub fn accepted_into(out: &mut Vec<u8>, name: &Name, count: u64)
     requires { vec_len out.old + 200 ≤ vec_capacity out.old }
     ensures text { out.new.items ≡ out.old.items ++ accepted_spelling name.now count }
@@ -102,7 +105,7 @@ pub fn published_into(out: &mut Vec<u8>, published: &Published)
     append(out, b"}");
 }
 
-/// Appends the reply to `serial`, in the room that is there.
+/// Appends the reply to `serial`, in the room that is there. It is 0 before the first edition.
 pub fn serial_into(out: &mut Vec<u8>, serial: u64)
     requires { vec_len out.old + 200 ≤ vec_capacity out.old }
     ensures text { out.new.items ≡ out.old.items ++ serial_spelling serial }

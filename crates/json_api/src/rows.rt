@@ -2,14 +2,14 @@
 
 ghost use Rattle.std.specs.Prelude.{◌≡◌, ◌≢◌, Err, OnOk};
 ghost use Rattle.json_api.specs.Table.{anchor, fields_of, line_at};
-ghost use Rattle.json_api.specs.Slots.{slot_at, left_of};
+ghost use Rattle.json_api.specs.inner.Slots.{slot_at, left_of};
 ghost use Rattle.json_api.specs.declared.line.LineFault.TheVariants.{Memory};
 
 use crate::fields::{Field, Row};
 use crate::line::{Line, LineFault};
 use crate::slots::Slots;
 use authority_book::Command;
-use names::Name;
+use names::{ANCHOR, Name};
 use std::alloc::Global;
 
 impl Row {
@@ -41,7 +41,7 @@ impl Row {
 fn anchor() -> Name
     ensures { result ≡ anchor }
 {
-    match Name::read("ta") {
+    match Name::read(ANCHOR) {
         Some(name) => name,
         None => unreachable!(),
     }

@@ -3,7 +3,7 @@
 ghost use Rattle.std.specs.Prelude.{◌≡◌, ◌≢◌, [], ℕ, ◌<◌, Err, Some, None, slice_set, get_or, length};
 ghost use Rattle.json_api.specs.Names.{name_of, place_of, field_named};
 ghost use Rattle.json_api.specs.Rows.{as_row, held_or, of_field};
-ghost use Rattle.json_api.specs.Slots.{slot_at, is_taken, are_taken, is_taken_some};
+ghost use Rattle.json_api.specs.inner.Slots.{slot_at, is_taken, are_taken, is_taken_some};
 ghost use Rattle.json_api.specs.declared.line.LineFault.TheVariants.{BadField, Memory};
 
 use crate::fields::{FIELDS, Field, Kind, Row};

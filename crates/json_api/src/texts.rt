@@ -1,5 +1,5 @@
 //! The replies that tell of authorities, each one object of compact JSON with its members in byte
-//! order.
+//! order (RFC 8259 section 4).
 
 ghost use Rattle.std.specs.Prelude.{◌≡◌, ◌+◌, ◌++◌, List, map, IfOk, OnOk, codes, decimal};
 ghost use Rattle.json.specs.Print.{quoted};
@@ -35,6 +35,7 @@ pub struct Shown {
     pub authority: Name,
     pub certified: Resources,
     pub parent: Option<Name>,
+    /// The serial of the last edition, and 0 before the first one.
     pub serial: u64,
     pub stage: StageWord,
 }
@@ -155,7 +156,8 @@ fn stage_word(stage: StageWord) -> &'static [u8]
     }
 }
 
-/// The text of an authority's origins, in their order.
+/// The text of an authority's origins, in their order. `serial` is that of the last edition, and 0
+/// before the first one.
 pub fn roas_text(
     alloc: Global,
     authority: &Name,

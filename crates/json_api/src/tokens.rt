@@ -6,9 +6,9 @@ ghost use Rattle.serde_json.specs.Data.{Data, string, object, Items, Members, pu
 ghost use Rattle.serde_json.specs.Read.{read};
 ghost use Rattle.origins.specs.Origin.{SpellsOrigin};
 ghost use Rattle.json_api.specs.Line.{Says, AreOriginTexts};
-ghost use Rattle.json_api.specs.Slots.{slot_at};
+ghost use Rattle.json_api.specs.inner.Slots.{slot_at};
 ghost use Rattle.json_api.specs.Names.{kind_of};
-ghost use Rattle.json_api.specs.Passes.{ReadsValue, ReadsItems, ReadsMembers, AreMembers};
+ghost use Rattle.json_api.specs.inner.Passes.{ReadsValue, ReadsItems, ReadsMembers, AreMembers};
 
 use crate::fields::{Field, Kind, Row};
 use crate::slots::{Slot, Slots};

@@ -1,4 +1,4 @@
-//! What values of `serde_json` say as members of a line.
+//! What values of `serde_json` say as members of a line (RFC 8259 section 3).
 
 ghost use Rattle.std.specs.Prelude.{◌≡◌, ◌<◌, ◌^◌, ℕ, List, IfOk, MatchOption, MatchResult, Some, None, option_map, option_and_then, true, IsSomeAnd, string_bytes, IsTrue, ◌↔◌};
 ghost use Rattle.std.specs.BTreeMap.{keys};
@@ -11,7 +11,7 @@ ghost use Rattle.res_sets.specs.declared.holdings.Resources.{Resources};
 ghost use Rattle.origins.specs.declared.Origin.{Origin};
 ghost use Rattle.origins.specs.Origin.{SpellsOrigin};
 ghost use Rattle.json_api.specs.Names.{name_of, kind_of};
-ghost use Rattle.json_api.specs.Slots.{slot_at, first_left};
+ghost use Rattle.json_api.specs.inner.Slots.{slot_at, first_left};
 ghost use Rattle.json_api.specs.Line.{Tells, AreSlots, AreResources, IsSetText, is_set_name, all_names, IsOriginText, AreOriginTexts};
 
 use crate::fields::{Field, Kind, Row};

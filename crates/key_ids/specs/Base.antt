@@ -1,4 +1,4 @@
--- The bases of a repository's URIs.
+-- The bases of a repository's URIs (RFC 3986 section 3, RFC 5781).
 use Rattle.std.specs.Prelude.{ℕ, ◌≤◌, List, length, Bool, ◌||◌, ◌==◌, IsTrue, nat_eq, codes}
 use Rattle.std.specs.Char.{is_ascii_alphanumeric}
 use Rattle.std.specs.List.{AllPass, starts_with, ends_with}

@@ -1,3 +1,3 @@
 pub mod Base
-pub mod Places
+pub mod Uris
 pub mod Refusal

@@ -1,4 +1,4 @@
-//! Identifiers of keys.
+//! Identifiers of keys (RFC 6487 section 4.8.2).
 
 ghost use Rattle.std.specs.Prelude.{◌≡◌};
 ghost use Rattle.sha1.specs.Sha1.{sha1};

@@ -1,4 +1,5 @@
-//! Identifiers of keys, and the URIs at which a repository's objects stand.
+//! Identifiers of keys (RFC 6487 section 4.8.2), and the URIs at which a repository's objects stand
+//! (RFC 6481 section 2).
 #![tactic(auto)]
 
 mod identifier;

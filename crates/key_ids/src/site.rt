@@ -1,11 +1,11 @@
-//! Where a repository's objects stand.
+//! Where a repository's objects stand (RFC 6481 section 2).
 
 ghost use Rattle.std.specs.Prelude.{◌≡◌, ◌↔◌, ◌⊎◌, ◌++◌, IfOk, IfErr, IsTrue, string_bytes, codes};
 ghost use Rattle.hex.specs.Hex.{encode_lower};
 ghost use Rattle.key_ids.specs.Base.{IsBase, is_base_byte, rsync_scheme, https_scheme};
 ghost use Rattle.key_ids.specs.Refusal.{IsRefusal};
-ghost use Rattle.key_ids.specs.Places.{Bases, folder_of, file_uri, anchor_uri, cert_uri};
-ghost use Rattle.key_ids.specs.Places.{crl_uri, manifest_uri, notify_uri};
+ghost use Rattle.key_ids.specs.Uris.{Bases, folder_of, file_uri, anchor_uri, cert_uri};
+ghost use Rattle.key_ids.specs.Uris.{crl_uri, manifest_uri, notify_uri};
 
 use crate::identifier::KeyId;
 use std::alloc::{AllocError, Global};
@@ -13,7 +13,8 @@ use std::marker::Model;
 use thiserror::Error;
 
 /// The bases of a repository: the rsync folder below which its objects stand, and the https folder
-/// of its RRDP files.
+/// of its RRDP files. Below the first is an authority's publication point (RFC 6481 section 2.2),
+/// and in the second the notification file (RFC 8182 section 3.2).
 #[derive(Drop)]
 pub struct Site {
     rsync: String,
@@ -92,8 +93,8 @@ fn joined(
 }
 
 impl Site {
-    /// Reads the two bases. Each has 12 to 200 letters, digits and `-._~/:`, begins with
-    /// `rsync://` or `https://`, and ends with `/`.
+    /// Reads the two bases. Each has 12 to 200 letters, digits and `-._~/:`, begins with `rsync://`
+    /// or `https://`, and ends with `/`. Lengths are in bytes. The rsync base is tested first.
     pub fn read(alloc: Global, rsync: &str, rrdp: &str) -> Result<Site, SiteFault>
         ensures site { IfOk result (λ site. site ≡ record { rsync = rsync.now; rrdp = rrdp.now }) }
         ensures bases { IfOk result (λ _. IsBase rsync_scheme rsync.now × IsBase https_scheme rrdp.now) }
@@ -127,14 +128,14 @@ impl Site {
         self.rrdp.as_str()
     }
 
-    /// The URI of the trust anchor's certificate.
+    /// The URI of the trust anchor's certificate (RFC 8630 section 2.2).
     pub fn anchor_uri(&self, alloc: Global) -> Result<String, AllocError>
         ensures { IfOk result (λ uri. string_bytes uri ≡ anchor_uri self.now) }
     {
         joined(alloc, self.rsync.as_str(), "ta.cer", "", "")
     }
 
-    /// The URI of an authority's folder, which ends with `/`.
+    /// The URI of an authority's folder, which ends with `/` (RFC 6487 section 4.8.8.1).
     pub fn folder(&self, alloc: Global, name: &str) -> Result<String, AllocError>
         ensures { IfOk result (λ uri. string_bytes uri ≡ folder_of self.now name.now) }
     {
@@ -165,28 +166,29 @@ impl Site {
         Ok(uri)
     }
 
-    /// The URI of the certificate of an authority's key, in the folder of its parent.
+    /// The URI of the certificate of an authority's key, in the folder of its parent (RFC 6487
+    /// section 4.8.7).
     pub fn cert_uri(&self, alloc: Global, parent: &str, key: &KeyId) -> Result<String, AllocError>
         ensures { IfOk result (λ uri. string_bytes uri ≡ cert_uri self.now parent.now key.now.bytes) }
     {
         self.key_uri(alloc, parent, key, ".cer")
     }
 
-    /// The URI of a key's CRL.
+    /// The URI of a key's CRL (RFC 6487 section 4.8.6).
     pub fn crl_uri(&self, alloc: Global, name: &str, key: &KeyId) -> Result<String, AllocError>
         ensures { IfOk result (λ uri. string_bytes uri ≡ crl_uri self.now name.now key.now.bytes) }
     {
         self.key_uri(alloc, name, key, ".crl")
     }
 
-    /// The URI of a key's manifest.
+    /// The URI of a key's manifest (RFC 6487 section 4.8.8.1).
     pub fn manifest_uri(&self, alloc: Global, name: &str, key: &KeyId) -> Result<String, AllocError>
         ensures { IfOk result (λ uri. string_bytes uri ≡ manifest_uri self.now name.now key.now.bytes) }
     {
         self.key_uri(alloc, name, key, ".mft")
     }
 
-    /// The URI of the notification file.
+    /// The URI of the notification file (RFC 8182 section 3.2).
     pub fn notify_uri(&self, alloc: Global) -> Result<String, AllocError>
         ensures { IfOk result (λ uri. string_bytes uri ≡ notify_uri self.now) }
     {

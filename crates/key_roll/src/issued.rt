@@ -1,4 +1,5 @@
-//! What stands published.
+//! What stands published. Certificates, CRLs and signed objects (RFC 6481 section 2.2), each with
+//! what revoking it takes.
 
 use items::Items;
 use key_ids::KeyId;
@@ -18,7 +19,8 @@ pub struct IssuedRow {
     pub uri: Uri,
     /// The key that issued it.
     pub issuer: KeyId,
-    /// The serial of the certificate, or of the end-entity certificate in a signed object.
+    /// The serial of the certificate, or of the end-entity certificate in a signed object. A CRL
+    /// has 0.
     pub serial: u64,
     /// The notAfter of that certificate, in seconds since 1970.
     pub not_after: u64,

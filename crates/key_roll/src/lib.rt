@@ -1,5 +1,5 @@
-//! What an edition knows of the keys of its authorities, what stands published, and the work of the next
-//! edition, as plain types.
+//! What an edition knows of the keys of its authorities, what stands published, and the work of the next edition,
+//! as plain types (RFC 6489 section 2).
 #![tactic(auto)]
 
 mod issued;
@@ -7,5 +7,5 @@ mod rows;
 mod work;
 
 pub use issued::{Issued, IssuedRow, What};
-pub use rows::{KeyRow, RevokedRow, Role};
+pub use rows::{KeyRow, RevokedRow, Role, is_role};
 pub use work::{CertWork, KeyName, NewKey, PointWork, RoaWork, RoleWork, Work};

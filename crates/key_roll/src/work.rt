@@ -16,13 +16,13 @@ pub struct Work {
     pub new_keys: Items<NewKey>,
     /// The live keys that stay and whose role, `since` or `done` changes.
     pub roles: Items<RoleWork>,
-    /// The certificates to issue.
+    /// The certificates to issue (RFC 6487).
     pub certs: Items<CertWork>,
-    /// The ROAs to issue.
+    /// The ROAs to issue (RFC 9582).
     pub roas: Items<RoaWork>,
-    /// The keys whose CRL and manifest are to be issued.
+    /// The keys whose CRL and manifest are to be issued (RFC 9286 section 5.1).
     pub points: Items<PointWork>,
-    /// The URIs of the objects that go.
+    /// The URIs of the objects that go (RFC 8181 section 2.2).
     pub withdrawn: Items<Uri>,
     /// The keys that end.
     pub dropped: Items<KeyId>,
@@ -42,7 +42,7 @@ pub enum KeyName {
 pub struct NewKey {
     /// The authority's desk.
     pub desk: u32,
-    /// The signer that is to make it.
+    /// The signer that is to make it. Signers are numbered from 0.
     pub signer: u32,
     pub role: Role,
     /// As in the key's row.
@@ -62,7 +62,7 @@ pub struct RoleWork {
     pub done: u32,
 }
 
-/// A certificate to issue for a key of an authority.
+/// A certificate to issue for a key of an authority (RFC 6487 section 4).
 #[derive(Debug, Drop)]
 pub struct CertWork {
     /// The key that is certified.
@@ -73,7 +73,7 @@ pub struct CertWork {
     pub held: Resources,
 }
 
-/// A ROA to issue.
+/// A ROA to issue (RFC 9582 section 4).
 #[derive(Clone, Copy, Debug, PartialEq, Eq)]
 pub struct RoaWork {
     /// The key that signs the ROA's end-entity certificate.
@@ -81,7 +81,7 @@ pub struct RoaWork {
     pub origin: Origin,
 }
 
-/// A CRL and a manifest to issue.
+/// A CRL and a manifest to issue (RFC 9286 section 5.1).
 #[derive(Clone, Copy, Debug, PartialEq, Eq)]
 pub struct PointWork {
     pub key: KeyName,

@@ -16,13 +16,13 @@ use Rattle.gate_journal.specs.Format.{held_by}
 use Rattle.gate_journal.specs.Storing.{stored, entry_bytes}
 use Rattle.desk_core.specs.View.{View, journal_limit}
 use Rattle.desk_core.specs.Commands.{Records, HasCommands}
-use Rattle.desk_core.specs.Answers.{HasPlace as HasDeskPlace, needed_for, IsDeskFault, IsFaultAnswer}
+use Rattle.desk_core.specs.Answers.{CanCommit as HasDeskPlace, needed_for, IsDeskFault, IsFaultAnswer}
 use Rattle.desk_core.specs.declared.faults.DeskFault.{DeskFault}
 use Rattle.desk_core.specs.declared.faults.DeskFault.TheVariants.{Shut, Verdict, JournalFull, DiskFault, Memory}
-use Rattle.krill_top.specs.Seen.{Seen, DeskState, desk_named}
-use Rattle.krill_top.specs.Outcomes.{Outcome, HasPlace, Does, CommandedAt, Commanded, command_fault_of, fault_outcome}
+use Rattle.krill_top.specs.DeskStates.{DeskStates, DeskState, desk_named}
+use Rattle.krill_top.specs.Outcomes.{Outcome, CanBeAccepted, Does, CommandedAt, Commanded, command_fault_of, fault_outcome}
 use Rattle.krill_top.specs.Outcomes.Outcome.{Accepted, NoSuchAuthority}
-use Rattle.krill_top.specs.Stands.{IsIn, AreIn, GoesOn, Leads}
+use Rattle.krill_top.specs.Stands.{IsIn, AreIn, DeskGoesOn, Leads}
 use Rattle.krill_top.proofs.Granted.{granted_accepted}
 use Rattle.krill_top.proofs.Standing.{At, at_place, settings_in, in_set, one_stored, goes_same, go_on_set, stay}
 
@@ -46,13 +46,13 @@ module _ {D : Type 0} (disk_of : DiskGhosts D) (number : ℕ) (command : Command
     pub is : DeskState
     pub does : Does number command signers outcome was is
     pub stands : IsIn number new is
-    pub goes : GoesOn disk_of old.disk new.disk was is
+    pub goes : DeskGoesOn disk_of old.disk new.disk was is
 
   judged : (old : View D) (was : DeskState) (v : Result (Unit {0}) Refusal) → IsIn number old was → verdict_of old.settings command (Some signers) ≡ v
       → verdict_of (fold_of number was.commands) command (Some signers) ≡ v
   judged old was v stands is = ap (λ (s : Settings). verdict_of s command (Some signers)) (sym (settings_in number old was stands)) ∙ is
 
-  placed : (old : View D) (was : DeskState) → IsIn number old was → HasDeskPlace old command signers → HasPlace number was command signers
+  placed : (old : View D) (was : DeskState) → IsIn number old was → HasDeskPlace old command signers → CanBeAccepted number was command signers
   placed old was stands place = record {
     may_come = record { is_open = stands.shut.0 place.may_come.is_open; verdict = judged old was (Ok tt) stands place.may_come.verdict };
     fits = subst (λ (r : List (List ℕ)). held_by r + needed_for command ≤ journal_limit) stands.commands.recorded.spelled place.fits;
@@ -104,8 +104,8 @@ module _ {D : Type 0} (disk_of : DiskGhosts D) (number : ℕ) (command : Command
   unchanged : (old new : View D) (was : DeskState) → new ≡ old → IsIn number old was → IsIn number new was
   unchanged old new was same stands = subst (λ (d : View D). IsIn number d was) (sym same) stands
 
-  goes_unchanged : (old new : View D) (was : DeskState) → new ≡ old → GoesOn disk_of old.disk new.disk was was
-  goes_unchanged old new was same = subst (λ (d : View D). GoesOn disk_of old.disk d.disk was was) (sym same) (goes_same disk_of old.disk was)
+  goes_unchanged : (old new : View D) (was : DeskState) → new ≡ old → DeskGoesOn disk_of old.disk new.disk was was
+  goes_unchanged old new was same = subst (λ (d : View D). DeskGoesOn disk_of old.disk d.disk was was) (sym same) (goes_same disk_of old.disk was)
 
   -- the state after a fault that shut the journal
   in_doubt : (old new : View D) (rose : ℕ × (ℕ × ℕ)) (was : DeskState) → IsFaultAnswer disk_of rose command signers old new → IsAccepted (fold_of number was.commands) command → IsIn number old was
@@ -177,7 +177,7 @@ module _ {D : Type 0} (disk_of : DiskGhosts D) (number : ℕ) (command : Command
   }
 
   pub commanded : (name : List ℕ) (outcome : Outcome) (desks : List (View D)) (old new : View D) → slice_get desks number ≡ Some old
-      → ((seen : Seen) → AreIn desks seen → Some number ≡ desk_named seen name) → ((was : DeskState) → IsIn number old was → Step outcome old new was)
+      → ((desk_states : DeskStates) → AreIn desks desk_states → Some number ≡ desk_named desk_states name) → ((was : DeskState) → IsIn number old was → Step outcome old new was)
       → Leads disk_of (λ b a. Commanded name command signers outcome b a) desks (slice_set desks number new)
   commanded name outcome desks old new here named steps before all =
       let at : At before number old = at_place desks before number old all here in
@@ -190,7 +190,7 @@ module _ {D : Type 0} (disk_of : DiskGhosts D) (number : ℕ) (command : Command
         disks = go_on_set disk_of desks before number old new step.is all here at step.goes;
       }
 
-  pub not_named : (name : List ℕ) (desks : List (View D)) → ((seen : Seen) → AreIn desks seen → None ≡ desk_named seen name)
+  pub not_named : (name : List ℕ) (desks : List (View D)) → ((desk_states : DeskStates) → AreIn desks desk_states → None ≡ desk_named desk_states name)
       → Leads disk_of (λ b a. Commanded name command signers NoSuchAuthority b a) desks desks
   not_named name desks named =
       stay disk_of (λ b a. Commanded name command signers NoSuchAuthority b a) desks

@@ -9,14 +9,14 @@ use Rattle.cmd_codec.specs.Spelling.{spelling}
 use Rattle.desk_core.specs.View.{View, journal_limit}
 use Rattle.desk_core.specs.Commands.{Records, HasCommands}
 use Rattle.desk_core.specs.Images.{RecoversTo, RecoversToKnown}
-use Rattle.fault_count.specs.Rise.{HasRisen}
+use Rattle.host_calls.specs.Rise.{HasRisen}
 use Rattle.disk_api.specs.Runs.{LeavesOnly}
 use Rattle.disk_api.specs.declared.disk.Disk.{Ghosts as DiskGhosts}
 use Rattle.desk_core.specs.Commands.{IsFirstBad}
 use Rattle.desk_core.specs.declared.faults.DeskOpenFault.{DeskOpenFault}
 use Rattle.desk_core.specs.declared.faults.DeskOpenFault.TheVariants.{Damaged, BadRecord, DiskFault, Memory}
-use Rattle.krill_top.specs.Desks.{RecoveredTo, IsSafe, IsKept, AreKept, IsCause, RecoversAsBefore, StopsAt}
-use Rattle.krill_top.specs.Opened.{IsOpened, IsClosed, AreOpened, AreClosed, opening_fault_of}
+use Rattle.krill_top.specs.Desks.{RecoveredTo, IsSafe, IsUntouchedDesk, AreUntouchedDesks, IsCause, RecoversAsBefore, StopsAt}
+use Rattle.krill_top.specs.inner.Opened.{IsOpened, IsClosed, AreOpened, AreClosed, opening_fault_of}
 
 module _ {D : Type 0} (disk_of : DiskGhosts D) where
   -- one desk more was opened
@@ -63,7 +63,7 @@ module _ {D : Type 0} (disk_of : DiskGhosts D) where
   }
 
   -- a desk that was opened and closed again kept its commands
-  kept_one : (number : ℕ) (old : D) (desk : View D) (new : D) → IsOpened disk_of number old desk → IsClosed disk_of desk new → IsKept disk_of number old new
+  kept_one : (number : ℕ) (old : D) (desk : View D) (new : D) → IsOpened disk_of number old desk → IsClosed disk_of desk new → IsUntouchedDesk disk_of number old new
   kept_one number old desk new opened closed =
       let commands = opened.commands.0 in
       let has : HasCommands desk commands = opened.commands.1 in
@@ -76,7 +76,7 @@ module _ {D : Type 0} (disk_of : DiskGhosts D) where
       }
 
   pub kept_all : (number : ℕ) (olds : List D) (desks : List (View D)) (news : List D) → AreOpened disk_of number olds desks → AreClosed disk_of desks news
-      → AreKept disk_of number olds news
+      → AreUntouchedDesks disk_of number olds news
   kept_all number [] [] [] opened closed = tt
   kept_all number [] [] (n ∷ ns) opened closed = absurd closed
   kept_all number [] (d ∷ ds) news opened closed = absurd opened

@@ -8,7 +8,7 @@ pub mod Lists
 pub mod Since
 pub mod Named
 pub mod Publishing
-pub mod FirstWorld
+pub mod FirstInstanceState
 pub mod Reading
 pub mod Answering
 pub mod Sessions

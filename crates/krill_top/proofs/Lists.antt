@@ -10,9 +10,9 @@ use Rattle.entitle.specs.Certified.{names_of}
 use Rattle.editions.specs.Step.{configs_from, configs_at, AreMore}
 use Rattle.disk_api.specs.declared.disk.Disk.{Ghosts as DiskGhosts}
 use Rattle.desk_core.specs.View.{View}
-use Rattle.krill_top.specs.Seen.{Seen, DeskState, commands_at, names_in}
-use Rattle.krill_top.specs.World.{lists_of}
-use Rattle.krill_top.specs.Stands.{InAt, AreIn, GoesOnAt, GoOn}
+use Rattle.krill_top.specs.DeskStates.{DeskStates, DeskState, commands_at, names_in}
+use Rattle.krill_top.specs.InstanceState.{lists_of}
+use Rattle.krill_top.specs.Stands.{InAt, AreIn, DeskGoesOnAt, DesksGoOn}
 use Rattle.krill_top.specs.Publishing.{TakesAll}
 
 -- ---- one list after another
@@ -36,23 +36,23 @@ in_both number None (Some state) is = is
 in_both number (Some desk) None is = is
 in_both number (Some desk) (Some state) is = tt
 
-pub as_many : {D : Type 0} (desks : List (View D)) (seen : Seen) → AreIn desks seen → length desks ≡ length seen
-as_many desks seen all = same_length desks seen (λ k. in_both k (slice_get desks k) (slice_get seen k) (all k))
+pub as_many : {D : Type 0} (desks : List (View D)) (desk_states : DeskStates) → AreIn desks desk_states → length desks ≡ length desk_states
+as_many desks desk_states all = same_length desks desk_states (λ k. in_both k (slice_get desks k) (slice_get desk_states k) (all k))
 
 -- ---- the list of a desk
 
-pub list_at : (seen : Seen) (desk : ℕ) → get_or (lists_of seen) desk [] ≡ commands_at seen desk
+pub list_at : (desk_states : DeskStates) (desk : ℕ) → get_or (lists_of desk_states) desk [] ≡ commands_at desk_states desk
 list_at [] desk = refl
-list_at (state ∷ seen) zero = refl
-list_at (state ∷ seen) (suc desk) = list_at seen desk
+list_at (state ∷ desk_states) zero = refl
+list_at (state ∷ desk_states) (suc desk) = list_at desk_states desk
 
-pub lists_long : (seen : Seen) → length (lists_of seen) ≡ length seen
+pub lists_long : (desk_states : DeskStates) → length (lists_of desk_states) ≡ length desk_states
 lists_long [] = refl
-lists_long (state ∷ seen) = ap suc (lists_long seen)
+lists_long (state ∷ desk_states) = ap suc (lists_long desk_states)
 
 -- ---- lists that grow
 
-grows_at : {D : Type 0} (disk_of : DiskGhosts D) (old new : Option (View D)) (was is : DeskState) → GoesOnAt disk_of old new (Some was) (Some is)
+grows_at : {D : Type 0} (disk_of : DiskGhosts D) (old new : Option (View D)) (was is : DeskState) → DeskGoesOnAt disk_of old new (Some was) (Some is)
     → (rest : List Command) × (is.commands ≡ was.commands ++ rest)
 grows_at disk_of None None was is goes = absurd goes
 grows_at disk_of None (Some new) was is goes = absurd goes
@@ -65,7 +65,7 @@ GrowsAt None (Some is) = ⊥
 GrowsAt (Some was) None = ⊥
 GrowsAt (Some was) (Some is) = (rest : List Command) × (is.commands ≡ was.commands ++ rest)
 
-each_grows : {D : Type 0} (disk_of : DiskGhosts D) (old new : Option (View D)) (was is : Option DeskState) → GoesOnAt disk_of old new was is → GrowsAt was is
+each_grows : {D : Type 0} (disk_of : DiskGhosts D) (old new : Option (View D)) (was is : Option DeskState) → DeskGoesOnAt disk_of old new was is → GrowsAt was is
 each_grows disk_of None None None None goes = tt
 each_grows disk_of None None None (Some is) goes = absurd goes
 each_grows disk_of None (Some new) None None goes = tt
@@ -79,13 +79,13 @@ each_grows disk_of (Some old) None (Some was) None goes = absurd goes
 each_grows disk_of (Some old) (Some new) (Some was) None goes = absurd goes
 each_grows disk_of old new (Some was) (Some is) goes = grows_at disk_of old new was is goes
 
-are_more : (before after : Seen) → ((k : ℕ) → GrowsAt (slice_get before k) (slice_get after k)) → AreMore (lists_of before) (lists_of after)
+are_more : (before after : DeskStates) → ((k : ℕ) → GrowsAt (slice_get before k) (slice_get after k)) → AreMore (lists_of before) (lists_of after)
 are_more [] [] each = tt
 are_more [] (is ∷ after) each = absurd (each 0)
 are_more (was ∷ before) [] each = absurd (each 0)
 are_more (was ∷ before) (is ∷ after) each = (each 0, are_more before after (λ k. each (suc k)))
 
-pub lists_grow : {D : Type 0} (disk_of : DiskGhosts D) (old new : List (View D)) (before after : Seen) → GoOn disk_of old new before after → AreMore (lists_of before) (lists_of after)
+pub lists_grow : {D : Type 0} (disk_of : DiskGhosts D) (old new : List (View D)) (before after : DeskStates) → DesksGoOn disk_of old new before after → AreMore (lists_of before) (lists_of after)
 lists_grow disk_of old new before after goes =
     are_more before after (λ k. each_grows disk_of (slice_get old k) (slice_get new k) (slice_get before k) (slice_get after k) (goes k))
 
@@ -104,21 +104,21 @@ config_at desk (list ∷ lists) [] (suc k) at config is there = config_at (desk 
 config_at desk (list ∷ lists) (n ∷ cut) (suc k) at config is there = config_at (desk + 1) lists cut k at config (omega (arith, is)) there
 
 -- the names at a cut that takes all in are the names now
-names_now_in : (seen : Seen) (lists : List (List Command)) (cut : List ℕ) → lists ≡ lists_of seen → TakesAll seen cut → 0 < length seen → names_of (configs_at lists cut) ≡ names_in seen
+names_now_in : (desk_states : DeskStates) (lists : List (List Command)) (cut : List ℕ) → lists ≡ lists_of desk_states → TakesAll desk_states cut → 0 < length desk_states → names_of (configs_at lists cut) ≡ names_in desk_states
 names_now_in [] lists cut same takes some = absurd (omega (arith, some))
-names_now_in (state ∷ seen) lists [] same takes some =
+names_now_in (state ∷ desk_states) lists [] same takes some =
     ap (λ (l : List (List Command)). names_of (configs_at l [])) same
     ∙ ap (λ (l : List Command). (fold_of 0 l).names) (empty_list state.commands (takes 0))
   where
     empty_list : (list : List Command) → 0 ≡ length list → [] ≡ list
     empty_list [] is = refl
     empty_list (command ∷ list) is = absurd (omega (arith, is))
-names_now_in (state ∷ seen) lists (n ∷ cut) same takes some =
+names_now_in (state ∷ desk_states) lists (n ∷ cut) same takes some =
     ap (λ (l : List (List Command)). names_of (configs_at l (n ∷ cut))) same
     ∙ ap (λ (l : List Command). (fold_of 0 l).names) (take_all n state.commands (omega (arith, takes 0)))
 
-pub names_now : (seen : Seen) (cut : List ℕ) → TakesAll seen cut → 0 < length seen → names_of (configs_at (lists_of seen) cut) ≡ names_in seen
-names_now seen cut takes some = names_now_in seen (lists_of seen) cut refl takes some
+pub names_now : (desk_states : DeskStates) (cut : List ℕ) → TakesAll desk_states cut → 0 < length desk_states → names_of (configs_at (lists_of desk_states) cut) ≡ names_in desk_states
+names_now desk_states cut takes some = names_now_in desk_states (lists_of desk_states) cut refl takes some
 
 -- ---- commands accepted in turn, behind some of them
 

@@ -13,7 +13,7 @@ use Rattle.authority_book.specs.Listed.{is_listed}
 use Rattle.authority_book.specs.Settings.{Settings}
 use Rattle.authority_book.specs.Verdict.{verdict_of, refused_or_ok, refused_if, first_cause, is_anchor, most_authorities, lacks_signer}
 use Rattle.authority_book.specs.Fold.{fold_of, after, after_all}
-use Rattle.krill_top.specs.Seen.{Seen, DeskState, ChangesOne, commands_of, commands_at, names_in, desk_named}
+use Rattle.krill_top.specs.DeskStates.{DeskStates, DeskState, ChangesOne, commands_of, commands_at, names_in, desk_named}
 use Rattle.krill_top.specs.Outcomes.{Outcome, Does, CommandedAt}
 use Rattle.krill_top.specs.Outcomes.Outcome.{Accepted, NoSuchAuthority, Shut, Verdict, JournalFull, DiskFault, Memory}
 use Rattle.krill_top.proofs.Standing.{get_set_same, get_set_other}
@@ -74,22 +74,22 @@ desk_does command signers (JournalFull held needed) was is does all = subst (λ 
 desk_does command signers (DiskFault device) was is does all = subst (λ (s : DeskState). NamesBelow signers s.commands) (sym does.doubted) all
 desk_does command signers Memory was is does all = subst (λ (s : DeskState). NamesBelow signers s.commands) (sym does.same) all
 
-changes_names : (number : ℕ) (command : Command) (signers : ℕ) (outcome : Outcome) (before after : Seen) → ChangesOne number (Does number command signers outcome) before after
+changes_names : (number : ℕ) (command : Command) (signers : ℕ) (outcome : Outcome) (before after : DeskStates) → ChangesOne number (Does number command signers outcome) before after
     → NamesBelow signers (commands_at before 0) → NamesBelow signers (commands_at after 0)
 changes_names zero command signers outcome before after one all =
-    subst (λ (s : Seen). NamesBelow signers (commands_at s 0)) (sym one.put)
+    subst (λ (s : DeskStates). NamesBelow signers (commands_at s 0)) (sym one.put)
     (subst (λ (o : Option DeskState). NamesBelow signers (commands_of o)) (sym (get_set_same before 0 one.is one.was one.found))
     (desk_does command signers outcome one.was one.is one.changes
     (subst (λ (o : Option DeskState). NamesBelow signers (commands_of o)) one.found all)))
 changes_names (suc number) command signers outcome before after one all =
-    subst (λ (s : Seen). NamesBelow signers (commands_at s 0)) (sym one.put)
+    subst (λ (s : DeskStates). NamesBelow signers (commands_at s 0)) (sym one.put)
     (subst (λ (o : Option DeskState). NamesBelow signers (commands_of o)) (sym (get_set_other before (suc number) 0 one.is (λ e. absurd (omega (arith, e))))) all)
 
-at_desk : (number : Option ℕ) (command : Command) (signers : ℕ) (outcome : Outcome) (before after : Seen) → CommandedAt number command signers outcome before after
+at_desk : (number : Option ℕ) (command : Command) (signers : ℕ) (outcome : Outcome) (before after : DeskStates) → CommandedAt number command signers outcome before after
     → AreBelow signers (names_in before) → AreBelow signers (names_in after)
-at_desk None command signers outcome before after is all = subst (λ (s : Seen). AreBelow signers (names_in s)) (sym is.1) all
+at_desk None command signers outcome before after is all = subst (λ (s : DeskStates). AreBelow signers (names_in s)) (sym is.1) all
 at_desk (Some number) command signers outcome before after is all = changes_names number command signers outcome before after is all
 
-pub commanded_names : (name : List ℕ) (command : Command) (signers : ℕ) (outcome : Outcome) (before after : Seen) → CommandedAt (desk_named before name) command signers outcome before after
+pub commanded_names : (name : List ℕ) (command : Command) (signers : ℕ) (outcome : Outcome) (before after : DeskStates) → CommandedAt (desk_named before name) command signers outcome before after
     → All (λ (row : NameRow). row.signer < signers) (names_in before) → All (λ (row : NameRow). row.signer < signers) (names_in after)
 commanded_names name command signers outcome before after is all = at_desk (desk_named before name) command signers outcome before after is all

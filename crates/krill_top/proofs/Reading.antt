@@ -19,8 +19,8 @@ use Rattle.authority_book.specs.Settings.{Settings}
 use Rattle.json_api.specs.Texts.{commas, child_line, parent_text, stage_text, set_text, resources_text, show_spelling}
 use Rattle.json_api.specs.declared.texts.StageWord.{StageWord}
 use Rattle.origins.specs.declared.Origin.{Origin}
-use Rattle.origins.specs.Same.{same_prefix, same_origin}
-use Rattle.origins.specs.Ordered.{origin_total, exact_origin}
+use Rattle.origins.specs.laws.Same.{same_prefix, same_origin}
+use Rattle.origins.specs.laws.Ordered.{origin_total, exact_origin}
 use Rattle.authority_book.specs.Origins.{is_same, is_there}
 use Rattle.entitle.specs.Owed.{HasEach}
 use Rattle.notice_board.specs.declared.sheets.Sheet.{Sheet}
@@ -28,20 +28,20 @@ use Rattle.notice_board.specs.declared.sheets.SheetRow.{SheetRow}
 use Rattle.json_api.specs.declared.texts.ListLine.{ListLine}
 use Rattle.json_api.specs.declared.texts.RoaLine.{RoaLine}
 use Rattle.json_api.specs.declared.texts.RoaWord.TheVariants.{Published, Held, Pending}
-use Rattle.krill_top.specs.Seen.{Seen, settings_at}
+use Rattle.krill_top.specs.DeskStates.{DeskStates, settings_at}
 use Rattle.krill_top.specs.Reads.{list_lines, nothing_certified, row_at, certified_in, stage_in, shown_by, HasCanonicalSets, IsShownText, IsState, AreRoaLines}
 use Rattle.krill_top.specs.Run.{signers_needed}
 
 -- one line more
-pub list_lines_push : (seen : Seen) (number : ℕ) (rows : List NameRow) (k at : ℕ) (d : NameRow) → at ≡ number + k → k < length rows
-    → list_lines seen number (take (suc k) rows)
-    ≡ list_lines seen number (take k rows) ++ record { name = (slice_index_or rows k d).name; deleted = (settings_at seen at).deleted } ∷ []
-list_lines_push seen number [] k at d is less = absurd (omega (arith, less))
-list_lines_push seen number (row ∷ rows) zero at d is less =
-    ap (λ (n : ℕ). record { name = row.name; deleted = (settings_at seen n).deleted } ∷ []) (omega (arith, is))
-list_lines_push seen number (row ∷ rows) (suc k) at d is less =
-    let first : ListLine = record { name = row.name; deleted = (settings_at seen number).deleted } in
-    ap (λ (l : List ListLine). first ∷ l) (list_lines_push seen (suc number) rows k at d (omega (arith, is)) (omega (arith, less)))
+pub list_lines_push : (desk_states : DeskStates) (number : ℕ) (rows : List NameRow) (k at : ℕ) (d : NameRow) → at ≡ number + k → k < length rows
+    → list_lines desk_states number (take (suc k) rows)
+    ≡ list_lines desk_states number (take k rows) ++ record { name = (slice_index_or rows k d).name; deleted = (settings_at desk_states at).deleted } ∷ []
+list_lines_push desk_states number [] k at d is less = absurd (omega (arith, less))
+list_lines_push desk_states number (row ∷ rows) zero at d is less =
+    ap (λ (n : ℕ). record { name = row.name; deleted = (settings_at desk_states n).deleted } ∷ []) (omega (arith, is))
+list_lines_push desk_states number (row ∷ rows) (suc k) at d is less =
+    let first : ListLine = record { name = row.name; deleted = (settings_at desk_states number).deleted } in
+    ap (λ (l : List ListLine). first ∷ l) (list_lines_push desk_states (suc number) rows k at d (omega (arith, is)) (omega (arith, less)))
 
 -- the text of no numbers
 pub none_text : (held : Resources) → HaveNone held → resources_text held ≡ resources_text nothing_certified
@@ -137,8 +137,8 @@ found_there (first ∷ rest) origin =
     ap (λ (b : Bool). b || list_any (λ o. has_numbers o origin) rest) (test_is origin first)
     ∙ ap (λ (b : Bool). is_same origin first || b) (found_there rest origin)
 
-pub published_state : (known : Option SheetRow) (row : SheetRow) (origin : Origin) → known ≡ Some row → is_there row.published origin ≡ true → IsState known origin Published
-published_state known row origin is there = subst (λ (r : Option SheetRow). IsState r origin Published) (sym is) (inl (there, refl))
+pub state_of_published : (known : Option SheetRow) (row : SheetRow) (origin : Origin) → known ≡ Some row → is_there row.published origin ≡ true → IsState known origin Published
+state_of_published known row origin is there = subst (λ (r : Option SheetRow). IsState r origin Published) (sym is) (inl (there, refl))
 
 pub pending_state : (known : Option SheetRow) (row : SheetRow) (origin : Origin) → known ≡ Some row → is_there row.published origin ≡ false → HasEach (has row.certified) origin.prefix
     → IsState known origin Pending

@@ -2,7 +2,7 @@
 use Rattle.std.proofs.Common.{◌≡◌, ℕ, zero, suc, ◌+◌, ◌≤◌, List, [], ◌∷◌, length, map, refl, sym, ◌∙◌, ap, subst, inl, inr, arith}
 use Rattle.std.specs.Prelude.{Option, None, Some, IfSome, slice_get, ⊤}
 use Rattle.std.specs.Option.{option_map}
-use Rattle.fault_count.specs.Rise.{HasRisen}
+use Rattle.host_calls.specs.Rise.{HasRisen}
 use Rattle.disk_api.specs.declared.disk.Disk.{Ghosts as DiskGhosts}
 use Rattle.line_loop.specs.declared.traits.Source.{Ghosts as SourceGhosts}
 use Rattle.line_loop.specs.declared.traits.Sink.{Ghosts as SinkGhosts}
@@ -15,18 +15,18 @@ use Rattle.desk_core.specs.View.{View}
 use Rattle.desk_core.specs.Commands.{Records, HasCommands}
 use Rattle.krill_top.specs.declared.serving.SessionEnds.{SessionEnds}
 use Rattle.krill_top.specs.declared.running.RunEnd.{RunEnd}
-use Rattle.krill_top.specs.Seen.{Seen, DeskState}
+use Rattle.krill_top.specs.DeskStates.{DeskStates, DeskState}
 use Rattle.signer_api.specs.State.{SignerState}
 use Rattle.signer_ring.specs.Ring.{AllTell}
 use Rattle.rp_rules.specs.Certificates.{Vouched}
 use Rattle.press_core.specs.Signers.{HasAllVouched}
 use Rattle.krill_top.specs.declared.faults.OpenFault.{OpenFault}
-use Rattle.krill_top.specs.Seen.{names_in}
-use Rattle.krill_top.specs.World.{World, AreTrusted}
-use Rattle.krill_top.specs.Stands.{IsIn, InAt, AreIn, all_stored, GoesOn, GoesOnAt}
-use Rattle.krill_top.specs.Offices.{OfficeValue, TimedOffice, StandsIn}
+use Rattle.krill_top.specs.DeskStates.{names_in}
+use Rattle.krill_top.specs.InstanceState.{InstanceState, AreTrusted, default_bases}
+use Rattle.krill_top.specs.Stands.{IsIn, InAt, AreIn, all_stored, DeskGoesOn, DeskGoesOnAt}
+use Rattle.krill_top.specs.inner.Instances.{InstanceValue, TimedInstance, IsInState}
 use Rattle.krill_top.specs.Ends.{run_status, fault_of}
-use Rattle.krill_top.specs.Opened.{IsOpened, IsClosed, AreOpened, AreClosed}
+use Rattle.krill_top.specs.inner.Opened.{IsOpened, IsClosed, AreOpened, AreClosed}
 use Rattle.krill_top.specs.Ended.{Served}
 use Rattle.krill_top.specs.Run.{IsNext, IsServed, IsServedAt, IsSignersCause, IsClosedAgain, IsTrusting, ServesOne, signers_needed, streams_of}
 use Rattle.krill_top.proofs.Standing.{go_on_same}
@@ -38,7 +38,7 @@ module _ {D : Type 0} (disk_of : DiskGhosts D) where
   abbrev opened_state : (number : ℕ) (disk : D) (desk : View D) → IsOpened disk_of number disk desk → DeskState
   opened_state number disk desk opened = record { commands = opened.commands.0; doubt = None }
 
-  abbrev opened_states : (number : ℕ) (disks : List D) (desks : List (View D)) → AreOpened disk_of number disks desks → Seen
+  abbrev opened_states : (number : ℕ) (disks : List D) (desks : List (View D)) → AreOpened disk_of number disks desks → DeskStates
   opened_states number [] [] all = []
   opened_states number [] (desk ∷ desks) all = absurd all
   opened_states number (disk ∷ disks) [] all = absurd all
@@ -94,7 +94,7 @@ module _ {D : Type 0} (disk_of : DiskGhosts D) where
     next = subst (λ (d : Option Command). IfSome d (IsNext number state)) (sym is.is_open) tt;
   }
 
-  served_one : (number : ℕ) (disk : D) (desk new : View D) (back : D) (was is : DeskState) → OpenedAs number disk desk was → GoesOn disk_of desk.disk new.disk was is → IsIn number new is → IsClosed disk_of new back
+  served_one : (number : ℕ) (disk : D) (desk new : View D) (back : D) (was is : DeskState) → OpenedAs number disk desk was → DeskGoesOn disk_of desk.disk new.disk was is → IsIn number new is → IsClosed disk_of new back
       → IsServed disk_of number disk back was is
   served_one number disk desk new back was is opened goes stands closed =
       let back_count : disk_of.fault_count back ≡ disk_of.fault_count new.disk = ap disk_of.fault_count closed.same in
@@ -122,7 +122,7 @@ module _ {D : Type 0} (disk_of : DiskGhosts D) where
       }
 
   served_at : (number : ℕ) (disk : Option D) (desk new : Option (View D)) (back : Option D) (was is : Option DeskState)
-      → OpenedAt number disk desk was → GoesOnAt disk_of desk new was is → InAt number new is → ClosedAt new back → IsServedAt disk_of number disk back was is
+      → OpenedAt number disk desk was → DeskGoesOnAt disk_of desk new was is → InAt number new is → ClosedAt new back → IsServedAt disk_of number disk back was is
   served_at number None None None None None None opened goes stands closed = tt
   served_at number None None None (Some back) None None opened goes stands closed = absurd closed
   served_at number None None None back None (Some is) opened goes stands closed = absurd goes
@@ -138,7 +138,7 @@ module _ {D : Type 0} (disk_of : DiskGhosts D) where
       served_one number disk desk new back was is opened goes stands closed
 
   -- the states of desks that were opened
-  pub opened_seen : (disks : List D) (desks : List (View D)) → AreOpened disk_of 0 disks desks → (seen : Seen) × AreIn desks seen
+  pub opened_seen : (disks : List D) (desks : List (View D)) → AreOpened disk_of 0 disks desks → (desk_states : DeskStates) × AreIn desks desk_states
   opened_seen disks desks opened = (
     opened_states 0 disks desks opened,
     λ n. in_at n (slice_get disks n) (slice_get desks n) (slice_get (opened_states 0 disks desks opened) n) (opened_at 0 disks desks opened n n (omega arith)),
@@ -146,15 +146,15 @@ module _ {D : Type 0} (disk_of : DiskGhosts D) where
 
   -- desks that were opened and closed again
   pub closed_again : (fault : OpenFault) (signers : ℕ) (disks : List D) (desks : List (View D)) (news : List D) → AreOpened disk_of 0 disks desks → AreClosed disk_of desks news
-      → ((seen : Seen) → AreIn desks seen → IsSignersCause fault signers seen) → IsClosedAgain disk_of fault signers disks news
+      → ((desk_states : DeskStates) → AreIn desks desk_states → IsSignersCause fault signers desk_states) → IsClosedAgain disk_of fault signers disks news
   unfolding opened_seen
   closed_again fault signers disks desks news opened closed cause =
-      let seen = opened_seen disks desks opened in
+      let desk_states = opened_seen disks desks opened in
       record {
-        found = seen.0;
-        disks = λ n. served_at n (slice_get disks n) (slice_get desks n) (slice_get desks n) (slice_get news n) (slice_get seen.0 n) (slice_get seen.0 n)
-            (opened_at 0 disks desks opened n n (omega arith)) (go_on_same disk_of desks seen.0 seen.1 n) (seen.1 n) (closed_at desks news closed n);
-        cause = cause seen.0 seen.1;
+        found = desk_states.0;
+        disks = λ n. served_at n (slice_get disks n) (slice_get desks n) (slice_get desks n) (slice_get news n) (slice_get desk_states.0 n) (slice_get desk_states.0 n)
+            (opened_at 0 disks desks opened n n (omega arith)) (go_on_same disk_of desks desk_states.0 desk_states.1 n) (desk_states.1 n) (closed_at desks news closed n);
+        cause = cause desk_states.0 desk_states.1;
       }
 
 trusted_of : (vouched : Vouched) (begun ended : List SignerState) → IsTrusting vouched begun ended → AreTrusted vouched begun
@@ -167,16 +167,16 @@ vouched_of vouched begun ended trusting told = elim trusting [
 ]
 
 module _ {D G S K C : Type 0} (disk_of : DiskGhosts D) (state_of : G → SignerState) (source_of : SourceGhosts S) (sink_of : SinkGhosts K) (clock_of : ClockGhosts C) where
-  -- the office, and what the clock tells of a session
-  abbrev pub timed_by : SessionEnds S K C → OfficeValue D → TimedOffice D
-  timed_by ends office = record { office = office; clock = clock_of.readings ends.clock }
+  -- the instance, and what the clock tells of a session
+  abbrev pub timed_by : SessionEnds S K C → InstanceValue D → TimedInstance D
+  timed_by ends instance = record { instance = instance; clock = clock_of.readings ends.clock }
 
-  pub serves : (vouched : Vouched) (disks : List D) (signers : List G) (before after : SessionEnds S K C) (end : SessionEnd) (run : RunEnd D G S K C) (office served : OfficeValue D)
-      → AreOpened disk_of 0 disks office.desks → office.press.ring ≡ map state_of signers
-      → ((vouched : Vouched) (seen : Seen) → AreTrusted vouched (map state_of signers) → AreIn office.desks seen
-      → StandsIn vouched office (record { seen = seen; editions = []; signers = map state_of signers }))
-      → ((seen : Seen) → AreIn office.desks seen → signers_needed (names_in seen) ≤ length (map state_of signers))
-      → Served disk_of source_of sink_of (streams_of before) (streams_of after) (timed_by before office) (timed_by after served) end → AreClosed disk_of served.desks run.desks.items
+  pub serves : (vouched : Vouched) (disks : List D) (signers : List G) (before after : SessionEnds S K C) (end : SessionEnd) (run : RunEnd D G S K C) (instance served : InstanceValue D)
+      → AreOpened disk_of 0 disks instance.desks → instance.press.ring ≡ map state_of signers
+      → ((vouched : Vouched) (desk_states : DeskStates) → AreTrusted vouched (map state_of signers) → AreIn instance.desks desk_states
+      → IsInState vouched instance (record { site = default_bases; desk_states = desk_states; editions = []; signers = map state_of signers }))
+      → ((desk_states : DeskStates) → AreIn instance.desks desk_states → signers_needed (names_in desk_states) ≤ length (map state_of signers))
+      → Served disk_of source_of sink_of (streams_of before) (streams_of after) (timed_by before instance) (timed_by after served) end → AreClosed disk_of served.desks run.desks.items
       → map state_of run.signers.items ≡ served.press.ring
       → run.sessions.items ≡ after ∷ [] → run.status ≡ run_status (fault_of end) → run.fault ≡ fault_of end
       → (end ≡ SourceFault → HasRisen (source_of.fault_count before.source) (source_of.fault_count after.source))
@@ -185,10 +185,10 @@ module _ {D G S K C : Type 0} (disk_of : DiskGhosts D) (state_of : G → SignerS
       → IsTrusting vouched (map state_of signers) (map state_of run.signers.items)
       → ServesOne disk_of state_of source_of sink_of clock_of vouched disks signers before run
   unfolding opened_seen
-  serves vouched disks signers before after end run office served opened ring stands there session closed signers_back sessions status fault source_fault sink_fault source_later sink_later trusting =
-      let seen = opened_seen disk_of disks office.desks opened in
-      let begun : World = record { seen = seen.0; editions = []; signers = map state_of signers } in
-      let begins = stands vouched seen.0 (trusted_of vouched (map state_of signers) (map state_of run.signers.items) trusting) seen.1 in
+  serves vouched disks signers before after end run instance served opened ring stands there session closed signers_back sessions status fault source_fault sink_fault source_later sink_later trusting =
+      let desk_states = opened_seen disk_of disks instance.desks opened in
+      let begun : InstanceState = record { site = default_bases; desk_states = desk_states.0; editions = []; signers = map state_of signers } in
+      let begins = stands vouched desk_states.0 (trusted_of vouched (map state_of signers) (map state_of run.signers.items) trusting) desk_states.1 in
       let told : AllTell (map state_of signers) → AllTell (map state_of run.signers.items) =
       λ all. subst AllTell (sym signers_back) (session.kept.told (subst AllTell (sym ring) all)) in
       let has : HasAllVouched vouched served.press.ring =
@@ -203,13 +203,15 @@ module _ {D G S K C : Type 0} (disk_of : DiskGhosts D) (state_of : G → SignerS
         status = status;
         fault = fault;
         served = done.step;
-        disks = λ n. served_at disk_of n (slice_get disks n) (slice_get office.desks n) (slice_get served.desks n) (slice_get run.desks.items n) (slice_get seen.0 n) (slice_get done.after.seen n)
-            (opened_at disk_of 0 disks office.desks opened n n (omega arith)) (done.disks n) (done.stands.desks n) (closed_at disk_of served.desks run.desks.items closed n);
+        disks = λ n. served_at disk_of n (slice_get disks n) (slice_get instance.desks n) (slice_get served.desks n) (slice_get run.desks.items n) (slice_get desk_states.0 n) (slice_get done.after.desk_states n)
+            (opened_at disk_of 0 disks instance.desks opened n n (omega arith)) (done.disks n) (done.stands.desks n) (closed_at disk_of served.desks run.desks.items closed n);
         none_before = refl;
+        begun_site = refl;
+        same_site = done.same_site;
         steps = done.stands.press.steps;
         signers_begun = refl;
         signers_ended = signers_back ∙ done.stands.ring;
-        signers_there = there seen.0 seen.1;
+        signers_there = there desk_states.0 desk_states.1;
         source_fault = source_fault;
         sink_fault = sink_fault;
         source_later = source_later;

@@ -12,13 +12,13 @@ use Rattle.desk_core.specs.View.{View}
 use Rattle.desk_core.specs.Commands.{HasCommands}
 use Rattle.editions.specs.Edition.{cut_at}
 use Rattle.editions.specs.Step.{configs_at}
-use Rattle.press_state.specs.declared.gathered.Gathered.{Gathered}
-use Rattle.press_state.specs.Gathering as gathering
-use Rattle.press_state.specs.Gathering.{cut_from, cut_with, AreGathered, AreAccepted, GoOn}
-use Rattle.krill_top.specs.Seen.{Seen, commands_of}
-use Rattle.krill_top.specs.World.{lists_of}
+use Rattle.editions.specs.declared.gathered.Gathered.{Gathered}
+use Rattle.editions.specs.Gathering as gathering
+use Rattle.editions.specs.Gathering.{cut_from, cut_with, AreGathered, AreAccepted, AreNextCommands}
+use Rattle.krill_top.specs.DeskStates.{DeskStates, commands_of}
+use Rattle.krill_top.specs.InstanceState.{lists_of}
 use Rattle.krill_top.specs.Stands.{AreIn}
-use Rattle.krill_top.specs.Gathered.{IsSince, AreSince}
+use Rattle.krill_top.specs.inner.Gathered.{IsSince, AreSince}
 use Rattle.krill_top.specs.Publishing.{TakesAll}
 use Rattle.krill_top.proofs.Standing.{At, at_place}
 use Rattle.krill_top.proofs.Lists.{as_many, list_at, lists_long, config_at, accepted_behind}
@@ -156,10 +156,10 @@ module _ {D : Type 0} where
 
   -- ---- over the states of the desks
 
-  pub record Sound (desks : List (View D)) (seen : Seen) (cut : List ℕ) : Type 0 where
-    pub all : AreIn desks seen
+  pub record Sound (desks : List (View D)) (desk_states : DeskStates) (cut : List ℕ) : Type 0 where
+    pub all : AreIn desks desk_states
     pub one_each : length desks ≡ length cut
-    pub within : (desk : ℕ) → cut_at cut desk ≤ length (get_or (lists_of seen) desk [])
+    pub within : (desk : ℕ) → cut_at cut desk ≤ length (get_or (lists_of desk_states) desk [])
 
   there_is : (desks : List (View D)) (k : ℕ) → k < length desks → (desk : View D) × (slice_get desks k ≡ Some desk)
   there_is [] k inside = absurd (omega (arith, inside))
@@ -167,55 +167,55 @@ module _ {D : Type 0} where
   there_is (d ∷ desks) (suc k) inside = there_is desks k (omega (arith, inside))
 
   -- the commands gathered of a desk are those of its list behind the cut
-  pub gathered_of : (desks : List (View D)) (seen : Seen) (cut : List ℕ) (groups : List Gathered) → Sound desks seen cut → AreSince 0 desks cut groups
-      → (desk : ℕ) → gathering.commands_of groups desk ≡ drop (cut_at cut desk) (get_or (lists_of seen) desk [])
-  gathered_of desks seen cut groups sound all desk = elim (cases_lt desk (length desks)) [
+  pub gathered_of : (desks : List (View D)) (desk_states : DeskStates) (cut : List ℕ) (groups : List Gathered) → Sound desks desk_states cut → AreSince 0 desks cut groups
+      → (desk : ℕ) → gathering.commands_of groups desk ≡ drop (cut_at cut desk) (get_or (lists_of desk_states) desk [])
+  gathered_of desks desk_states cut groups sound all desk = elim (cases_lt desk (length desks)) [
     | inl inside ↦ (
         let there = there_is desks desk inside in
-        let at : At seen desk there.0 = at_place desks seen desk there.0 sound.all there.1 in
+        let at : At desk_states desk there.0 = at_place desks desk_states desk there.0 sound.all there.1 in
         those_at 0 desks cut groups desk desk there.0 at.state.commands all (omega arith) there.1 at.stands.commands
-        ∙ ap (λ (l : List Command). drop (cut_at cut desk) l) (sym (list_at seen desk ∙ ap commands_of at.there)))
+        ∙ ap (λ (l : List Command). drop (cut_at cut desk) l) (sym (list_at desk_states desk ∙ ap commands_of at.there)))
     | inr far ↦ (
         let long = since_long 0 desks cut groups all in
-        let none : get_or (lists_of seen) desk [] ≡ [] = past_end (lists_of seen) desk [] (omega (arith, far, as_many desks seen sound.all, lists_long seen)) in
+        let none : get_or (lists_of desk_states) desk [] ≡ [] = past_end (lists_of desk_states) desk [] (omega (arith, far, as_many desks desk_states sound.all, lists_long desk_states)) in
         none_behind 0 desks cut groups desk all (omega (arith, far, long, sound.one_each))
-        ∙ sym (drop_all (cut_at cut desk) (get_or (lists_of seen) desk []) (omega (arith, ap length none))))
+        ∙ sym (drop_all (cut_at cut desk) (get_or (lists_of desk_states) desk []) (omega (arith, ap length none))))
   ]
 
-  pub they_go_on : (desks : List (View D)) (seen : Seen) (cut : List ℕ) (groups : List Gathered) → Sound desks seen cut → AreSince 0 desks cut groups → GoOn (lists_of seen) cut groups
-  they_go_on desks seen cut groups sound all desk = record {
+  pub they_go_on : (desks : List (View D)) (desk_states : DeskStates) (cut : List ℕ) (groups : List Gathered) → Sound desks desk_states cut → AreSince 0 desks cut groups → AreNextCommands (lists_of desk_states) cut groups
+  they_go_on desks desk_states cut groups sound all desk = record {
     held = sound.within desk;
-    next = ([], sym (gathered_of desks seen cut groups sound all desk) ∙ sym (append-nil (gathering.commands_of groups desk)));
+    next = ([], sym (gathered_of desks desk_states cut groups sound all desk) ∙ sym (append-nil (gathering.commands_of groups desk)));
   }
 
   -- with them all is taken in
-  pub they_take_all : (desks : List (View D)) (seen : Seen) (cut : List ℕ) (groups : List Gathered) → Sound desks seen cut → AreSince 0 desks cut groups → TakesAll seen (cut_with cut groups)
-  they_take_all desks seen cut groups sound all desk = elim (cases_lt desk (length cut)) [
+  pub they_take_all : (desks : List (View D)) (desk_states : DeskStates) (cut : List ℕ) (groups : List Gathered) → Sound desks desk_states cut → AreSince 0 desks cut groups → TakesAll desk_states (cut_with cut groups)
+  they_take_all desks desk_states cut groups sound all desk = elim (cases_lt desk (length cut)) [
     | inl inside ↦ (
-        let list = get_or (lists_of seen) desk [] in
+        let list = get_or (lists_of desk_states) desk [] in
         let n = cut_at cut desk in
         let sum = cut_then 0 cut groups desk desk inside (omega arith) in
-        let more = ap length (gathered_of desks seen cut groups sound all desk) in
+        let more = ap length (gathered_of desks desk_states cut groups sound all desk) in
         let rest = length-drop n list in
-        let whole = ap length (list_at seen desk) in
+        let whole = ap length (list_at desk_states desk) in
         omega (arith, sum, more, rest, whole, sound.within desk))
     | inr far ↦ (
         let none = past_end (cut_with cut groups) desk 0 (omega (arith, far, cut_long 0 cut groups)) in
-        let empty = past_end (lists_of seen) desk [] (omega (arith, far, sound.one_each, as_many desks seen sound.all, lists_long seen)) in
-        none ∙ sym (ap length (sym (list_at seen desk) ∙ empty)))
+        let empty = past_end (lists_of desk_states) desk [] (omega (arith, far, sound.one_each, as_many desks desk_states sound.all, lists_long desk_states)) in
+        none ∙ sym (ap length (sym (list_at desk_states desk) ∙ empty)))
   ]
 
   -- each is accepted after those before it
-  pub they_are_accepted : (desks : List (View D)) (seen : Seen) (cut : List ℕ) (groups : List Gathered) (configs : List Settings) → Sound desks seen cut → AreSince 0 desks cut groups
-      → configs ≡ configs_at (lists_of seen) cut → length configs ≡ length cut → AreAccepted configs groups
-  they_are_accepted desks seen cut groups configs sound all same long desk config there =
-      let list = get_or (lists_of seen) desk [] in
+  pub they_are_accepted : (desks : List (View D)) (desk_states : DeskStates) (cut : List ℕ) (groups : List Gathered) (configs : List Settings) → Sound desks desk_states cut → AreSince 0 desks cut groups
+      → configs ≡ configs_at (lists_of desk_states) cut → length configs ≡ length cut → AreAccepted configs groups
+  they_are_accepted desks desk_states cut groups configs sound all same long desk config there =
+      let list = get_or (lists_of desk_states) desk [] in
       let n = cut_at cut desk in
-      let is : config ≡ fold_of desk (take n list) = config_at 0 (lists_of seen) cut desk desk config (omega arith) (subst (λ (c : List Settings). slice_get c desk ≡ Some config) same there) in
+      let is : config ≡ fold_of desk (take n list) = config_at 0 (lists_of desk_states) cut desk desk config (omega arith) (subst (λ (c : List Settings). slice_get c desk ≡ Some config) same there) in
       let inside : desk < length desks = omega (arith, within_configs configs desk config there, long, sound.one_each) in
       let place = there_is desks desk inside in
-      let at : At seen desk place.0 = at_place desks seen desk place.0 sound.all place.1 in
+      let at : At desk_states desk place.0 = at_place desks desk_states desk place.0 sound.all place.1 in
       let taken : AcceptedInTurn (empty_settings desk) at.state.commands = subst (λ (d : ℕ). AcceptedInTurn (empty_settings d) at.state.commands) at.stands.number_is at.stands.commands.recorded.taken in
-      let in_turn : AcceptedInTurn (empty_settings desk) list = subst (AcceptedInTurn (empty_settings desk)) (sym (list_at seen desk ∙ ap commands_of at.there)) taken in
+      let in_turn : AcceptedInTurn (empty_settings desk) list = subst (AcceptedInTurn (empty_settings desk)) (sym (list_at desk_states desk ∙ ap commands_of at.there)) taken in
       subst (λ (s : Settings). AcceptedInTurn s (gathering.commands_of groups desk)) (sym is)
-      (subst (AcceptedInTurn (fold_of desk (take n list))) (sym (gathered_of desks seen cut groups sound all desk)) (accepted_behind (empty_settings desk) n list in_turn))
+      (subst (AcceptedInTurn (fold_of desk (take n list))) (sym (gathered_of desks desk_states cut groups sound all desk)) (accepted_behind (empty_settings desk) n list in_turn))

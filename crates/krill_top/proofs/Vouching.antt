@@ -5,7 +5,7 @@ use Rattle.signer_api.specs.State.{SignerState, Tells, Vouches}
 use Rattle.signer_ring.specs.Ring.{AllTell, Vouched as VouchedBy, Keeps}
 use Rattle.rp_rules.specs.Certificates.{Vouched}
 use Rattle.press_core.specs.Signers.{HasAllVouched}
-use Rattle.krill_top.specs.World.{AreTrusted}
+use Rattle.krill_top.specs.InstanceState.{AreTrusted}
 
 -- where all tell, what is said of one that tells is said of one
 any_telling : (P : SignerState → Type 0) (signers : List SignerState) → AllTell signers → Any (λ signer. Tells signer → P signer) signers → Any P signers

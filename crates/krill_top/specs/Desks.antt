@@ -1,7 +1,7 @@
 -- The disks of a run's desks, as they were handed in and as they are handed back.
 use Rattle.std.specs.Prelude.{◌≡◌, ◌⊎◌, ℕ, ◌≤◌, suc, Option, None, Some, List, [], ◌∷◌, ◌++◌, length, map, IfSome, ⊤}
 use Rattle.std.specs.Option.{option_map}
-use Rattle.fault_count.specs.Rise.{HasRisen}
+use Rattle.host_calls.specs.Rise.{HasRisen}
 use Rattle.disk_api.specs.Content.{BothKnown}
 use Rattle.disk_api.specs.declared.disk.Disk.{Ghosts as DiskGhosts}
 use Rattle.gate_journal.specs.Format.{recovered, damaged_at, opened, IsUnopened}
@@ -25,7 +25,8 @@ pub record IsSafe {D : Type 0} (disk_of : DiskGhosts D) (commands : List Command
 
 -- A desk that got no command: its disk holds what it held, and its bytes are those that opening made of
 -- them.
-pub record IsKept {D : Type 0} (disk_of : DiskGhosts D) (number : ℕ) (old new : D) : Type 0 where
+pub record IsUntouchedDesk {D : Type 0} (disk_of : DiskGhosts D) (number : ℕ) (old new : D)
+    : Type 0 where
   pub commands : List Command
   pub found : RecoveredTo (disk_of.content old) number commands
   pub left : IsSafe disk_of commands None new
@@ -33,12 +34,12 @@ pub record IsKept {D : Type 0} (disk_of : DiskGhosts D) (number : ℕ) (old new 
   pub later : disk_of.fault_count old ≤ disk_of.fault_count new
 
 -- So of each desk, from this number on.
-abbrev pub AreKept : {D : Type 0} → DiskGhosts D → ℕ → List D → List D → Type 0
-AreKept disk_of number [] [] = ⊤
-AreKept disk_of number [] (new ∷ news) = ⊥
-AreKept disk_of number (old ∷ olds) [] = ⊥
-AreKept disk_of number (old ∷ olds) (new ∷ news) =
-    IsKept disk_of number old new × AreKept disk_of (suc number) olds news
+abbrev pub AreUntouchedDesks : {D : Type 0} → DiskGhosts D → ℕ → List D → List D → Type 0
+AreUntouchedDesks disk_of number [] [] = ⊤
+AreUntouchedDesks disk_of number [] (new ∷ news) = ⊥
+AreUntouchedDesks disk_of number (old ∷ olds) [] = ⊥
+AreUntouchedDesks disk_of number (old ∷ olds) (new ∷ news) =
+    IsUntouchedDesk disk_of number old new × AreUntouchedDesks disk_of (suc number) olds news
 
 -- Why a disk can't be opened as the desk of that number.
 abbrev pub IsCause : {D : Type 0} → DiskGhosts D → OpenFault → ℕ → D → D → Type 0
@@ -69,7 +70,7 @@ pub record StopsAt {D : Type 0} (disk_of : DiskGhosts D) (fault : OpenFault) (ol
   pub new : D
   pub handed_in : olds ≡ before ++ old ∷ rest
   pub handed_back : news ≡ after ++ new ∷ rest
-  pub opened : AreKept disk_of 0 before after
+  pub opened : AreUntouchedDesks disk_of 0 before after
   pub cause : IsCause disk_of fault (length before) old new
   pub stands : RecoversAsBefore disk_of old new
 

@@ -1,4 +1,4 @@
--- What a session does from one world on.
+-- What a session does from one state on.
 use Rattle.std.specs.Prelude.{ℕ, List}
 use Rattle.std.specs.Io.KnownBytes.{Consumes, Appends, IsAtEnd}
 use Rattle.disk_api.specs.declared.disk.Disk.{Ghosts as DiskGhosts}
@@ -7,9 +7,9 @@ use Rattle.line_loop.specs.declared.traits.Sink.{Ghosts as SinkGhosts}
 use Rattle.line_loop.specs.Session.{Serves}
 use Rattle.line_loop.specs.declared.session.SessionEnd.{SessionEnd}
 use Rattle.rp_rules.specs.Certificates.{Vouched}
-use Rattle.krill_top.specs.World.{TimedWorld}
+use Rattle.krill_top.specs.InstanceState.{TimedInstanceState}
 use Rattle.krill_top.specs.Replies.{IsReply}
-use Rattle.krill_top.specs.Offices.{TimedOffice, MovesTimed}
+use Rattle.krill_top.specs.inner.Instances.{TimedInstance, MovesTimed}
 
 -- The ends of a session, but for its clock.
 pub record Streams (S K : Type 0) : Type 0 where
@@ -17,17 +17,18 @@ pub record Streams (S K : Type 0) : Type 0 where
   pub sink : K
 
 -- The source gave these bytes, and the sink took the replies to their lines, as far as the session's end
--- says, while the one world became the other and the clock was read.
+-- says, while the one state became the other and the clock was read.
 pub record Converses {S K : Type 0} (source_of : SourceGhosts S) (sink_of : SinkGhosts K)
-    (old new : Streams S K) (end : SessionEnd) (vouched : Vouched) (begun ended : TimedWorld) : Type 0 where
+    (old new : Streams S K) (end : SessionEnd) (vouched : Vouched)
+    (begun ended : TimedInstanceState) : Type 0 where
   pub given : List ℕ
   pub written : List ℕ
   pub source : Consumes (source_of.left old.source) (source_of.left new.source) given
   pub sink : Appends (sink_of.taken old.sink) (sink_of.taken new.sink) written
   pub replies : Serves (IsReply vouched) begun given (IsAtEnd (source_of.left new.source)) written ended end
 
--- The session was served over the office, from each world in which it may be.
+-- The session was served over the instance, from each state in which it may be.
 abbrev pub Served : {D S K : Type 0} → DiskGhosts D → SourceGhosts S → SinkGhosts K
-    → Streams S K → Streams S K → TimedOffice D → TimedOffice D → SessionEnd → Type 0
+    → Streams S K → Streams S K → TimedInstance D → TimedInstance D → SessionEnd → Type 0
 Served disk_of source_of sink_of old new before after end =
     MovesTimed disk_of (Converses source_of sink_of old new end) before after

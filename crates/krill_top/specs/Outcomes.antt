@@ -12,7 +12,7 @@ use Rattle.desk_core.specs.declared.faults.DeskFault.{DeskFault}
 use Rattle.desk_core.specs.declared.faults.DeskFault.TheVariants as desk
 use Rattle.krill_top.specs.declared.command_fault.CommandFault.{CommandFault}
 use Rattle.krill_top.specs.declared.command_fault.CommandFault.TheVariants as faults
-use Rattle.krill_top.specs.Seen.{Seen, DeskState, ChangesOne, desk_named}
+use Rattle.krill_top.specs.DeskStates.{DeskStates, DeskState, ChangesOne, desk_named}
 
 pub data Outcome : Type 0 where
   -- it is accepted, as that many commands of its desk are then
@@ -34,13 +34,14 @@ pub record MayCome (number : ℕ) (desk : DeskState) (command : Command) (signer
   pub verdict : verdict_of (fold_of number desk.commands) command (Some signers) ≡ Ok tt
 
 -- And its record fits into the desk's journal.
-pub record HasPlace (number : ℕ) (desk : DeskState) (command : Command) (signers : ℕ) : Type 0 where
+pub record CanBeAccepted (number : ℕ) (desk : DeskState) (command : Command) (signers : ℕ)
+    : Type 0 where
   pub may_come : MayCome number desk command signers
   pub fits : held_in desk + needed_for command ≤ journal_limit
 
 -- The command stands at the end of its desk's, and its place there is counted from 1.
 pub record IsAccepted (number : ℕ) (command : Command) (signers count : ℕ) (was is : DeskState) : Type 0 where
-  pub place : HasPlace number was command signers
+  pub place : CanBeAccepted number was command signers
   pub grown : is ≡ record { commands = was.commands ++ command ∷ []; doubt = None }
   pub counted : count ≡ length is.commands
 
@@ -62,13 +63,13 @@ pub record IsFull (number : ℕ) (command : Command) (signers held needed : ℕ)
 
 -- The disk failed while the command's record was stored. It may stand there, and no more are stored.
 pub record IsInDoubt (number : ℕ) (command : Command) (signers device : ℕ) (was is : DeskState) : Type 0 where
-  pub place : HasPlace number was command signers
+  pub place : CanBeAccepted number was command signers
   pub device_is : device ≡ number
   pub doubted : is ≡ record { commands = was.commands; doubt = Some command }
 
 -- Memory was wanting, before anything was stored.
 pub record IsWithoutMemory (number : ℕ) (command : Command) (signers : ℕ) (was is : DeskState) : Type 0 where
-  pub place : HasPlace number was command signers
+  pub place : CanBeAccepted number was command signers
   pub same : is ≡ was
 
 -- What the desk of that number makes of a command.
@@ -83,13 +84,13 @@ Does number command signers Memory was is = IsWithoutMemory number command signe
 
 -- That no authority has the name, or what the desk of that number makes of the command. No other desk
 -- changes.
-abbrev pub CommandedAt : Option ℕ → Command → ℕ → Outcome → Seen → Seen → Type 0
+abbrev pub CommandedAt : Option ℕ → Command → ℕ → Outcome → DeskStates → DeskStates → Type 0
 CommandedAt None command signers outcome before after = (outcome ≡ NoSuchAuthority) × (after ≡ before)
 CommandedAt (Some number) command signers outcome before after =
     ChangesOne number (Does number command signers outcome) before after
 
 -- A command to the authority of that name comes to this.
-abbrev pub Commanded : List ℕ → Command → ℕ → Outcome → Seen → Seen → Type 0
+abbrev pub Commanded : List ℕ → Command → ℕ → Outcome → DeskStates → DeskStates → Type 0
 Commanded name command signers outcome before after =
     CommandedAt (desk_named before name) command signers outcome before after
 

@@ -11,32 +11,32 @@ use Rattle.editions.specs.Edition.{Edition, state_after, set_after, cut_at}
 use Rattle.editions.specs.Step.{configs_at, IsStep}
 use Rattle.editions.specs.Due.{IsCalledFor}
 use Rattle.editions.specs.Published.{IsPublished}
-use Rattle.press_state.specs.declared.gathered.Gathered.{Gathered}
-use Rattle.press_state.specs.declared.stock.Published.{Published}
-use Rattle.press_state.specs.Ended.{ended_keys}
-use Rattle.press_state.specs.Gathering.{cut_with, GoOn}
+use Rattle.editions.specs.declared.gathered.Gathered.{Gathered}
+use Rattle.editions.specs.declared.published_state.Published.{Published}
+use Rattle.editions.specs.Ended.{ended_keys}
+use Rattle.editions.specs.Gathering.{cut_with, AreNextCommands}
 use Rattle.press_core.specs.declared.fault.PressFault.{PressFault}
 use Rattle.press_core.specs.declared.fault.PressFault.TheVariants.{Memory}
 use Rattle.press_core.specs.Press.{PressValue, DropsEach}
 use Rattle.press_core.specs.Signers.{AreCalled, HoldKeys}
-use Rattle.press_core.specs.Start.{start_of}
+use Rattle.press_core.specs.PrepareInput.{start_of}
 use Rattle.press_core.specs.Next.{PreparedValue}
 use Rattle.press_core.specs.Planned.{IsPrepared}
-use Rattle.press_core.specs.Stands.{StandsFor}
+use Rattle.press_core.specs.Stands.{IsLeftBy}
 use Rattle.press_core.specs.Follows.{edition_of}
 use Rattle.press_core.specs.Faults.{IsPressFault}
-use Rattle.krill_top.specs.Seen.{Seen, commands_at}
-use Rattle.krill_top.specs.World.{World, lists_of, default_bases, footing_of}
+use Rattle.krill_top.specs.DeskStates.{DeskStates, commands_at}
+use Rattle.krill_top.specs.InstanceState.{InstanceState, lists_of, premises_of}
 
 -- All accepted commands of each desk are taken in.
-abbrev pub TakesAll : Seen → List ℕ → Type 0
-TakesAll seen cut = (desk : ℕ) → cut_at cut desk ≡ length (commands_at seen desk)
+abbrev pub TakesAll : DeskStates → List ℕ → Type 0
+TakesAll desk_states cut = (desk : ℕ) → cut_at cut desk ≡ length (commands_at desk_states desk)
 
 -- ---- an edition
 
 -- The serial and the moment of the edition, the last of these; and how many objects stand after it, and
 -- how many origins are owed at its cut.
-pub record AreNumbersOf (seen : Seen) (editions : List Edition) (edition : Edition)
+pub record AreNumbersOf (desk_states : DeskStates) (editions : List Edition) (edition : Edition)
     (published : Published) : Type 0 where
   pub serial : published.serial ≡ edition.serial
   pub moment : published.moment ≡ edition.moment
@@ -45,18 +45,18 @@ pub record AreNumbersOf (seen : Seen) (editions : List Edition) (edition : Editi
   pub stand : (uri : List ℕ) → content_at objects uri ≡ set_after editions uri
   pub as_many : published.objects ≡ length objects
   pub owed : List Owed
-  pub owes : AreOwed (configs_at (lists_of seen) edition.cut) owed
+  pub owes : AreOwed (configs_at (lists_of desk_states) edition.cut) owed
   pub as_many_owed : published.origins ≡ length owed
 
--- A press stands for these editions, with these signers, and these are all commands that the desks have
--- accepted behind its cut.
-pub record IsAtPress (vouched : Vouched) (press : PressValue) (gathered : List Gathered)
-    (world : World) : Type 0 where
-  pub site : press.site ≡ default_bases
-  pub ring : press.ring ≡ world.signers
-  pub stands : StandsFor (footing_of vouched world.seen) world.editions press.at
-  pub go_on : GoOn (lists_of world.seen) press.at.cut gathered
-  pub takes_all : TakesAll world.seen (cut_with press.at.cut gathered)
+-- A press has what these editions left, with these signers, and these are all commands that the desks
+-- have accepted behind its cut.
+pub record IsAtPress (press : PressValue) (gathered : List Gathered)
+    (state : InstanceState) : Type 0 where
+  pub site : press.site ≡ state.site
+  pub ring : press.ring ≡ state.signers
+  pub left : IsLeftBy (lists_of state.desk_states) state.editions press.at
+  pub go_on : AreNextCommands (lists_of state.desk_states) press.at.cut gathered
+  pub takes_all : TakesAll state.desk_states (cut_with press.at.cut gathered)
 
 -- The signers kept what they held and vouched for, and then each key that the edition ended was dropped.
 pub record AreLeft (old made : List SignerState) (before : List Edition) (edition : Edition)
@@ -69,49 +69,52 @@ pub record AreLeft (old made : List SignerState) (before : List Edition) (editio
 -- before it at that clock, over all commands that the desks have accepted. Relying parties find its set
 -- sound, and what they get of it are the owed origins.
 pub record Publishes (vouched : Vouched) (clock : ℕ) (told : Published)
-    (before after : World) : Type 0 where
+    (before after : InstanceState) : Type 0 where
   pub press : PressValue
   pub gathered : List Gathered
-  pub at : IsAtPress vouched press gathered before
+  pub at : IsAtPress press gathered before
   pub made : List SignerState
   pub prepared : PreparedValue
   pub is_prepared : IsPrepared (start_of press clock gathered) made prepared
-  pub same_desks : after.seen ≡ before.seen
+  pub same_site : after.site ≡ before.site
+  pub same_desks : after.desk_states ≡ before.desk_states
   pub one_more : after.editions ≡ before.editions ++ edition_of prepared ∷ []
-  pub step : IsStep (footing_of vouched before.seen) clock before.editions (edition_of prepared)
-  pub takes_all : TakesAll before.seen (edition_of prepared).cut
-  pub called : IsCalledFor (footing_of vouched before.seen) before.editions
+  pub step : IsStep (premises_of vouched before) clock before.editions
+      (edition_of prepared)
+  pub takes_all : TakesAll before.desk_states (edition_of prepared).cut
+  pub called : IsCalledFor (premises_of vouched before) before.editions
       (edition_of prepared).cut (edition_of prepared).moment true
-  pub numbers : AreNumbersOf before.seen after.editions (edition_of prepared) told
+  pub numbers : AreNumbersOf before.desk_states after.editions (edition_of prepared) told
   pub signers : AreLeft before.signers made before.editions (edition_of prepared) after.signers
-  pub published : IsPublished (footing_of vouched before.seen) (edition_of prepared)
+  pub published : IsPublished (premises_of vouched before) (edition_of prepared)
       (set_after after.editions)
 
 -- ---- none
 
 -- The press met it, with all commands that the desks have accepted.
-pub record IsMetBy (vouched : Vouched) (clock : ℕ) (fault : PressFault)
-    (before after : World) : Type 0 where
+pub record IsMetBy (clock : ℕ) (fault : PressFault) (before after : InstanceState) : Type 0 where
   pub press : PressValue
   pub gathered : List Gathered
-  pub at : IsAtPress vouched press gathered before
+  pub at : IsAtPress press gathered before
   pub met : IsPressFault (start_of press clock gathered) after.signers fault
 
 -- No edition was made. Desks and editions are as they were; the signers may have made keys and
 -- signatures, which stand nowhere, and have dropped none. Where memory was wanting they counted no fault.
-pub record IsUnpublished (vouched : Vouched) (clock : ℕ) (fault : PressFault)
-    (before after : World) : Type 0 where
-  pub same_desks : after.seen ≡ before.seen
+pub record IsUnpublished (clock : ℕ) (fault : PressFault) (before after : InstanceState)
+    : Type 0 where
+  pub same_site : after.site ≡ before.site
+  pub same_desks : after.desk_states ≡ before.desk_states
   pub same_editions : after.editions ≡ before.editions
   pub kept : Keeps before.signers after.signers
   pub held : HoldKeys before.signers after.signers
   pub cause : ((fault ≡ Memory) × AreCalled before.signers after.signers)
-      ⊎ IsMetBy vouched clock fault before after
+      ⊎ IsMetBy clock fault before after
 
 -- ---- either
 
-abbrev pub PublishesOrNot : Vouched → ℕ → Result Published PressFault → World → World → Type 0
+abbrev pub PublishesOrNot : Vouched → ℕ → Result Published PressFault → InstanceState
+    → InstanceState → Type 0
 PublishesOrNot vouched clock (Ok published) before after =
     Publishes vouched clock published before after
 PublishesOrNot vouched clock (Err fault) before after =
-    IsUnpublished vouched clock fault before after
+    IsUnpublished clock fault before after

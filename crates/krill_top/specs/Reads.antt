@@ -25,25 +25,27 @@ use Rattle.json_api.specs.declared.texts.Shown.{Shown}
 use Rattle.json_api.specs.declared.refusals.Refused.TheVariants.{NoSuchAuthority}
 use Rattle.json_api.specs.Refused.{refused_spelling}
 use Rattle.json_api.specs.Texts.{list_spelling, show_spelling, roas_spelling, history_spelling}
-use Rattle.krill_top.specs.Seen.{Seen, names_in, desk_named, settings_at, commands_at}
+use Rattle.krill_top.specs.DeskStates.{DeskStates, names_in, desk_named, settings_at, commands_at}
 
 -- A line for each name of the tree, whose desks have the numbers from this one on.
-abbrev pub list_lines : Seen → ℕ → List NameRow → List ListLine
-list_lines seen number [] = []
-list_lines seen number (row ∷ rows) =
-    record { name = row.name; deleted = (settings_at seen number).deleted } ∷ list_lines seen (suc number) rows
+abbrev pub list_lines : DeskStates → ℕ → List NameRow → List ListLine
+list_lines desk_states number [] = []
+list_lines desk_states number (row ∷ rows) =
+    record { name = row.name; deleted = (settings_at desk_states number).deleted }
+    ∷ list_lines desk_states (suc number) rows
 
-abbrev pub list_reply : Seen → List ℕ
-list_reply seen = list_spelling (list_lines seen 0 (names_in seen))
+abbrev pub list_reply : DeskStates → List ℕ
+list_reply desk_states = list_spelling (list_lines desk_states 0 (names_in desk_states))
 
 -- What the desk of a name says, where there is one of that name.
 abbrev pub of_named : Option ℕ → List ℕ → (ℕ → List ℕ) → List ℕ
 of_named None name text_at = refused_spelling (NoSuchAuthority name)
 of_named (Some number) name text_at = text_at number
 
-abbrev pub history_reply : Seen → List ℕ → List ℕ
-history_reply seen name =
-    of_named (desk_named seen name) name (λ number. history_spelling name (commands_at seen number))
+abbrev pub history_reply : DeskStates → List ℕ → List ℕ
+history_reply desk_states name =
+    of_named (desk_named desk_states name) name
+    (λ number. history_spelling name (commands_at desk_states number))
 
 -- ---- what the last edition says
 
@@ -101,13 +103,14 @@ abbrev pub IsShownText : List ℕ → Settings → Sheet → ℕ → List ℕ �
 IsShownText name settings sheet number text = (text ≡ show_text name settings sheet number)
     × IfSome (row_at sheet number) (λ row. HasCanonicalSets row.certified)
 
-abbrev pub IsShowTextAt : Option ℕ → Seen → Sheet → List ℕ → List ℕ → Type 0
-IsShowTextAt None seen sheet name text = text ≡ refused_spelling (NoSuchAuthority name)
-IsShowTextAt (Some number) seen sheet name text =
-    IsShownText name (settings_at seen number) sheet number text
+abbrev pub IsShowTextAt : Option ℕ → DeskStates → Sheet → List ℕ → List ℕ → Type 0
+IsShowTextAt None desk_states sheet name text = text ≡ refused_spelling (NoSuchAuthority name)
+IsShowTextAt (Some number) desk_states sheet name text =
+    IsShownText name (settings_at desk_states number) sheet number text
 
-abbrev pub IsShowReply : Seen → Sheet → List ℕ → List ℕ → Type 0
-IsShowReply seen sheet name text = IsShowTextAt (desk_named seen name) seen sheet name text
+abbrev pub IsShowReply : DeskStates → Sheet → List ℕ → List ℕ → Type 0
+IsShowReply desk_states sheet name text = IsShowTextAt
+    (desk_named desk_states name) desk_states sheet name text
 
 -- ---- `roas list`
 
@@ -134,10 +137,11 @@ IsRoasText name settings sheet number text = (lines : List RoaLine)
     × AreRoaLines (row_at sheet number) settings.origins lines
     × (text ≡ roas_spelling name lines sheet.serial)
 
-abbrev pub IsRoasTextAt : Option ℕ → Seen → Sheet → List ℕ → List ℕ → Type 0
-IsRoasTextAt None seen sheet name text = text ≡ refused_spelling (NoSuchAuthority name)
-IsRoasTextAt (Some number) seen sheet name text =
-    IsRoasText name (settings_at seen number) sheet number text
+abbrev pub IsRoasTextAt : Option ℕ → DeskStates → Sheet → List ℕ → List ℕ → Type 0
+IsRoasTextAt None desk_states sheet name text = text ≡ refused_spelling (NoSuchAuthority name)
+IsRoasTextAt (Some number) desk_states sheet name text =
+    IsRoasText name (settings_at desk_states number) sheet number text
 
-abbrev pub IsRoasReply : Seen → Sheet → List ℕ → List ℕ → Type 0
-IsRoasReply seen sheet name text = IsRoasTextAt (desk_named seen name) seen sheet name text
+abbrev pub IsRoasReply : DeskStates → Sheet → List ℕ → List ℕ → Type 0
+IsRoasReply desk_states sheet name text = IsRoasTextAt
+    (desk_named desk_states name) desk_states sheet name text

@@ -14,11 +14,11 @@ use Rattle.json_api.specs.Line.{ReadsLine, longest_line}
 use Rattle.json_api.specs.Reply.{accepted_spelling, published_spelling, serial_spelling}
 use Rattle.rp_rules.specs.Certificates.{Vouched}
 use Rattle.editions.specs.Edition.{state_after}
-use Rattle.press_state.specs.declared.stock.Published.{Published}
+use Rattle.editions.specs.declared.published_state.Published.{Published}
 use Rattle.press_core.specs.declared.fault.PressFault.{PressFault}
 use Rattle.press_core.specs.declared.fault.PressFault.TheVariants as press
 use Rattle.line_loop.specs.Readings.{IsReading}
-use Rattle.krill_top.specs.World.{World, TimedWorld}
+use Rattle.krill_top.specs.InstanceState.{InstanceState, TimedInstanceState}
 use Rattle.krill_top.specs.declared.command_fault.CommandFault.{CommandFault}
 use Rattle.krill_top.specs.declared.command_fault.CommandFault.TheVariants as faults
 use Rattle.krill_top.specs.Outcomes.{Outcome, Commanded, fault_outcome}
@@ -37,13 +37,14 @@ pub record IsBlank (line : List ℕ) : Type 0 where
   pub blank : IsTrue (list_all is_blank_byte line)
 
 -- A refusal, or a read: such a text is given, and nothing changes. The clock isn't read.
-pub record IsToldSo (IsIt : List ℕ → Type 0) (before : TimedWorld) (text : List ℕ) (accepted : Bool) (after : TimedWorld) : Type 0 where
+pub record IsToldSo (IsIt : List ℕ → Type 0) (before : TimedInstanceState) (text : List ℕ)
+    (accepted : Bool) (after : TimedInstanceState) : Type 0 where
   pub text_is : IsIt text
   pub not_accepted : accepted ≡ false
   pub same : after ≡ before
 
 -- The same, of one text.
-abbrev pub IsTold : List ℕ → TimedWorld → List ℕ → Bool → TimedWorld → Type 0
+abbrev pub IsTold : List ℕ → TimedInstanceState → List ℕ → Bool → TimedInstanceState → Type 0
 IsTold told before text accepted after = IsToldSo (λ it. it ≡ told) before text accepted after
 
 -- How an outcome is told.
@@ -62,15 +63,19 @@ is_accepted other = false
 
 -- A command to the authority of that name comes to this, with the signers that there are. It changes no
 -- edition, and asks no signer.
-pub record CommandedIn (name : List ℕ) (command : Command) (outcome : Outcome) (before after : World) : Type 0 where
-  pub commanded : Commanded name command (length before.signers) outcome before.seen after.seen
+pub record CommandedIn (name : List ℕ) (command : Command) (outcome : Outcome)
+    (before after : InstanceState) : Type 0 where
+  pub commanded : Commanded name command
+      (length before.signers) outcome before.desk_states after.desk_states
+  pub same_site : after.site ≡ before.site
   pub same_editions : after.editions ≡ before.editions
   pub same_signers : after.signers ≡ before.signers
 
 -- A command gets the text of what it comes to. The clock isn't read.
-pub record CommandText (name : List ℕ) (command : Command) (before : TimedWorld) (text : List ℕ) (accepted : Bool) (after : TimedWorld) : Type 0 where
+pub record CommandText (name : List ℕ) (command : Command) (before : TimedInstanceState)
+    (text : List ℕ) (accepted : Bool) (after : TimedInstanceState) : Type 0 where
   pub outcome : Outcome
-  pub comes : CommandedIn name command outcome before.world after.world
+  pub comes : CommandedIn name command outcome before.state after.state
   pub same_clock : after.clock ≡ before.clock
   pub text_is : text ≡ outcome_text name outcome
   pub accepted_is : accepted ≡ is_accepted outcome
@@ -103,31 +108,39 @@ has_published (Ok published) = true
 has_published (Err fault) = false
 
 -- The clock is read once, and a publication gets the text of what it comes to at that time.
-pub record PublishText (vouched : Vouched) (before : TimedWorld) (text : List ℕ) (accepted : Bool) (after : TimedWorld) : Type 0 where
+pub record PublishText (vouched : Vouched) (before : TimedInstanceState) (text : List ℕ)
+    (accepted : Bool) (after : TimedInstanceState) : Type 0 where
   pub clock : ℕ
   pub read : IsReading before.clock clock after.clock
   pub outcome : Result Published PressFault
-  pub comes : PublishesOrNot vouched clock outcome before.world after.world
+  pub comes : PublishesOrNot vouched clock outcome before.state after.state
   pub text_is : text ≡ publish_text outcome
   pub accepted_is : accepted ≡ has_published outcome
 
 -- ---- a line
 
-abbrev pub serial_text : World → List ℕ
-serial_text world = serial_spelling (state_after world.editions).serial
+abbrev pub serial_text : InstanceState → List ℕ
+serial_text state = serial_spelling (state_after state.editions).serial
 
 -- What a line says gets this text.
-abbrev pub SaidText : Vouched → Line → TimedWorld → List ℕ → Bool → TimedWorld → Type 0
+abbrev pub SaidText : Vouched → Line → TimedInstanceState → List ℕ → Bool → TimedInstanceState
+    → Type 0
 SaidText vouched (line.Command name command) before text accepted after = CommandText name command before text accepted after
 SaidText vouched line.Publish before text accepted after = PublishText vouched before text accepted after
-SaidText vouched line.Serial before text accepted after = IsTold (serial_text before.world) before text accepted after
-SaidText vouched line.List before text accepted after = IsTold (list_reply before.world.seen) before text accepted after
-SaidText vouched (line.Show name) before text accepted after = IsToldSo (IsShowText vouched before.world name) before text accepted after
-SaidText vouched (line.Roas name) before text accepted after = IsToldSo (IsRoasText vouched before.world name) before text accepted after
-SaidText vouched (line.History name) before text accepted after = IsTold (history_reply before.world.seen name) before text accepted after
+SaidText vouched line.Serial before text accepted after = IsTold
+    (serial_text before.state) before text accepted after
+SaidText vouched line.List before text accepted after = IsTold
+    (list_reply before.state.desk_states) before text accepted after
+SaidText vouched (line.Show name) before text accepted after = IsToldSo
+    (IsShowText before.state name) before text accepted after
+SaidText vouched (line.Roas name) before text accepted after = IsToldSo
+    (IsRoasText before.state name) before text accepted after
+SaidText vouched (line.History name) before text accepted after = IsTold
+    (history_reply before.state.desk_states name) before text accepted after
 
 -- What the bytes of a line are read as gets this text.
-abbrev pub ReadText : Vouched → Result Line LineFault → TimedWorld → List ℕ → Bool → TimedWorld → Type 0
+abbrev pub ReadText : Vouched → Result Line LineFault → TimedInstanceState → List ℕ → Bool
+    → TimedInstanceState → Type 0
 ReadText vouched (Ok said) before text accepted after = SaidText vouched said before text accepted after
 ReadText vouched (Err fault) before text accepted after = IsTold (fault_spelling fault) before text accepted after
 
@@ -140,7 +153,8 @@ abbrev pub bad_line_text : List ℕ
 bad_line_text = refused_spelling refused.BadLine
 
 -- The one, or that memory was wanting.
-abbrev pub IsToldOr : (TimedWorld → List ℕ → Bool → TimedWorld → Type 0) → TimedWorld → List ℕ → Bool → TimedWorld → Type 0
+abbrev pub IsToldOr : (TimedInstanceState → List ℕ → Bool → TimedInstanceState → Type 0)
+    → TimedInstanceState → List ℕ → Bool → TimedInstanceState → Type 0
 IsToldOr P before text accepted after = P before text accepted after ⊎ IsTold memory_text before text accepted after
 
 -- The text that says why a command isn't accepted. There may be no memory for a verdict's.
@@ -154,23 +168,27 @@ IsTextIn (Ok text) told = told ≡ text.items
 IsTextIn (Err wanting) told = ⊥
 
 -- The bytes are read so, and that gets this text.
-pub record IsReadText (vouched : Vouched) (line : List ℕ) (before : TimedWorld) (text : List ℕ) (accepted : Bool) (after : TimedWorld) : Type 0 where
+pub record IsReadText (vouched : Vouched) (line : List ℕ) (before : TimedInstanceState)
+    (text : List ℕ) (accepted : Bool) (after : TimedInstanceState) : Type 0 where
   pub said : Result Line LineFault
   pub reads : ReadsLine line said
   pub answer : ReadText vouched said before text accepted after
 
 -- A line gets this text: what its bytes get, or that memory was wanting.
-abbrev pub IsText : Vouched → List ℕ → TimedWorld → List ℕ → Bool → TimedWorld → Type 0
+abbrev pub IsText : Vouched → List ℕ → TimedInstanceState → List ℕ → Bool → TimedInstanceState
+    → Type 0
 IsText vouched line before text accepted after = IsToldOr (IsReadText vouched line) before text accepted after
 
 -- A text and a line feed.
-pub record IsAnswer (vouched : Vouched) (line : List ℕ) (before : TimedWorld) (reply : List ℕ) (accepted : Bool) (after : TimedWorld) : Type 0 where
+pub record IsAnswer (vouched : Vouched) (line : List ℕ) (before : TimedInstanceState)
+    (reply : List ℕ) (accepted : Bool) (after : TimedInstanceState) : Type 0 where
   pub not_blank : ¬ IsBlank line
   pub text : List ℕ
   pub reply_is : reply ≡ text ++ 10 ∷ []
   pub answer : IsText vouched line before text accepted after
 
 -- A line gets this reply: none where it is blank, else a text and a line feed.
-abbrev pub IsReply : Vouched → TimedWorld → List ℕ → List ℕ → Bool → TimedWorld → Type 0
+abbrev pub IsReply : Vouched → TimedInstanceState → List ℕ → List ℕ → Bool → TimedInstanceState
+    → Type 0
 IsReply vouched before line reply accepted after =
     (IsBlank line × IsTold [] before reply accepted after) ⊎ IsAnswer vouched line before reply accepted after

@@ -2,7 +2,7 @@
 use Rattle.std.specs.Prelude.{◌≡◌, ◌⊎◌, ℕ, ◌≤◌, ◌<◌, ◌+◌, true, max, List, [], ◌∷◌, ◌++◌, Option, None, Some, IfSome, length, map, slice_get, ⊤}
 use Rattle.std.specs.Option.{option_map}
 use Rattle.gate_journal.specs.Format.{opened}
-use Rattle.fault_count.specs.Rise.{HasRisen}
+use Rattle.host_calls.specs.Rise.{HasRisen}
 use Rattle.disk_api.specs.declared.disk.Disk.{Ghosts as DiskGhosts}
 use Rattle.line_loop.specs.declared.traits.Source.{Ghosts as SourceGhosts}
 use Rattle.line_loop.specs.declared.traits.Sink.{Ghosts as SinkGhosts}
@@ -22,15 +22,17 @@ use Rattle.krill_top.specs.declared.faults.OpenFault.TheVariants.{WrongCount, Me
 use Rattle.krill_top.specs.declared.faults.RunFault.{RunFault}
 use Rattle.krill_top.specs.declared.serving.SessionEnds.{SessionEnds}
 use Rattle.krill_top.specs.declared.running.RunEnd.{RunEnd}
-use Rattle.krill_top.specs.Seen.{Seen, DeskState, names_in}
-use Rattle.krill_top.specs.World.{World, at_clock, footing_of, AreAllVouched}
+use Rattle.krill_top.specs.DeskStates.{DeskStates, DeskState, names_in}
+use Rattle.krill_top.specs.InstanceState.{InstanceState, at_clock, default_bases, premises_of, AreAllVouched}
 use Rattle.krill_top.specs.Stands.{all_stored, RoseWithin}
 use Rattle.krill_top.specs.Ended.{Streams, Converses}
 use Rattle.krill_top.specs.Desks.{RecoveredTo, IsSafe, IsOpeningRefused}
 use Rattle.krill_top.specs.Ends.{fault_status, run_status, fault_of, opening_fault}
 
 -- A run that was refused at once: nothing was read or written, and no device was called.
-pub record IsRefused {D G S K C : Type 0} (desks : List D) (signers : List G) (sessions : List (SessionEnds S K C)) (fault : RunFault) (run : RunEnd D G S K C) : Type 0 where
+pub record IsRefusedRun {D G S K C : Type 0} (desks : List D) (signers : List G)
+    (sessions : List (SessionEnds S K C)) (fault : RunFault)
+    (run : RunEnd D G S K C) : Type 0 where
   pub status_is : run.status ≡ fault_status fault
   pub fault_is : run.fault ≡ Some fault
   pub desks_untouched : run.desks.items ≡ desks
@@ -67,7 +69,8 @@ IsServedAt disk_of number (Some old) (Some new) (Some begun) (Some ended) = IsSe
 IsServedAt disk_of number old new begun ended = ⊥
 
 -- So of each disk.
-abbrev pub AreServed : {D : Type 0} → DiskGhosts D → List D → List D → Seen → Seen → Type 0
+abbrev pub AreServed : {D : Type 0} → DiskGhosts D → List D → List D → DeskStates → DeskStates
+    → Type 0
 AreServed disk_of old new begun ended = (number : ℕ)
     → IsServedAt disk_of number (slice_get old number) (slice_get new number) (slice_get begun number) (slice_get ended number)
 
@@ -79,14 +82,14 @@ signers_needed [] = 0
 signers_needed (row ∷ rows) = max (row.signer + 1) (signers_needed rows)
 
 -- The names use a signer that isn't there, or memory was wanting.
-abbrev pub IsSignersCause : OpenFault → ℕ → Seen → Type 0
-IsSignersCause fault signers seen = (fault ≡ Memory)
-    ⊎ ((signers < signers_needed (names_in seen))
-    × (fault ≡ WrongCount 1 (signers_needed (names_in seen)) signers))
+abbrev pub IsSignersCause : OpenFault → ℕ → DeskStates → Type 0
+IsSignersCause fault signers desk_states = (fault ≡ Memory)
+    ⊎ ((signers < signers_needed (names_in desk_states))
+    × (fault ≡ WrongCount 1 (signers_needed (names_in desk_states)) signers))
 
 -- The desks were all opened, and closed again: each holds the commands that it held.
 pub record IsClosedAgain {D : Type 0} (disk_of : DiskGhosts D) (fault : OpenFault) (signers : ℕ) (desks news : List D) : Type 0 where
-  pub found : Seen
+  pub found : DeskStates
   pub disks : AreServed disk_of desks news found found
   pub cause : IsSignersCause fault signers found
 
@@ -120,19 +123,21 @@ pub record ServesOne {D G S K C : Type 0} (disk_of : DiskGhosts D) (state_of : G
     (clock_of : ClockGhosts C) (vouched : Vouched) (desks : List D) (signers : List G) (before : SessionEnds S K C) (run : RunEnd D G S K C) : Type 0 where
   pub after : SessionEnds S K C
   pub end : SessionEnd
-  pub begun : World
-  pub ended : World
+  pub begun : InstanceState
+  pub ended : InstanceState
   pub handed_back : run.sessions.items ≡ after ∷ []
   pub status : run.status ≡ run_status (fault_of end)
   pub fault : run.fault ≡ fault_of end
   pub served : Converses source_of sink_of (streams_of before) (streams_of after) end vouched
       (at_clock (clock_of.readings before.clock) begun) (at_clock (clock_of.readings after.clock) ended)
-  pub disks : AreServed disk_of desks run.desks.items begun.seen ended.seen
+  pub disks : AreServed disk_of desks run.desks.items begun.desk_states ended.desk_states
   pub none_before : begun.editions ≡ []
-  pub steps : AreSteps (footing_of vouched ended.seen) ended.editions
+  pub begun_site : begun.site ≡ default_bases
+  pub same_site : ended.site ≡ begun.site
+  pub steps : AreSteps (premises_of vouched ended) ended.editions
   pub signers_begun : begun.signers ≡ map state_of signers
   pub signers_ended : map state_of run.signers.items ≡ ended.signers
-  pub signers_there : signers_needed (names_in begun.seen) ≤ length begun.signers
+  pub signers_there : signers_needed (names_in begun.desk_states) ≤ length begun.signers
   pub source_fault : end ≡ SourceFault → HasRisen (source_of.fault_count before.source) (source_of.fault_count after.source)
   pub sink_fault : end ≡ SinkFault → HasRisen (sink_of.fault_count before.sink) (sink_of.fault_count after.sink)
   pub source_later : source_of.fault_count before.source ≤ source_of.fault_count after.source

@@ -1,7 +1,7 @@
 -- The desks as the program has them and as replies see them, and how their disks go on.
 use Rattle.std.specs.Prelude.{◌≡◌, ◌↔◌, ◌≤◌, ℕ, List, [], ◌∷◌, ◌++◌, Option, None, Some, IfSome, map, slice_get, ⊤}
 use Rattle.std.specs.Option.{option_map}
-use Rattle.fault_count.specs.Rise.{HasRisen}
+use Rattle.host_calls.specs.Rise.{HasRisen}
 use Rattle.disk_api.specs.declared.disk.Disk.{Ghosts as DiskGhosts}
 use Rattle.authority_book.specs.declared.commands.Command.{Command}
 use Rattle.gate_journal.specs.Format.{held_by}
@@ -9,7 +9,7 @@ use Rattle.gate_journal.specs.Storing.{stored, entry_bytes}
 use Rattle.cmd_codec.specs.Spelling.{spelling}
 use Rattle.desk_core.specs.View.{View}
 use Rattle.desk_core.specs.Commands.{Records, HasCommands}
-use Rattle.krill_top.specs.Seen.{Seen, DeskState, desk_named}
+use Rattle.krill_top.specs.DeskStates.{DeskStates, DeskState, desk_named}
 
 -- The desk of that number is in this state; the command in doubt would be its next one.
 pub record IsIn {D : Type 0} (number : ℕ) (desk : View D) (state : DeskState) : Type 0 where
@@ -27,15 +27,17 @@ InAt number (Some desk) None = ⊥
 InAt number (Some desk) (Some state) = IsIn number desk state
 
 -- The desks, by their numbers, are in these states.
-abbrev pub AreIn : {D : Type 0} → List (View D) → Seen → Type 0
-AreIn desks seen = (number : ℕ) → InAt number (slice_get desks number) (slice_get seen number)
+abbrev pub AreIn : {D : Type 0} → List (View D) → DeskStates → Type 0
+AreIn desks desk_states = (number : ℕ) → InAt number (slice_get desks number)
+    (slice_get desk_states number)
 
 -- The desk of the authority of that name.
-pub record IsNamed {D : Type 0} (seen : Seen) (name : List ℕ) (desk : View D) : Type 0 where
+pub record IsNamed {D : Type 0} (desk_states : DeskStates) (name : List ℕ) (desk : View D)
+    : Type 0 where
   pub number : ℕ
   pub state : DeskState
-  pub named : desk_named seen name ≡ Some number
-  pub there : slice_get seen number ≡ Some state
+  pub named : desk_named desk_states name ≡ Some number
+  pub there : slice_get desk_states number ≡ Some state
   pub stands : IsIn number desk state
 
 -- The bytes of a journal's file with these payloads, after more are stored behind them.
@@ -55,7 +57,8 @@ pub record RoseWithin (before after : ℕ) : Type 0 where
 -- How a desk goes on, from one state to another: accepted commands come behind its own, and on a known
 -- disk their records with their bytes. A fault of its disk alone leaves one in doubt, and then no more
 -- come.
-pub record GoesOn {D : Type 0} (disk_of : DiskGhosts D) (old new : D) (was is : DeskState) : Type 0 where
+pub record DeskGoesOn {D : Type 0} (disk_of : DiskGhosts D) (old new : D) (was is : DeskState)
+    : Type 0 where
   pub accepted : List Command
   pub commands : is.commands ≡ was.commands ++ accepted
   pub bytes : is.doubt ≡ None
@@ -65,23 +68,29 @@ pub record GoesOn {D : Type 0} (disk_of : DiskGhosts D) (old new : D) (was is : 
   pub later : disk_of.fault_count old ≤ disk_of.fault_count new
 
 -- So of a number's desk, if there is one.
-abbrev pub GoesOnAt : {D : Type 0} → DiskGhosts D → Option (View D) → Option (View D) → Option DeskState → Option DeskState → Type 0
-GoesOnAt disk_of None None None None = ⊤
-GoesOnAt disk_of (Some old) (Some new) (Some was) (Some is) = GoesOn disk_of old.disk new.disk was is
-GoesOnAt disk_of old new was is = ⊥
+abbrev pub DeskGoesOnAt : {D : Type 0} → DiskGhosts D → Option (View D) → Option (View D)
+    → Option DeskState → Option DeskState → Type 0
+DeskGoesOnAt disk_of None None None None = ⊤
+DeskGoesOnAt disk_of (Some old) (Some new) (Some was)
+    (Some is) = DeskGoesOn disk_of old.disk new.disk was is
+DeskGoesOnAt disk_of old new was is = ⊥
 
 -- So of each desk.
-abbrev pub GoOn : {D : Type 0} → DiskGhosts D → List (View D) → List (View D) → Seen → Seen → Type 0
-GoOn disk_of old new before after =
-    (number : ℕ) → GoesOnAt disk_of (slice_get old number) (slice_get new number) (slice_get before number) (slice_get after number)
+abbrev pub DesksGoOn : {D : Type 0} → DiskGhosts D → List (View D) → List (View D) → DeskStates
+    → DeskStates → Type 0
+DesksGoOn disk_of old new before after =
+    (number : ℕ) → DeskGoesOnAt disk_of (slice_get old number) (slice_get new number)
+    (slice_get before number) (slice_get after number)
 
 -- From the desks in one state, P leads to a state in which the other desks are.
-pub record Goes {D : Type 0} (disk_of : DiskGhosts D) (P : Seen → Seen → Type 0) (old new : List (View D)) (before : Seen) : Type 0 where
-  pub after : Seen
+pub record Goes {D : Type 0} (disk_of : DiskGhosts D) (P : DeskStates → DeskStates → Type 0)
+    (old new : List (View D)) (before : DeskStates) : Type 0 where
+  pub after : DeskStates
   pub step : P before after
   pub stands : AreIn new after
-  pub disks : GoOn disk_of old new before after
+  pub disks : DesksGoOn disk_of old new before after
 
 -- What a call may do to the desks, as replies see them and as their disks go on.
-abbrev pub Leads : {D : Type 0} → DiskGhosts D → (Seen → Seen → Type 0) → List (View D) → List (View D) → Type 0
-Leads disk_of P old new = (before : Seen) → AreIn old before → Goes disk_of P old new before
+abbrev pub Leads : {D : Type 0} → DiskGhosts D → (DeskStates → DeskStates → Type 0) → List
+    (View D) → List (View D) → Type 0
+Leads disk_of P old new = (before : DeskStates) → AreIn old before → Goes disk_of P old new before

@@ -7,7 +7,8 @@ use authority_book::Refusal;
 use desk_core::{DeskFault, DeskRose};
 use disk_api::Disk;
 
-/// Why a command to an authority isn't accepted, in the order in which it is asked.
+/// Why a command to an authority isn't accepted, in the order in which it is asked. `held` and
+/// `needed` are in bytes.
 #[derive(Drop)]
 pub enum CommandFault<D: Disk> {
     /// No authority has the name.

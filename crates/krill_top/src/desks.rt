@@ -6,31 +6,31 @@ ghost use Rattle.authority_book.specs.Listed.{place_of};
 ghost use Rattle.json_api.specs.declared.refusals.Refused.TheVariants.{NoSuchAuthority};
 ghost use Rattle.json_api.specs.Refused.{refused_spelling};
 ghost use Rattle.desk_core.specs.View.{View};
-ghost use Rattle.krill_top.specs.Seen.{Seen, most_desks, names_in, desk_named};
+ghost use Rattle.krill_top.specs.DeskStates.{DeskStates, most_desks, names_in, desk_named};
 ghost use Rattle.krill_top.specs.Reads.{list_lines, list_reply, IsShowReply, IsRoasReply, history_reply};
 ghost use Rattle.krill_top.specs.Outcomes.{Commanded, outcome_of};
 ghost use Rattle.krill_top.specs.Stands.{AreIn, IsNamed, Leads};
-ghost use Rattle.krill_top.specs.Gathered.{AreSince};
+ghost use Rattle.krill_top.specs.inner.Gathered.{AreSince};
 ghost use Rattle.krill_top.specs.Run as run;
 
 use crate::command_fault::CommandFault;
 use crate::reads::{roas_shown, shown};
-use authority_book::{Command, Config, NameRow};
+use authority_book::{Command, Config, MOST_AUTHORITIES, NameRow};
 use desk_core::Desk;
 use disk_api::Disk;
+use editions::Gathered;
 use items::Items;
 use json_api::{ListLine, Refused, history_text, list_text, refused_into};
 use names::Name;
 use notice_board::Sheet;
-use press_state::Gathered;
 use std::alloc::{AllocError, Global};
 use std::marker::Model;
 
 /// The desk of the trust anchor, which has the names of the tree.
 const ANCHOR: usize = 0;
 
-// How many desks there are.
-const DESKS: usize = 64;
+/// How many desks there are.
+pub const DESKS: usize = MOST_AUTHORITIES;
 
 // Room for a refusal that names an authority.
 const REFUSAL_ROOM: usize = 200;
@@ -44,7 +44,7 @@ pub struct Desks<D: Disk> {
 impl<D: Disk> Model for Desks<D> {
     ghost use Rattle.std.specs.Prelude.{◌≡◌, List, length};
     ghost use Rattle.desk_core.specs.View.{View};
-    ghost use Rattle.krill_top.specs.Seen.{most_desks};
+    ghost use Rattle.krill_top.specs.DeskStates.{most_desks};
 
     ghost Value = { List (View D) };
 
@@ -72,7 +72,7 @@ impl<D: Disk> Desks<D> {
 
     // The names of the tree.
     fn names(&self) -> &[NameRow]
-        ensures names { (seen : Seen) → AreIn self.now seen → result.now ≡ names_in seen }
+        ensures names { (desk_states : DeskStates) → AreIn self.now desk_states → result.now ≡ names_in desk_states }
         ensures limit { length result.now ≤ most_desks }
     {
         self.desks[ANCHOR].config().names()
@@ -80,14 +80,14 @@ impl<D: Disk> Desks<D> {
 
     /// How many signers the names of the tree use: they have numbers below this one.
     pub fn signers_needed(&self) -> u64
-        ensures { (seen : Seen) → AreIn self.now seen → result ≡ run.signers_needed (names_in seen) }
+        ensures { (desk_states : DeskStates) → AreIn self.now desk_states → result ≡ run.signers_needed (names_in desk_states) }
     {
         signers_needed(self.names())
     }
 
     // The number of the desk of the authority of that name.
     fn place_of(&self, name: &Name) -> Option<usize>
-        ensures named { (seen : Seen) → AreIn self.now seen → result ≡ desk_named seen name.now }
+        ensures named { (desk_states : DeskStates) → AreIn self.now desk_states → result ≡ desk_named desk_states name.now }
         ensures there { IfSome result (λ place. place < most_desks) }
     {
         place_among(self.names(), name)
@@ -95,8 +95,8 @@ impl<D: Disk> Desks<D> {
 
     // The desk of the authority of that name.
     fn desk_of(&self, name: &Name) -> Option<&Desk<D>>
-        ensures { (seen : Seen) → AreIn self.now seen
-            → MatchOption result (desk_named seen name.now ≡ None) (λ desk. IsNamed seen name.now desk.now) }
+        ensures { (desk_states : DeskStates) → AreIn self.now desk_states
+            → MatchOption result (desk_named desk_states name.now ≡ None) (λ desk. IsNamed desk_states name.now desk.now) }
     {
         match self.place_of(name) {
             Some(place) => Some(&self.desks[place]),
@@ -126,7 +126,8 @@ impl<D: Disk> Desks<D> {
         }
     }
 
-    /// The commands of each desk behind the first so many that the cut counts.
+    /// The commands of each desk behind the first so many that the cut counts. The cut has a number
+    /// for each desk, in their order.
     pub fn since_cut(&self, alloc: Global, cut: &[u64]) -> Result<Vec<Gathered>, AllocError>
         requires desks { length cut.now ≡ most_desks }
         requires within { (number : ℕ) (desk : View D) → slice_get self.now number ≡ Some desk
@@ -147,14 +148,14 @@ impl<D: Disk> Desks<D> {
 
     /// The reply to `list`: all names of the tree, in their order.
     pub fn list(&self, alloc: Global) -> Result<Vec<u8>, AllocError>
-        ensures { IfOk result (λ text. (seen : Seen) → AreIn self.now seen → text.items ≡ list_reply seen) }
+        ensures { IfOk result (λ text. (desk_states : DeskStates) → AreIn self.now desk_states → text.items ≡ list_reply desk_states) }
     {
         let lines = self.list_lines(alloc)?;
         list_text(alloc, lines.as_slice())
     }
 
     fn list_lines(&self, alloc: Global) -> Result<Vec<ListLine>, AllocError>
-        ensures { IfOk result (λ lines. (seen : Seen) → AreIn self.now seen → lines.items ≡ list_lines seen 0 (names_in seen)) }
+        ensures { IfOk result (λ lines. (desk_states : DeskStates) → AreIn self.now desk_states → lines.items ≡ list_lines desk_states 0 (names_in desk_states)) }
     {
         let names = self.names();
         let mut lines = Vec::with_capacity(alloc, names.len())?;
@@ -168,7 +169,7 @@ impl<D: Disk> Desks<D> {
 
     /// The reply to `show`: an authority's state.
     pub fn show(&self, alloc: Global, sheet: &Sheet, name: &Name) -> Result<Vec<u8>, AllocError>
-        ensures { IfOk result (λ text. (seen : Seen) → AreIn self.now seen → IsShowReply seen sheet.now name.now text.items) }
+        ensures { IfOk result (λ text. (desk_states : DeskStates) → AreIn self.now desk_states → IsShowReply desk_states sheet.now name.now text.items) }
     {
         match self.place_of(name) {
             Some(place) => shown(alloc, name, self.desks[place].config(), sheet, place),
@@ -178,7 +179,7 @@ impl<D: Disk> Desks<D> {
 
     /// The reply to `roas list`: an authority's origins.
     pub fn roas(&self, alloc: Global, sheet: &Sheet, name: &Name) -> Result<Vec<u8>, AllocError>
-        ensures { IfOk result (λ text. (seen : Seen) → AreIn self.now seen → IsRoasReply seen sheet.now name.now text.items) }
+        ensures { IfOk result (λ text. (desk_states : DeskStates) → AreIn self.now desk_states → IsRoasReply desk_states sheet.now name.now text.items) }
     {
         match self.place_of(name) {
             Some(place) => roas_shown(alloc, name, self.desks[place].config(), sheet, place),
@@ -188,7 +189,7 @@ impl<D: Disk> Desks<D> {
 
     /// The reply to `history commands`: an authority's commands, all that were accepted.
     pub fn history(&self, alloc: Global, name: &Name) -> Result<Vec<u8>, AllocError>
-        ensures { IfOk result (λ text. (seen : Seen) → AreIn self.now seen → text.items ≡ history_reply seen name.now) }
+        ensures { IfOk result (λ text. (desk_states : DeskStates) → AreIn self.now desk_states → text.items ≡ history_reply desk_states name.now) }
     {
         match self.desk_of(name) {
             Some(desk) => {

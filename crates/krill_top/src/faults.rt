@@ -6,7 +6,8 @@ ghost use Rattle.krill_top.specs.Ends.{opening_spelling, fault_spelling, fault_s
 use std::alloc::{AllocError, Global};
 use std::fmt;
 
-/// Why opening was refused, before anything was read.
+/// Why opening was refused, before anything was read. `needed` and `found` are counts, and disks
+/// are numbered from 0.
 #[derive(Clone, Copy, Debug, PartialEq, Eq)]
 pub enum OpenFault {
     /// Another number of things was handed in than is needed. `what` is 0 for the desks' disks, 1 for
@@ -52,7 +53,7 @@ pub enum RunFault {
     Refused { fault: OpenFault },
     /// A disk failed at opening, or a source or a sink.
     Device,
-    /// A session took as many bytes as it may.
+    /// A session took so many bytes, as many as it may.
     Spent { bytes: u64 },
     /// Out of memory.
     Memory,

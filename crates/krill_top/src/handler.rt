@@ -6,11 +6,11 @@ ghost use Rattle.json_api.specs.Reply.{accepted_spelling, published_spelling, se
 ghost use Rattle.json_api.specs.Refused.{verdict_spelling, fault_spelling, refused_spelling};
 ghost use Rattle.krill_top.specs.Replies as spec;
 ghost use Rattle.krill_top.specs.Replies.{is_blank_byte, IsBlank, memory_text, bad_line_text, published_in_reply, serial_text, IsTold, CommandText, PublishText, SaidText, IsToldOr, IsFaultText, IsTextIn};
-ghost use Rattle.krill_top.specs.Offices.{MovesTimed, MayText};
-ghost use Rattle.krill_top.specs.Handlers.{timed};
+ghost use Rattle.krill_top.specs.inner.Instances.{MovesTimed, MayText};
+ghost use Rattle.krill_top.specs.inner.Handlers.{timed};
 
 use crate::command_fault::CommandFault;
-use crate::office::Office;
+use crate::instance::Instance;
 use authority_book::{Command, Refusal};
 use disk_api::Disk;
 use json_api::{
@@ -26,33 +26,33 @@ use std::alloc::{AllocError, Global};
 /// Room for an accepted command's reply, or one that needs no memory, and its line feed.
 const REPLY_ROOM: usize = 256;
 
-/// The office, the clock of its publications, and what reads the lines that are answered over them.
+/// The instance, the clock of its publications, and what reads the lines that are answered over them.
 #[derive(Drop)]
 pub struct Handler<D: Disk, G: Signer, C: Clock> {
-    office: Office<D, G>,
+    instance: Instance<D, G>,
     clock: C,
     reader: LineReader,
 }
 
 impl<D: Disk, G: Signer, C: Clock> Handler<D, G, C> {
-    /// Answers over this office, and publishes by this clock.
-    pub fn new(alloc: Global, office: Office<D, G>, clock: C) -> Handler<D, G, C>
-        ensures office { result.office ≡ office }
+    /// Answers over this instance, and publishes by this clock.
+    pub fn new(alloc: Global, instance: Instance<D, G>, clock: C) -> Handler<D, G, C>
+        ensures instance { result.instance ≡ instance }
         ensures clock { result.clock ≡ clock }
     {
         Handler {
-            office,
+            instance,
             clock,
             reader: LineReader::new(alloc),
         }
     }
 
-    /// The office, with the commands that were accepted and what was published, and the clock.
-    pub fn into_parts(self) -> (Office<D, G>, C)
-        ensures office { result.0 ≡ self.office }
+    /// The instance, with the commands that were accepted and what was published, and the clock.
+    pub fn into_parts(self) -> (Instance<D, G>, C)
+        ensures instance { result.0 ≡ self.instance }
         ensures clock { result.1 ≡ self.clock }
     {
-        (self.office, self.clock)
+        (self.instance, self.clock)
     }
 
     // Answers a command, and says whether it was accepted. The room for the reply is taken before
@@ -69,7 +69,7 @@ impl<D: Disk, G: Signer, C: Clock> Handler<D, G, C> {
         ensures err { OnErr result ((self.new ≡ self.old) × (out.new.items ≡ out.old.items)) }
     {
         out.reserve(REPLY_ROOM)?;
-        match self.office.command(alloc, name, command) {
+        match self.instance.command(alloc, name, command) {
             Ok(count) => {
                 append_accepted(out, name, count);
                 Ok(true)
@@ -90,7 +90,7 @@ impl<D: Disk, G: Signer, C: Clock> Handler<D, G, C> {
     {
         out.reserve(REPLY_ROOM)?;
         let now = self.clock.now();
-        match self.office.publish(alloc, now) {
+        match self.instance.publish(alloc, now) {
             Ok(published) => {
                 append_published(out, &published_of(published));
                 Ok(true)
@@ -105,11 +105,11 @@ impl<D: Disk, G: Signer, C: Clock> Handler<D, G, C> {
     // Answers with the serial of the last edition.
     fn answer_serial(&self, out: &mut Vec<u8>) -> Result<bool, AllocError>
         ensures ok { IfOk result (λ accepted. (text : List ℕ) × (out.new.items ≡ out.old.items ++ text ++ 10 ∷ [])
-            × MovesTimed D.Disk (λ vouched b a. IsTold (serial_text b.world) b text accepted a) (timed C.Clock self.now) (timed C.Clock self.now)) }
+            × MovesTimed D.Disk (λ vouched b a. IsTold (serial_text b.state) b text accepted a) (timed C.Clock self.now) (timed C.Clock self.now)) }
         ensures err { OnErr result (out.new.items ≡ out.old.items) }
     {
         out.reserve(REPLY_ROOM)?;
-        append_serial(out, self.office.serial());
+        append_serial(out, self.instance.serial());
         Ok(false)
     }
 
@@ -128,10 +128,10 @@ impl<D: Disk, G: Signer, C: Clock> Handler<D, G, C> {
             Line::Command { name, command } => self.answer_command(alloc, &name, command, out),
             Line::Publish => self.answer_publish(alloc, out),
             Line::Serial => self.answer_serial(out),
-            Line::List => append_told(out, self.office.list(alloc)),
-            Line::Show { name } => append_told(out, self.office.show(alloc, &name)),
-            Line::Roas { name } => append_told(out, self.office.roas(alloc, &name)),
-            Line::History { name } => append_told(out, self.office.history(alloc, &name)),
+            Line::List => append_told(out, self.instance.list(alloc)),
+            Line::Show { name } => append_told(out, self.instance.show(alloc, &name)),
+            Line::Roas { name } => append_told(out, self.instance.roas(alloc, &name)),
+            Line::History { name } => append_told(out, self.instance.history(alloc, &name)),
         }
     }
 
@@ -167,7 +167,7 @@ fn append_accepted(out: &mut Vec<u8>, name: &Name, count: u64)
 }
 
 // What a publication is called in replies.
-fn published_of(published: press_state::Published) -> Published
+fn published_of(published: editions::Published) -> Published
     ensures { result ≡ published_in_reply published }
 {
     Published {
@@ -381,7 +381,7 @@ fn has_publish(line: &[u8]) -> bool {
 }
 
 impl<D: Disk, G: Signer, C: Clock> LineHandler for Handler<D, G, C> {
-    ghost use Rattle.krill_top.specs.Offices.{MayReply};
+    ghost use Rattle.krill_top.specs.inner.Instances.{MayReply};
 
     ghost answers = { λ old line reply accepted new. MayReply D.Disk (timed C.Clock old) line reply accepted (timed C.Clock new) };
 

@@ -7,7 +7,7 @@ mod desks;
 mod faults;
 mod fronts;
 mod handler;
-mod office;
+mod instance;
 mod opening;
 mod pressing;
 mod reads;
@@ -16,13 +16,13 @@ mod serving;
 mod starting;
 
 pub use command_fault::CommandFault;
-pub use desks::Desks;
+pub use desks::{DESKS, Desks};
 pub use faults::{OpenFault, RunFault, fault_text};
 pub use handler::Handler;
+pub use instance::Instance;
 pub use line_loop::{
     Clock, ListClock, MemorySink, MemorySource, SessionEnd, Sink, SinkStop, Source, SourceStop,
     StreamSink, StreamSource, SystemClock,
 };
-pub use office::Office;
 pub use running::{RunEnd, run_krill};
 pub use serving::{Session, SessionEnds};

@@ -3,17 +3,17 @@
 ghost use Rattle.std.specs.Prelude.{◌≡◌, ◌≤◌, ◌<◌, ℕ, List, Some, All, length, get_or, slice_get, IfOk, IfErr};
 ghost use Rattle.entitle.specs.Certified.{names_of};
 ghost use Rattle.desk_core.specs.View.{View};
-ghost use Rattle.press_state.specs.declared.gathered.Gathered.{Gathered};
-ghost use Rattle.press_state.specs.Gathering.{configs_with, AreGathered, AreAccepted};
-ghost use Rattle.krill_top.specs.Seen.{most_desks};
-ghost use Rattle.krill_top.specs.Gathered.{AreSince};
-ghost use Rattle.krill_top.specs.Pressing.{IsPressed, IsNotPressed};
+ghost use Rattle.editions.specs.declared.gathered.Gathered.{Gathered};
+ghost use Rattle.editions.specs.Gathering.{configs_with, AreGathered, AreAccepted};
+ghost use Rattle.krill_top.specs.DeskStates.{most_desks};
+ghost use Rattle.krill_top.specs.inner.Gathered.{AreSince};
+ghost use Rattle.krill_top.specs.inner.Pressing.{IsPressed, IsNotPressed};
 
 use crate::desks::Desks;
 use disk_api::Disk;
+use editions::Published;
 use notice_board::Sheet;
 use press_core::{Press, PressFault};
-use press_state::Published;
 use signer_api::Signer;
 use std::alloc::Global;
 

@@ -3,13 +3,14 @@
 ghost use Rattle.std.specs.Prelude.{◌≡◌, ◌≢◌, ◌↔◌, ◌⊎◌, ◌<◌, ◌≤◌, [], ◌∷◌, List, length, map, IsTrue};
 ghost use Rattle.krill_top.specs.Words.{AreRunWords};
 ghost use Rattle.krill_top.specs.Ends.{run_status, fault_of, opening_fault};
-ghost use Rattle.krill_top.specs.Seen.{most_desks};
+ghost use Rattle.krill_top.specs.DeskStates.{most_desks};
 ghost use Rattle.rp_rules.specs.Certificates.{Vouched};
-ghost use Rattle.krill_top.specs.Started.{IsStarted};
-ghost use Rattle.krill_top.specs.Run.{IsRefused, IsRefusedAtOpening, IsTrusting, ServesOne};
+ghost use Rattle.krill_top.specs.inner.Started.{IsStarted};
+ghost use Rattle.krill_top.specs.Run.{IsRefusedRun, IsRefusedAtOpening, IsTrusting, ServesOne};
 ghost use Rattle.krill_top.specs.declared.faults.RunFault.TheVariants as faults;
 ghost use Rattle.krill_top.specs.declared.faults.OpenFault.TheVariants as opening;
 
+use crate::desks::DESKS;
 use crate::faults::{OpenFault, RunFault};
 use crate::fronts::{put_in_front, take_first};
 use crate::handler::Handler;
@@ -19,9 +20,6 @@ use disk_api::Disk;
 use line_loop::{Clock, SessionEnd, Sink, Source};
 use signer_api::Signer;
 use std::alloc::Global;
-
-/// How many desks there are, each over a disk of its own.
-const DESKS: usize = 64;
 
 /// What `WrongCount` says is wrong in number.
 const DISKS_WRONG: u32 = 0;
@@ -79,7 +77,7 @@ fn opening_fault(fault: OpenFault) -> RunFault
     }
 }
 
-// Serves the one session over the office, and closes it.
+// Serves the one session over the instance, and closes it.
 fn serve_one<D: Disk, G: Signer, S: Source, K: Sink, C: Clock>(
     alloc: Global,
     started: Started<D, G>,
@@ -92,23 +90,23 @@ fn serve_one<D: Disk, G: Signer, S: Source, K: Sink, C: Clock>(
         → (vouched : Vouched) → IsTrusting vouched (map G.state signers) (map G.state result.signers.items)
         → ServesOne D.Disk G.state S.Source K.Sink C.Clock vouched disks signers before result }
 {
-    let Started { office, disks } = started;
+    let Started { instance, disks } = started;
     let mut sessions = sessions;
     let SessionEnds {
         mut source,
         mut sink,
         clock,
     } = take_first(&mut sessions);
-    let mut handler = Handler::new(alloc, office, clock);
+    let mut handler = Handler::new(alloc, instance, clock);
     let ended = Session::serve(alloc, &mut handler, &mut source, &mut sink);
-    let (office, clock) = handler.into_parts();
+    let (instance, clock) = handler.into_parts();
     let ends = SessionEnds {
         source,
         sink,
         clock,
     };
     put_in_front(&mut sessions, ends);
-    run_end(fault_of(ended), stop(Started { office, disks }), sessions)
+    run_end(fault_of(ended), stop(Started { instance, disks }), sessions)
 }
 
 /// The status of a run that ended so.
@@ -206,12 +204,15 @@ fn refusal(words: &[String], disks: usize, signers: usize, sessions: usize) -> O
     None
 }
 
-/// Does what the words name. `run` opens the 64 desks over their disks, in order, and the office over
+/// Does what the words name. `run` opens the 64 desks over their disks, in order, and the instance over
 /// them and the signers, and serves the one session: each command goes to the desk of its authority,
 /// and what the desks have accepted is published.
 ///
 /// Where opening is refused no source is read and no sink is given anything. All devices come back as
 /// they stand.
+///
+/// Asked before anything is opened, in this order: the words (`Words`), that there is one session,
+/// 64 desks, and 1 to 8 signers (`WrongCount` with 2, 0 and 1).
 pub fn run_krill<D: Disk, G: Signer, S: Source, K: Sink, C: Clock>(
     alloc: Global,
     words: &[String],
@@ -219,15 +220,15 @@ pub fn run_krill<D: Disk, G: Signer, S: Source, K: Sink, C: Clock>(
     signers: Vec<G>,
     sessions: Vec<SessionEnds<S, K, C>>,
 ) -> RunEnd<D, G, S, K, C>
-    ensures words { ¬ AreRunWords words.now → IsRefused desks.items signers.items sessions.items faults.Words result }
+    ensures words { ¬ AreRunWords words.now → IsRefusedRun desks.items signers.items sessions.items faults.Words result }
     ensures sessions { AreRunWords words.now → length sessions.items ≢ 1
-        → IsRefused desks.items signers.items sessions.items (faults.Refused (opening.WrongCount 2 1 (length sessions.items))) result }
+        → IsRefusedRun desks.items signers.items sessions.items (faults.Refused (opening.WrongCount 2 1 (length sessions.items))) result }
     ensures desks { AreRunWords words.now → length sessions.items ≡ 1 → length desks.items ≢ most_desks
-        → IsRefused desks.items signers.items sessions.items (faults.Refused (opening.WrongCount 0 most_desks (length desks.items))) result }
+        → IsRefusedRun desks.items signers.items sessions.items (faults.Refused (opening.WrongCount 0 most_desks (length desks.items))) result }
     ensures no_signer { AreRunWords words.now → length sessions.items ≡ 1 → length desks.items ≡ most_desks → signers.items ≡ []
-        → IsRefused desks.items signers.items sessions.items (faults.Refused (opening.WrongCount 1 1 0)) result }
+        → IsRefusedRun desks.items signers.items sessions.items (faults.Refused (opening.WrongCount 1 1 0)) result }
     ensures signers { AreRunWords words.now → length sessions.items ≡ 1 → length desks.items ≡ most_desks → 8 < length signers.items
-        → IsRefused desks.items signers.items sessions.items (faults.Refused (opening.WrongCount 1 8 (length signers.items))) result }
+        → IsRefusedRun desks.items signers.items sessions.items (faults.Refused (opening.WrongCount 1 8 (length signers.items))) result }
     ensures served { AreRunWords words.now → length desks.items ≡ most_desks → 0 < length signers.items → length signers.items ≤ 8
         → (before : SessionEnds S K C) → sessions.items ≡ before ∷ []
         → IsRefusedAtOpening D.Disk G.state desks.items signers.items sessions.items result

@@ -1,8 +1,8 @@
-//! A session: its lines, answered over the office.
+//! A session: its lines, answered over the instance.
 
 ghost use Rattle.std.specs.Prelude.{◌≡◌, ◌≤◌};
-ghost use Rattle.fault_count.specs.Rise.{HasRisen};
-ghost use Rattle.krill_top.specs.Handlers.{timed};
+ghost use Rattle.host_calls.specs.Rise.{HasRisen};
+ghost use Rattle.krill_top.specs.inner.Handlers.{timed};
 ghost use Rattle.krill_top.specs.Ended.{Served};
 
 use crate::handler::Handler;

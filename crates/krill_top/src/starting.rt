@@ -1,18 +1,18 @@
-//! The office over opened desks and signers, and what is handed back of it.
+//! The instance over opened desks and signers, and what is handed back of it.
 
 ghost use Rattle.std.specs.Prelude.{◌≡◌, ◌⊎◌, ◌≤◌, ◌<◌, [], List, length, map, vec_len, vec_capacity, IfOk, IfErr};
 ghost use Rattle.desk_core.specs.View.{View};
 ghost use Rattle.rp_rules.specs.Certificates.{Vouched};
-ghost use Rattle.krill_top.specs.Seen.{Seen, most_desks};
-ghost use Rattle.krill_top.specs.World.{AreTrusted};
-ghost use Rattle.krill_top.specs.Opened.{AreOpened, AreClosed};
+ghost use Rattle.krill_top.specs.DeskStates.{DeskStates, most_desks};
+ghost use Rattle.krill_top.specs.InstanceState.{AreTrusted};
+ghost use Rattle.krill_top.specs.inner.Opened.{AreOpened, AreClosed};
 ghost use Rattle.krill_top.specs.Desks.{IsOpeningRefused};
 ghost use Rattle.krill_top.specs.Run.{IsClosedAgain};
-ghost use Rattle.krill_top.specs.Started.{IsStarted};
+ghost use Rattle.krill_top.specs.inner.Started.{IsStarted};
 
 use crate::desks::Desks;
 use crate::faults::OpenFault;
-use crate::office::{Office, OfficeRefused};
+use crate::instance::{Instance, InstanceRefused};
 use crate::opening::{Opened, OpeningRefused, close_desks, open_desks};
 use disk_api::Disk;
 use signer_api::Signer;
@@ -29,21 +29,21 @@ pub(crate) struct Devices<D: Disk, G: Signer> {
     pub(crate) signers: Vec<G>,
 }
 
-/// An office, and the emptied list of its disks, in which there is room for them.
+/// An instance, and the emptied list of its disks, in which there is room for them.
 #[derive(Drop)]
 pub(crate) struct Started<D: Disk, G: Signer> {
-    pub(crate) office: Office<D, G>,
+    pub(crate) instance: Instance<D, G>,
     pub(crate) disks: Vec<D>,
 }
 
-/// Devices over which no office was opened, and why.
+/// Devices over which no instance was opened, and why.
 #[derive(Drop)]
 pub(crate) struct NotStarted<D: Disk, G: Signer> {
     pub(crate) devices: Devices<D, G>,
     pub(crate) fault: OpenFault,
 }
 
-/// Opens the desks and the office over them.
+/// Opens the desks and the instance over them.
 pub(crate) fn start<D: Disk, G: Signer>(
     alloc: Global,
     devices: Devices<D, G>,
@@ -57,7 +57,7 @@ pub(crate) fn start<D: Disk, G: Signer>(
 {
     let Devices { disks, signers } = devices;
     match open_desks(alloc, disks) {
-        Ok(opened) => open_office(alloc, opened, signers),
+        Ok(opened) => open_instance(alloc, opened, signers),
         Err(OpeningRefused { disks, fault }) => {
             let devices = Devices { disks, signers };
             Err(NotStarted { devices, fault })
@@ -65,8 +65,8 @@ pub(crate) fn start<D: Disk, G: Signer>(
     }
 }
 
-// Opens the office over the opened desks, where the tree has the signers that its names use.
-fn open_office<D: Disk, G: Signer>(
+// Opens the instance over the opened desks, where the tree has the signers that its names use.
+fn open_instance<D: Disk, G: Signer>(
     alloc: Global,
     opened: Opened<D>,
     signers: Vec<G>,
@@ -94,9 +94,9 @@ fn open_office<D: Disk, G: Signer>(
         };
         return Err(give_up(desks, disks, ring, fault));
     }
-    match Office::open(alloc, desks, ring) {
-        Ok(office) => Ok(Started { office, disks }),
-        Err(OfficeRefused { desks, ring }) => Err(give_up(desks, disks, ring, OpenFault::Memory)),
+    match Instance::open(alloc, desks, ring) {
+        Ok(instance) => Ok(Started { instance, disks }),
+        Err(InstanceRefused { desks, ring }) => Err(give_up(desks, disks, ring, OpenFault::Memory)),
     }
 }
 
@@ -132,14 +132,14 @@ fn devices_of<D: Disk, G: Signer>(desks: Desks<D>, disks: Vec<D>, ring: Ring<G>)
     }
 }
 
-/// Closes the office, and hands back its devices.
+/// Closes the instance, and hands back its devices.
 pub(crate) fn stop<D: Disk, G: Signer>(started: Started<D, G>) -> Devices<D, G>
     requires empty { started.disks.items ≡ [] }
     requires room { most_desks ≤ vec_capacity started.disks }
-    ensures disks { AreClosed D.Disk started.office.desks result.disks.items }
-    ensures signers { map G.state result.signers.items ≡ started.office.press.ring }
+    ensures disks { AreClosed D.Disk started.instance.desks result.disks.items }
+    ensures signers { map G.state result.signers.items ≡ started.instance.press.ring }
 {
-    let Started { office, disks } = started;
-    let (desks, ring) = office.close();
+    let Started { instance, disks } = started;
+    let (desks, ring) = instance.close();
     devices_of(desks, disks, ring)
 }

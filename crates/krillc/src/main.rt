@@ -8,19 +8,18 @@ mod signers;
 
 use disk_api::{DiskStop, FileDisk};
 use krill_top::{
-    RunFault, SessionEnds, StreamSink, StreamSource, SystemClock, fault_text, run_krill,
+    DESKS, RunFault, SessionEnds, StreamSink, StreamSource, SystemClock, fault_text, run_krill,
 };
 use signer_api::Signer;
 use signers::{PipedSigner, open_signers, rehearsal};
 use std::io::{ErrorKind, Write};
 use std::os::fd::{AsRawFd, IntoRawFd};
 use std::process::ExitCode;
+use std::thread::Threads;
 use std::{env, fs, io};
 
 /// The folder of the desks' files, in the working directory.
 pub(crate) const FOLDER: &str = "krill-data";
-
-const DESKS: u32 = 64;
 
 /// The standard streams have the descriptors below this one.
 const STANDARD_STREAMS: i32 = 3;
@@ -39,7 +38,7 @@ announce a prefix:
 The line {\"command\":\"publish\"} publishes what was accepted. Nothing that is published is kept when the
 program ends. Keys and signatures are those of the signers whose pipes stand in that folder, signer-0.in
 and signer-0.out to signer-7.in and signer-7.out; where there are none, they are a rehearsal's, which
-are worth nothing.
+no relying party accepts, and standard error says so.
 
 statuses:
     0  standard input was read to its end, and every line has its reply
@@ -47,7 +46,8 @@ statuses:
     3  the store is damaged or holds what is no accepted command, or it uses more signers than there
        are: standard error says where, or how many
     4  a device failed: standard input or output failed or is closed, a file of the store or a pipe of a
-       signer can't be opened, read or written at the start, or another krillc has the store
+       signer can't be opened, read or written at the start, signers are numbered with a gap, one gives
+       no answer to `hello`, or another krillc has the store
     5  standard input brought 2^40 bytes, the most that a session may
     6  out of memory
 ";
@@ -58,7 +58,7 @@ fn main(rt: HostRuntime) -> ExitCode {
     match words_of(&rt) {
         Ok(words) => match asked_text(&words) {
             Some(text) => tell(&rt, text),
-            None => open_and_run(&rt, &words),
+            None => open_and_run(&rt, &rt, &words),
         },
         Err(ErrorKind::InvalidData) => refused(&rt, RunFault::Words),
         Err(ErrorKind::OutOfMemory) => refused(&rt, RunFault::Memory),
@@ -100,8 +100,8 @@ fn tell(rt: &HostRuntime, text: &str) -> ExitCode {
 }
 
 /// Opens the files, whatever else the words are, and runs over them.
-fn open_and_run(rt: &HostRuntime, words: &[String]) -> ExitCode {
-    match open_store(rt) {
+fn open_and_run(rt: &HostRuntime, threads: &impl Threads, words: &[String]) -> ExitCode {
+    match open_store(rt, threads) {
         Ok(store) => run_over(rt, words, store),
         Err(stop) => refused(rt, fault_of(stop)),
     }
@@ -117,9 +117,17 @@ fn run_over(rt: &HostRuntime, words: &[String], store: Store) -> ExitCode {
     if !signers.is_empty() {
         return run(rt, words, desks, signers);
     }
-    match rehearsal(rt) {
+    match rehearsal(rt, is_run(words)) {
         Ok(signers) => run(rt, words, desks, signers),
         Err(stop) => refused(rt, fault_of(stop)),
+    }
+}
+
+/// Whether the words are those of a run, and not of a faulty command line.
+fn is_run(words: &[String]) -> bool {
+    match words {
+        [word] => word.as_str() == "run",
+        _ => false,
     }
 }
 
@@ -141,17 +149,17 @@ struct Store {
 
 /// Makes the folder, locks it, and opens the desks' files and the signers in it, none of them in the place of
 /// a standard stream that was closed.
-fn open_store(rt: &HostRuntime) -> Result<Store, DiskStop> {
+fn open_store(rt: &HostRuntime, threads: &impl Threads) -> Result<Store, DiskStop> {
     hold_closed_streams(rt).map_err(stop_of)?;
     let folder = make_folder_locked(rt).map_err(stop_of)?;
-    let mut desks = Vec::with_capacity(rt.alloc(), DESKS as usize)?;
+    let mut desks = Vec::with_capacity(rt.alloc(), DESKS)?;
     for number in 0..DESKS {
         let path = format!(in rt.alloc(); "{FOLDER}/desk-{number:02}")?;
         desks.push(FileDisk::open_unnamed(rt, rt.alloc(), &path)?)?;
     }
     // The names of all files at once.
     folder.sync_all().map_err(stop_of)?;
-    let signers = open_signers(rt)?;
+    let signers = open_signers(rt, threads)?;
     Ok(Store {
         folder,
         desks,

@@ -4,7 +4,7 @@ use Rattle.std.proofs.lemmas.List.{take-append-drop, get_or-take, get_or-drop, g
 use Rattle.std.proofs.lemmas.Bool.{cases_lt, eqb-true}
 use Rattle.memchr.specs.Find.{IsFirstByte, Passes, Nowhere, is_byte}
 use Rattle.line_loop.specs.Lines.{is_feed}
-use Rattle.line_loop.specs.Pending.{NoFeed, EndsLine}
+use Rattle.line_loop.specs.inner.Pending.{NoFeed, EndsLine}
 
 not_true : (b : Bool) → (b ≡ true → ⊥) → b ≡ false
 not_true true h = absurd (h refl)

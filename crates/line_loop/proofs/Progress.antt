@@ -5,8 +5,8 @@ use Rattle.std.specs.List.{slice_split, onto_first}
 use Rattle.std.proofs.lemmas.List.Splits.{slice_split_none, slice_split_at}
 use Rattle.line_loop.specs.Lines.{is_feed, all_lines, ended_lines, front}
 use Rattle.line_loop.specs.Replies.{Answers, AnswersAtMostOne, BreaksOff}
-use Rattle.line_loop.specs.Pending.{NoFeed}
-use Rattle.line_loop.specs.Progress.{AnswersQuietly, AnswersOne, Reaches}
+use Rattle.line_loop.specs.inner.Pending.{NoFeed}
+use Rattle.line_loop.specs.inner.Progress.{AnswersQuietly, AnswersOne, Reaches}
 
 pub front_push : {X : Type 0} (xs : List X) (x : X) → front (xs ++ x ∷ []) ≡ xs
 front_push [] x = refl

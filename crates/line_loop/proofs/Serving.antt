@@ -7,8 +7,8 @@ use Rattle.line_loop.specs.declared.traits.SinkStop.{SinkStop}
 use Rattle.line_loop.specs.declared.traits.SinkStop.TheVariants.{Fault, Memory}
 use Rattle.line_loop.specs.Lines.{all_lines, ended_lines}
 use Rattle.line_loop.specs.Replies.{Answers, BreaksOff}
-use Rattle.line_loop.specs.Pending.{Pending, NoFeed, IsTail, IsTailOf, IsShortened}
-use Rattle.line_loop.specs.Progress.{Reaches, Advances, Interrupts, InterruptsLast}
+use Rattle.line_loop.specs.inner.Pending.{Pending, NoFeed, IsTail, IsTailOf, IsShortened}
+use Rattle.line_loop.specs.inner.Progress.{Reaches, Advances, Interrupts, InterruptsLast}
 use Rattle.line_loop.specs.Session.{session_limit, Breaks, Serves, end_of}
 use Rattle.line_loop.proofs.Tails.{tail_longer, tail_no_feed, tail_shortened}
 use Rattle.line_loop.proofs.Progress.{Answers-append, Reaches-start, Reaches-longer, Reaches-then, Answers-ended, Answers-all, BreaksOff-none, BreaksOff-last, BreaksOff-after}

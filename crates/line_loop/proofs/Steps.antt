@@ -1,8 +1,8 @@
 -- What a step over the window does to the session.
 use Rattle.std.proofs.Common.{◌≡◌, ℕ, ◌+◌, Bool, false, List, [], ◌++◌, take, drop, sym, ap, ◌∙◌, subst}
 use Rattle.line_loop.specs.Replies.{Answers, AnswersAtMostOne}
-use Rattle.line_loop.specs.Pending.{Pending, EndsLine, IsTailOf}
-use Rattle.line_loop.specs.Progress.{AnswersQuietly, AnswersOne, Reaches, Advances, Interrupts}
+use Rattle.line_loop.specs.inner.Pending.{Pending, EndsLine, IsTailOf}
+use Rattle.line_loop.specs.inner.Progress.{AnswersQuietly, AnswersOne, Reaches, Advances, Interrupts}
 use Rattle.line_loop.proofs.Tails.{first_line}
 use Rattle.line_loop.proofs.Progress.{Answers-append, Quietly-append, Quietly-last, Quietly-most, Most-answers, Reaches-start, Quietly-start, Reaches-line, Reaches-so, Reaches-then, BreaksOff-batch}
 

@@ -4,7 +4,7 @@ use Rattle.std.proofs.lemmas.List.{append-nil}
 use Rattle.std.proofs.lemmas.List.Elements.{All-append}
 use Rattle.std.proofs.lemmas.Bool.{false≢true}
 use Rattle.line_loop.specs.Lines.{is_feed}
-use Rattle.line_loop.specs.Pending.{Pending, NoFeed, EndsLine, IsTail, IsTailOf, IsShortened}
+use Rattle.line_loop.specs.inner.Pending.{Pending, NoFeed, EndsLine, IsTail, IsTailOf, IsShortened}
 
 pub NoFeed-append : (xs ys : List ℕ) → NoFeed xs → NoFeed ys → NoFeed (xs ++ ys)
 NoFeed-append xs ys = All-append (λ (b : ℕ). is_feed b ≡ false) xs ys

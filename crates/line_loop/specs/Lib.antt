@@ -2,10 +2,9 @@ pub mod Lines
 pub mod Replies
 pub mod Session
 pub mod Memory
-pub mod Pending
-pub mod Progress
 pub mod Streams
 pub mod Played
 pub mod Readings
 pub mod Clocks
 pub mod Taking
+pub mod inner

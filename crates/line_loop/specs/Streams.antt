@@ -3,7 +3,7 @@ use Rattle.line_loop.specs.declared.streams.SourceOver.{SourceOver}
 use Rattle.line_loop.specs.declared.streams.SinkOver.{SinkOver}
 use Rattle.line_loop.specs.declared.host_streams.HostReader.{HostReader}
 use Rattle.line_loop.specs.declared.host_streams.HostWriter.{HostWriter}
-use Rattle.raw_calls.specs.declared.tally.Tally.{Tally}
+use Rattle.host_calls.specs.declared.tally.Tally.{Tally}
 
 abbrev pub source_reader : {C : Type 0} → SourceOver C → C
 source_reader source = source.from

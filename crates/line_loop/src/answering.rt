@@ -1,7 +1,7 @@
 // What answers a session's lines, one at a time.
 ghost use Rattle.std.specs.Prelude.{◌≡◌, ℕ, ◌<◌, ◌≤◌, Bool, false, List, [], ◌++◌, length, take, vec_len, IfOk, OnOk, OnErr, IfSome, IfNone};
-ghost use Rattle.line_loop.specs.Pending.{NoFeed, IsTailOf, IsTail};
-ghost use Rattle.line_loop.specs.Progress.{AnswersOne, Advances};
+ghost use Rattle.line_loop.specs.inner.Pending.{NoFeed, IsTailOf, IsTail};
+ghost use Rattle.line_loop.specs.inner.Progress.{AnswersOne, Advances};
 
 use crate::LINE_LIMIT;
 use crate::window::Window;

@@ -1,6 +1,6 @@
 // The calls of std's readers and writers: the trusted edge where they are the system's. Each is made once.
 use crate::{RawReader, RawWriter};
-use raw_calls::{CallFault, Tally, called, taken};
+use host_calls::{CallFault, Tally, called, taken};
 use std::io::{Read, Write};
 
 /// A reader of std. It is known where that is: a file or a pipe isn't.
@@ -12,7 +12,7 @@ pub struct HostReader<R> {
 
 impl<R: Read> HostReader<R> {
     ghost use Rattle.line_loop.specs.Streams.{host_reader, reader_tally};
-    ghost use Rattle.raw_calls.specs.Counts.{fault_count};
+    ghost use Rattle.host_calls.specs.Counts.{fault_count};
     ghost use Rattle.std.specs.Prelude.{◌≡◌};
 
     /// A reader none of whose calls has failed.
@@ -29,7 +29,7 @@ impl<R: Read> HostReader<R> {
 
 impl<R: Read + Drop> RawReader for HostReader<R> {
     ghost use Rattle.line_loop.specs.Streams.{host_reader, reader_tally};
-    ghost use Rattle.raw_calls.specs.Counts.{fault_count, patience_of};
+    ghost use Rattle.host_calls.specs.Counts.{fault_count, patience_of};
 
     ghost left = { λ reader. R.remaining (host_reader reader) };
 
@@ -51,7 +51,7 @@ pub struct HostWriter<W> {
 
 impl<W: Write> HostWriter<W> {
     ghost use Rattle.line_loop.specs.Streams.{host_writer, writer_tally};
-    ghost use Rattle.raw_calls.specs.Counts.{fault_count};
+    ghost use Rattle.host_calls.specs.Counts.{fault_count};
     ghost use Rattle.std.specs.Prelude.{◌≡◌};
 
     /// A writer none of whose calls has failed.
@@ -68,7 +68,7 @@ impl<W: Write> HostWriter<W> {
 
 impl<W: Write + Drop> RawWriter for HostWriter<W> {
     ghost use Rattle.line_loop.specs.Streams.{host_writer, writer_tally};
-    ghost use Rattle.raw_calls.specs.Counts.{fault_count, patience_of};
+    ghost use Rattle.host_calls.specs.Counts.{fault_count, patience_of};
 
     ghost taken = { λ writer. W.contents (host_writer writer) };
 

@@ -3,10 +3,10 @@ ghost use Rattle.std.specs.Prelude.{◌≡◌, ◌≢◌, ◌↔◌, ℕ, ◌+�
 ghost use Rattle.std.specs.Bool.{OnTrue, OnFalse};
 ghost use Rattle.std.specs.Io.KnownBytes.{ReadConsumes};
 ghost use Rattle.line_loop.specs.Taking.{TakesFront};
-ghost use Rattle.fault_count.specs.Rise.{HasRisen};
+ghost use Rattle.host_calls.specs.Rise.{HasRisen};
 
 use crate::{Clock, Sink, SinkStop, Source, SourceStop};
-use fault_count::raised;
+use host_calls::raised;
 use std::alloc::Global;
 
 /// Which calls of an end are to fail.

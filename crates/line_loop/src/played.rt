@@ -3,7 +3,7 @@ ghost use Rattle.std.specs.Prelude.{◌≡◌, ◌<◌, ◌≤◌, Some, IfOk, l
 
 use crate::memory::copy_front;
 use crate::{RawReader, RawWriter};
-use raw_calls::{CallFault, Script, Tally};
+use host_calls::{CallFault, Script, Tally};
 use std::alloc::Global;
 
 /// A reader of these bytes.
@@ -33,7 +33,7 @@ impl PlayedReader {
 
 impl RawReader for PlayedReader {
     ghost use Rattle.line_loop.specs.Played.{reader_left};
-    ghost use Rattle.raw_calls.specs.Counts.{fault_count, patience_of};
+    ghost use Rattle.host_calls.specs.Counts.{fault_count, patience_of};
 
     ghost left = { λ reader. Some (reader_left reader) };
 
@@ -84,7 +84,7 @@ impl PlayedWriter {
 
 impl RawWriter for PlayedWriter {
     ghost use Rattle.line_loop.specs.Played.{writer_bytes};
-    ghost use Rattle.raw_calls.specs.Counts.{fault_count, patience_of};
+    ghost use Rattle.host_calls.specs.Counts.{fault_count, patience_of};
 
     ghost taken = { λ writer. Some (writer_bytes writer) };
 

@@ -1,9 +1,9 @@
 // One call of a reader or a writer, as the system makes it.
 ghost use Rattle.std.specs.Prelude.{◌≡◌, ℕ, ◌<◌, ◌≤◌, List, Option, length, IfOk};
 ghost use Rattle.std.specs.Io.KnownBytes.{Keeps, ReadConsumes, WriteAppends};
-ghost use Rattle.raw_calls.specs.Faults.{CountsAnswer};
+ghost use Rattle.host_calls.specs.Faults.{CountsAnswer};
 
-use raw_calls::CallFault;
+use host_calls::CallFault;
 
 /// What bytes are read from. A read may give fewer than there is room for, and a signal may interrupt it.
 pub trait RawReader: Drop {

@@ -3,9 +3,9 @@ ghost use Rattle.std.specs.Prelude.{◌≡◌, ℕ, ◌<◌, ◌≤◌, Bool, Li
 ghost use Rattle.std.specs.Bool.{OnTrue, OnFalse};
 ghost use Rattle.line_loop.specs.Replies.{Answers, AnswersAtMostOne};
 ghost use Rattle.std.specs.Io.KnownBytes.{Appends, Consumes, IsAtEnd};
-ghost use Rattle.fault_count.specs.Rise.{HasRisen};
-ghost use Rattle.line_loop.specs.Pending.{NoFeed, IsTail};
-ghost use Rattle.line_loop.specs.Progress.{Advances, Interrupts, InterruptsLast};
+ghost use Rattle.host_calls.specs.Rise.{HasRisen};
+ghost use Rattle.line_loop.specs.inner.Pending.{NoFeed, IsTail};
+ghost use Rattle.line_loop.specs.inner.Progress.{Advances, Interrupts, InterruptsLast};
 ghost use Rattle.line_loop.specs.Session.{Serves, end_of};
 
 use crate::answering::{answer_last, answer_next, next_takes_long};

@@ -1,11 +1,11 @@
 // Ends over the calls of readers and writers, which are made again where a signal interrupts them.
 ghost use Rattle.std.specs.Prelude.{◌≡◌, ◌<◌, ◌≤◌, ℕ, Err, List, length, take, IfOk, OnOk, OnErr};
 ghost use Rattle.std.specs.Io.KnownBytes.{Appends, Keeps, ReadConsumes, WriteAppends};
-ghost use Rattle.fault_count.specs.Rise.{HasRisen};
+ghost use Rattle.host_calls.specs.Rise.{HasRisen};
 ghost use Rattle.line_loop.specs.Taking.{TakesFront};
 
 use crate::{HostReader, HostWriter, RawReader, RawWriter, Sink, SinkStop, Source, SourceStop};
-use raw_calls::CallFault;
+use host_calls::CallFault;
 use std::alloc::Global;
 use std::io::{Read, Write};
 

@@ -3,7 +3,7 @@ ghost use Rattle.std.specs.Prelude.{◌≡◌, ℕ, ◌<◌, ◌≤◌, List, Op
 ghost use Rattle.std.specs.Io.KnownBytes.{ReadConsumes};
 ghost use Rattle.line_loop.specs.Taking.{TakesFront};
 ghost use Rattle.line_loop.specs.Readings.{IsReading};
-ghost use Rattle.fault_count.specs.Rise.{HasRisen};
+ghost use Rattle.host_calls.specs.Rise.{HasRisen};
 
 use std::alloc::Global;
 use thiserror::Error;

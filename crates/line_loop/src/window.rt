@@ -1,8 +1,8 @@
 // The bytes of a session that are not answered yet, in a buffer that they move through.
 ghost use Rattle.std.specs.Prelude.{◌≡◌, ℕ, ◌+◌, ◌-◌, ◌*◌, ◌<◌, ◌≤◌, Err, false, List, [], ◌++◌, length, take, drop, IfSome, IfNone, IfOk, OnErr};
 ghost use Rattle.std.specs.Io.KnownBytes.{Consumes, IsAtEnd, Keeps};
-ghost use Rattle.fault_count.specs.Rise.{HasRisen};
-ghost use Rattle.line_loop.specs.Pending.{Pending, NoFeed, EndsLine, IsShortened};
+ghost use Rattle.host_calls.specs.Rise.{HasRisen};
+ghost use Rattle.line_loop.specs.inner.Pending.{Pending, NoFeed, EndsLine, IsShortened};
 
 use crate::{LINE_LIMIT, Source, SourceStop};
 use memchr::memchr;
@@ -27,7 +27,7 @@ pub(crate) struct Window {
 
 impl Model for Window {
     ghost use Rattle.std.specs.Prelude.{◌≡◌, ◌-◌, ◌≤◌, take, drop};
-    ghost use Rattle.line_loop.specs.Pending.{Pending, NoFeed};
+    ghost use Rattle.line_loop.specs.inner.Pending.{Pending, NoFeed};
     ghost use Rattle.line_loop.specs.declared.window.TheConstants.{BUFFER_LEN};
 
     ghost Value = { Pending };

@@ -1,4 +1,4 @@
--- Civil times of the proleptic Gregorian calendar in UTC.
+-- Civil times of the proleptic Gregorian calendar in UTC (RFC 5280 section 4.1.2.5).
 use Rattle.std.specs.Prelude.{◌≡◌, ℕ, ◌+◌, ◌*◌, ◌<◌, ◌≤◌, pos, ◌+ℤ◌, ◌*ℤ◌}
 use Rattle.jiff_core.specs.Calendar.{IsCivilDate, days_from_civil}
 use Rattle.jiff_core.specs.declared.civil.date.Date.{Date}

@@ -1,4 +1,5 @@
--- The civil time of a moment, counted off year by year and month by month.
+-- The civil time of a moment, counted off year by year and month by month (RFC 5280 section
+-- 4.1.2.5).
 use Rattle.std.specs.Prelude.{ℕ, zero, suc, ◌+◌, ◌-◌, ◌/◌, ◌%◌, nat_lt, pos, if◌then◌else◌}
 use Rattle.jiff_core.specs.Calendar.{days_in_year, days_in_month}
 use Rattle.moments.specs.declared.civil.Civil.{Civil}

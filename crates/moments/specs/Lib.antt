@@ -2,6 +2,4 @@ pub mod Civil
 pub mod Days
 pub mod Text
 pub mod Reading
-pub mod CalendarLaws
-pub mod DigitLaws
-pub mod TimeLaws
+pub mod laws

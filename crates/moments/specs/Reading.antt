@@ -1,4 +1,4 @@
--- The civil time that a text shows.
+-- The civil time that a text shows (RFC 5280 section 4.1.2.5).
 use Rattle.std.specs.Prelude.{ℕ, ◌+◌, ◌-◌, ◌*◌, Bool, true, false, ◌&&◌, List, [], ◌∷◌, Option, Some, None, nat_lt, nat_le, ◌==◌, pos, if◌then◌else◌}
 use Rattle.jiff_core.specs.Calendar.{days_in_month, day_count}
 use Rattle.moments.specs.declared.civil.Civil.{Civil}

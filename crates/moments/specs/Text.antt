@@ -8,11 +8,12 @@ use Rattle.moments.specs.Days.{civil_of}
 abbrev pub two : ℕ → List ℕ
 two n = (48 + n / 10) ∷ (48 + n % 10) ∷ []
 
--- MMDDHHMMSSZ
+-- MMDDHHMMSSZ (RFC 5280 sections 4.1.2.5.1 and 4.1.2.5.2)
 unfoldable pub after_year : Civil → List ℕ
 after_year c = two c.month ++ two c.day ++ two c.hour ++ two c.minute ++ two c.second ++ 90 ∷ []
 
--- GeneralizedTime, YYYYMMDDHHMMSSZ, or UTCTime, YYMMDDHHMMSSZ.
+-- GeneralizedTime, YYYYMMDDHHMMSSZ (RFC 5280 section 4.1.2.5.2), or UTCTime, YYMMDDHHMMSSZ
+-- (section 4.1.2.5.1).
 unfoldable pub civil_text : Bool → Civil → List ℕ
 civil_text true c = two (c.year / 100) ++ two (c.year % 100) ++ after_year c
 civil_text false c = two (c.year % 100) ++ after_year c

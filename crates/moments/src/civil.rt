@@ -1,4 +1,5 @@
-//! What a calendar and a clock show.
+//! What a calendar and a clock show. UTC, in the proleptic Gregorian calendar, without leap seconds
+//! (RFC 5280 section 4.1.2.5).
 
 /// A civil time. As such it need not be one that the calendar has.
 #[derive(Clone, Copy, Debug, PartialEq, Eq)]

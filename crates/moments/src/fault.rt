@@ -1,4 +1,4 @@
-//! Why a time could not be read.
+//! Why a time could not be read (RFC 5280 section 4.1.2.5).
 
 use thiserror::Error;
 

@@ -1,4 +1,4 @@
-//! The moment of a text.
+//! The moment of a text (RFC 5280 section 4.1.2.5).
 
 ghost use Rattle.std.specs.Prelude.{◌≡◌, ◌+◌, ◌<◌, ◌≤◌, ◌↔◌, ℕ, false, pos, IfOk, Ok, Err, IsErrOf, IfSome, OnSome, IsNone, IsTrue};
 ghost use Rattle.std.specs.Option.{option_map};
@@ -144,7 +144,8 @@ fn moment(general: bool, bytes: &[u8]) -> Result<u64, TimeFault>
 
 /// The moment that a GeneralizedTime or a UTCTime spells: digits and `Z`, with seconds and no fraction.
 ///
-/// The year digits of a UTCTime from 50 on mean 1950 to 1999, the others 2000 to 2049.
+/// The year digits of a UTCTime from 50 on mean 1950 to 1999, the others 2000 to 2049. The moment
+/// is in seconds since 1970 (RFC 5280 sections 4.1.2.5.1 and 4.1.2.5.2).
 pub fn read(general: bool, bytes: &[u8]) -> Result<u64, TimeFault>
     ensures found { IfOk result (λ n. IsMoment n × (bytes.now ≡ time_text general n)) }
     ensures years { IfOk result (λ n. general ≡ false → n < 2_524_608_000) }

@@ -6,9 +6,9 @@ use Rattle.std.proofs.lemmas.Str.Ascii.{IsAscii-from_all}
 use Rattle.std.proofs.Common.{◌<◌, true, ◌≡◌, ℕ, ◌-◌, List, ◌++◌, length, take, drop, replicate, sym, ap, subst, arith}
 use Rattle.std.proofs.Math.Seq.{take-append_seam}
 use Rattle.std.proofs.lemmas.List.{drop-replicate, length-append}
-use Rattle.names.specs.Name.{IsName, IsKept, padded, is_name_byte}
+use Rattle.names.specs.Name.{IsName, IsPaddedName, padded, is_name_byte}
 
-pub kept_of : (text : List ℕ) → IsName text → IsKept (padded text) (length text)
+pub kept_of : (text : List ℕ) → IsName text → IsPaddedName (padded text) (length text)
 kept_of text h =
     let zeros = replicate (64 - length text) 0 in
     let front : take (length text) (padded text) ≡ text = take-append_seam text zeros in

@@ -18,7 +18,7 @@ abbrev pub padded : List ℕ → List ℕ
 padded text = text ++ replicate (64 - length text) 0
 
 -- A name as it is kept: its bytes, then zeros.
-pub record IsKept (bytes : List ℕ) (len : ℕ) : Type 0 where
+pub record IsPaddedName (bytes : List ℕ) (len : ℕ) : Type 0 where
   pub within : len ≤ length bytes
   pub name : IsName (take len bytes)
   pub filled : bytes ≡ padded (take len bytes)

@@ -2,12 +2,15 @@
 #![tactic(auto)]
 
 ghost use Rattle.std.specs.Prelude.{◌≡◌, ◌↔◌, ◌≤◌, ◌++◌, ◌-◌, ℕ, List, take, length, replicate, IsTrue, IsSome, IfSome};
-ghost use Rattle.names.specs.Name.{IsName, IsKept, is_name_byte, padded};
+ghost use Rattle.names.specs.Name.{IsName, IsPaddedName, is_name_byte, padded};
 
 use std::marker::Model;
 use std::str;
 
 const MAX_LEN: usize = 64;
+
+/// The name of the trust anchor.
+pub const ANCHOR: &str = "ta";
 
 /// The name of an authority: 1 to 64 ASCII letters, digits, `-` and `_`. Case matters.
 ///
@@ -21,13 +24,13 @@ pub struct Name {
 impl Model for Name {
     ghost use Rattle.std.specs.Prelude.{ℕ, List, length, take};
     ghost use Rattle.std.proofs.Common.{sym, length-take-le};
-    ghost use Rattle.names.specs.Name.{IsKept, padded};
+    ghost use Rattle.names.specs.Name.{IsPaddedName, padded};
 
     ghost Value = { List ℕ };
 
     ghost view = { λ name. take name.len name.bytes };
 
-    ghost invariant = { λ name. IsKept name.bytes name.len };
+    ghost invariant = { λ name. IsPaddedName name.bytes name.len };
 
     ghost inverse = { λ text. record { bytes = padded text; len = length text } };
 

@@ -8,8 +8,8 @@ use Rattle.notice_board.specs.declared.sheets.Sheet.{Sheet}
 use Rattle.notice_board.specs.declared.views.View.{View}
 
 -- what each thread has seen, and what it was told of, is a prefix of what was shown
-abbrev pub IsKept : List Sheet → List View → Type 0
-IsKept shown views =
+abbrev pub KeepsBoardRule : List Sheet → List View → Type 0
+KeepsBoardRule shown views =
     (seat : ℕ) (v : View) → get_elem? views seat ≡ some v
     → IsPrefix v.seen shown × IsPrefix v.told shown
 

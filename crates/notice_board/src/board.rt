@@ -38,7 +38,8 @@ impl Model for Board {
 }
 
 impl Board {
-    /// A board on which this sheet is shown, and as many viewers of it.
+    /// A board on which this sheet is shown, and as many viewers of it. `readers` is how many; it
+    /// may be 0.
     #[tactic(auto, using(crate::proofs::Lists::take_whole))]
     pub fn new<R: Wait>(
         rt: &R,
@@ -80,7 +81,7 @@ impl Board {
         }
     }
 
-    /// The serial of the sheet that was shown last.
+    /// The serial of the sheet that was shown last. That of its edition.
     #[tactic(auto, using(crate::proofs::Lists::serial_of_last))]
     pub fn serial(&self) -> u64
         ensures serial { result ≡ last_serial self.now.shown }

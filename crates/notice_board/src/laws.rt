@@ -6,14 +6,14 @@ ghost use lib.ListN.{get_elem?};
 ghost use Rattle.notice_board.specs.declared.sheets.Sheet.{Sheet};
 ghost use Rattle.notice_board.specs.declared.views.View.{View};
 ghost use Rattle.notice_board.specs.Lists.{last_serial, rises};
-ghost use Rattle.notice_board.specs.Rule.{IsKept};
+ghost use Rattle.notice_board.specs.Rule.{KeepsBoardRule};
 
 /// Under the rule what a viewer has seen is a prefix of what was shown, and of two viewers the one has
 /// seen a prefix of what the other has.
 pub fn all_see_one_history()
-    ensures prefix { (shown : List Sheet) (views : List View) → IsKept shown views
+    ensures prefix { (shown : List Sheet) (views : List View) → KeepsBoardRule shown views
         → (i : ℕ) (v : View) → get_elem? views i ≡ some v → IsPrefix v.seen shown }
-    ensures both { (shown : List Sheet) (views : List View) → IsKept shown views
+    ensures both { (shown : List Sheet) (views : List View) → KeepsBoardRule shown views
         → (i j : ℕ) (v w : View) → get_elem? views i ≡ some v → get_elem? views j ≡ some w
         → IsPrefix v.seen w.seen ⊎ IsPrefix w.seen v.seen }
 {}

@@ -87,7 +87,7 @@ impl Sheet {
     }
 
     /// The row of that desk. Of an authority that the edition doesn't know it is one without a key, which
-    /// holds and publishes nothing.
+    /// holds and publishes nothing. Desks are numbered from 0, which is the trust anchor's.
     pub fn row(&self, alloc: Global, desk: u32) -> Result<SheetRow, AllocError>
         ensures { IfOk result (IsRowOf self.now.rows desk) }
     {

@@ -56,7 +56,7 @@ impl Viewer {
         }
     }
 
-    /// The serial of the sheet that is shown.
+    /// The serial of the sheet that is shown. 0 before the first edition.
     pub fn serial(&mut self) -> u64
         ensures seen { IsPrefix self.old self.new }
         ensures serial { result ≡ last_serial self.new }

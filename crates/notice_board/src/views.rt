@@ -17,9 +17,9 @@ pub struct View {
 pub struct Shows;
 
 impl Protocol<Notice, View> for Shows {
-    ghost use Rattle.notice_board.specs.Rule.{IsKept, newcomer};
+    ghost use Rattle.notice_board.specs.Rule.{KeepsBoardRule, newcomer};
 
-    ghost holds = { IsKept };
+    ghost holds = { KeepsBoardRule };
 
     ghost first = { newcomer };
 }

@@ -1,14 +1,15 @@
--- What the objects have in common: identifiers, algorithms, names, extensions and signatures.
+-- What the objects have in common: identifiers, algorithms, names, extensions and signatures (RFC
+-- 5280 sections 4.1 and 4.2, RFC 5652 section 5.3).
 use Rattle.std.specs.Prelude.{ℕ, List, [], ◌∷◌, Result, Ok}
 use Rattle.der.specs.Tags as tag
-use Rattle.der_forms.specs.declared.fault.ShapeFault.{ShapeFault}
-use Rattle.der_forms.specs.Place.{Place, ◌>>=◌, open_at, sole_at, before}
-use Rattle.der_forms.specs.Form.{Whole, Front}
-use Rattle.der_forms.specs.Forms.{within, sole, preceded, framed, read_by, read_front_by}
-use Rattle.der_forms.specs.Leaves.{constant, exactly, fixed, octet_bits}
+use Rattle.der.specs.declared.shape_fault.ShapeFault.{ShapeFault}
+use Rattle.der.specs.Part.{Place, ◌>>=◌, open_at, sole_at, before}
+use Rattle.der.specs.Form.{Whole, Front}
+use Rattle.der.specs.Forms.{within, sole, preceded, framed, read_by, read_front_by}
+use Rattle.der.specs.Leaves.{constant, exactly, fixed, octet_bits}
 use Rattle.object_parts.specs.declared.identifiers.TheConstants.{SIGNATURE_ALGORITHM, KEY_ALGORITHM, DIGEST_ALGORITHM, AUTHORITY_KEY_IDENTIFIER}
 
--- An OBJECT IDENTIFIER.
+-- An OBJECT IDENTIFIER (X.690 section 8.19).
 abbrev pub identifier : List ℕ → Front (Unit {0})
 identifier oid = constant tag.object_identifier oid
 
@@ -46,7 +47,7 @@ extension oid f = named tag.octet_string oid f
 abbrev pub attribute : {A : Type 0} → List ℕ → Whole A → Front A
 attribute oid f = named tag.set_of oid f
 
--- A critical extension.
+-- A critical extension (RFC 5280 section 4.2).
 unfoldable pub critical_extension_at : List ℕ → Place → Result (Place × Place) ShapeFault
 critical_extension_at oid p =
     open_at tag.sequence p
@@ -60,7 +61,7 @@ critical_extension oid f =
     (preceded (identifier oid) (preceded is_critical (sole tag.octet_string f))))
     (λ p. critical_extension_at oid p >>= (λ v. f.read v.0 >>= (λ x. Ok (x, v.1))))
 
--- The algorithm and the 256 bytes of a signature.
+-- The algorithm and the 256 bytes of a signature (RFC 5280 sections 4.1.1.2 and 4.1.1.3).
 abbrev pub signature : Whole (List ℕ)
 signature = preceded signature_algorithm (sole tag.bit_string (octet_bits 256))
 
@@ -75,7 +76,7 @@ signed f =
     read_by (sole tag.sequence (framed tag.sequence f signature))
     (λ p. signed_at p >>= (λ v. f.read v.0 >>= (λ x. Ok (x, v.1, v.2))))
 
--- The 20 bytes of a key's identifier.
+-- The 20 bytes of a key's identifier (RFC 5280 section 4.2.1.2).
 abbrev pub key_identifier : Whole (List ℕ)
 key_identifier = sole tag.octet_string (fixed 20)
 

@@ -1,6 +1,4 @@
 pub mod TimeFormats
-pub mod TimeLaws
 pub mod FrameFormats
-pub mod FrameLaws
 pub mod NameFormats
-pub mod NameLaws
+pub mod laws

@@ -4,9 +4,9 @@ use Rattle.der.specs.Tags as tag
 use Rattle.der.specs.Grammar.{AreBytes}
 use Rattle.hex.specs.Hex.{encode_lower, decode_sized}
 use Rattle.std.specs.Result.{result_ok}
-use Rattle.der_forms.specs.Form.{Whole, Front}
-use Rattle.der_forms.specs.Forms.{leaf, within, sole, preceded}
-use Rattle.der_forms.specs.Leaves.{are_same}
+use Rattle.der.specs.Form.{Whole, Front}
+use Rattle.der.specs.Forms.{leaf, within, sole, preceded}
+use Rattle.der.specs.Leaves.{are_same}
 use Rattle.object_parts.specs.declared.identifiers.TheConstants.{COMMON_NAME}
 use Rattle.object_parts.specs.FrameFormats.{identifier}
 

@@ -5,8 +5,8 @@ use Rattle.der.specs.Tags as tag
 use Rattle.moments.specs.Civil.{IsMoment}
 use Rattle.moments.specs.Text.{time_text, is_general}
 use Rattle.moments.specs.Reading.{moment_in}
-use Rattle.der_forms.specs.Form.{Whole, Front}
-use Rattle.der_forms.specs.Forms.{leaf, within, both, only, tested, either, left_right, mapped_front}
+use Rattle.der.specs.Form.{Whole, Front}
+use Rattle.der.specs.Forms.{leaf, within, both, only, tested, either, left_right, mapped_front}
 use Rattle.std.specs.Prelude.{true, false}
 
 -- A UTCTime: a moment through 2049.

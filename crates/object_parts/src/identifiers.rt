@@ -1,4 +1,4 @@
-//! Object identifiers, as the contents of their elements.
+//! Object identifiers, as the contents of their elements (X.690 section 8.19).
 
 /// sha256WithRSAEncryption (RFC 4055).
 pub const SHA256_WITH_RSA: [u8; 9] = [0x2a, 0x86, 0x48, 0x86, 0xf7, 0x0d, 0x01, 0x01, 0x0b];

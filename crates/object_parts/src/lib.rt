@@ -1,5 +1,5 @@
-//! What the objects of the repository share: identifiers, times, algorithms, names, extensions and
-//! signed frames.
+//! What certificates, CRLs and signed objects share: identifiers, times, algorithms (RFC 7935),
+//! names, extensions (RFC 5280 section 4.2) and signed frames (RFC 5280 section 4.1).
 #![tactic(auto)]
 
 mod frames;

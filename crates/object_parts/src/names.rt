@@ -1,15 +1,15 @@
 //! The name that an identifier of a key has (RFC 6487 sections 4.4 and 4.5).
 
 ghost use Rattle.std.specs.Prelude.{◌≡◌};
-ghost use Rattle.der_forms.specs.Leaves.{are_same};
-ghost use Rattle.der_forms.specs.Place.{place};
-ghost use Rattle.der_forms.specs.Outcome.{Gives};
+ghost use Rattle.der.specs.Leaves.{are_same};
+ghost use Rattle.der.specs.Part.{place};
+ghost use Rattle.der.specs.Outcome.{Gives};
 ghost use Rattle.object_parts.specs.NameFormats.{key_text, key_in, key_digits, name};
 
 use crate::frames::identifier;
 use crate::identifiers::COMMON_NAME;
-use der_forms::tags::{PRINTABLE_STRING, SEQUENCE, SET};
-use der_forms::{Part, ShapeFault, are_same};
+use der::tags::{PRINTABLE_STRING, SEQUENCE, SET};
+use der::{Part, ShapeFault, are_same};
 
 /// The 20 bytes of hex digits in either case.
 #[tactic(auto, unfolding(crate::specs::NameFormats::key_in))]
@@ -54,7 +54,8 @@ fn key_digits(part: Part<'_>) -> Result<[u8; 20], ShapeFault>
     }
 }
 
-/// The name of an identifier.
+/// The name of an identifier. One commonName, its 40 hex digits in lower case, as a
+/// PrintableString.
 #[tactic(auto, unfolding(crate::specs::NameFormats::name))]
 pub fn name(part: Part<'_>) -> Result<([u8; 20], Part<'_>), ShapeFault>
     ensures { Gives (λ x. (x.0, place x.1)) result (name.read (place part.entry)) }

@@ -1,11 +1,11 @@
 //! Times of certificates (RFC 5280 section 4.1.2.5).
 
-ghost use Rattle.der_forms.specs.Place.{place};
-ghost use Rattle.der_forms.specs.Outcome.{Gives};
+ghost use Rattle.der.specs.Part.{place};
+ghost use Rattle.der.specs.Outcome.{Gives};
 ghost use Rattle.object_parts.specs.TimeFormats.{utc_content, general_content, general_time, time, period};
 
-use der_forms::tags::{GENERALIZED_TIME, SEQUENCE, UTC_TIME};
-use der_forms::{Part, ShapeFault};
+use der::tags::{GENERALIZED_TIME, SEQUENCE, UTC_TIME};
+use der::{Part, ShapeFault};
 
 /// 2050-01-01T00:00:00Z.
 const FROM_2050: u64 = 2_524_608_000;
@@ -30,7 +30,7 @@ fn general_content(part: Part<'_>) -> Result<u64, ShapeFault>
     }
 }
 
-/// A GeneralizedTime.
+/// A GeneralizedTime (RFC 5280 section 4.1.2.5.2). It is given in seconds since 1970.
 pub fn general_time(part: Part<'_>) -> Result<(u64, Part<'_>), ShapeFault>
     ensures { Gives (λ x. (x.0, place x.1)) result (general_time.read (place part.entry)) }
 {
@@ -39,7 +39,8 @@ pub fn general_time(part: Part<'_>) -> Result<(u64, Part<'_>), ShapeFault>
     Ok((seconds, rest))
 }
 
-/// A UTCTime through 2049, and a GeneralizedTime from 2050 on.
+/// A UTCTime through 2049, and a GeneralizedTime from 2050 on (RFC 5280 section 4.1.2.5). It is
+/// given in seconds since 1970.
 pub fn time(part: Part<'_>) -> Result<(u64, Part<'_>), ShapeFault>
     ensures { Gives (λ x. (x.0, place x.1)) result (time.read (place part.entry)) }
 {
@@ -57,7 +58,8 @@ pub fn time(part: Part<'_>) -> Result<(u64, Part<'_>), ShapeFault>
     }
 }
 
-/// From a time to another.
+/// From a time to another (the validity of a certificate, RFC 5280 section 4.1.2.5). Both are in
+/// seconds since 1970, and either may be the later one.
 #[tactic(auto, unfolding(crate::specs::TimeFormats::period))]
 pub fn period(part: Part<'_>) -> Result<((u64, u64), Part<'_>), ShapeFault>
     ensures { Gives (λ x. (x.0, place x.1)) result (period.read (place part.entry)) }

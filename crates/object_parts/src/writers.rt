@@ -1,9 +1,10 @@
-//! Writers of what the objects have in common.
+//! Writers of what the objects have in common (RFC 5280 sections 4.1 and 4.2, RFC 5652 section
+//! 5.3).
 
 ghost use Rattle.std.specs.Prelude.{◌≡◌, ◌++◌, ◌∷◌, OnOk, IfOk};
 ghost use Rattle.der.specs.Spelling.{spelled};
 ghost use Rattle.der.specs.Tags as tag;
-ghost use Rattle.der_forms.specs.Forms.{content};
+ghost use Rattle.der.specs.Forms.{content};
 ghost use Rattle.moments.specs.Civil.{IsMoment};
 ghost use Rattle.object_parts.specs.TimeFormats.{time, general_time, period};
 ghost use Rattle.object_parts.specs.FrameFormats.{identifier, signature_algorithm, key_algorithm, digest_algorithm, extension, critical_extension, signature as signature_form, key_identifier, issuer_key_identifier, issuer_key, key_info};
@@ -13,7 +14,7 @@ use crate::identifiers::{
     AUTHORITY_KEY_IDENTIFIER, COMMON_NAME, DIGEST_ALGORITHM, KEY_ALGORITHM, SIGNATURE_ALGORITHM,
 };
 use crate::names::key_text;
-use der_forms::tags::{
+use der::tags::{
     BIT_STRING, BOOLEAN, GENERALIZED_TIME, OBJECT_IDENTIFIER, OCTET_STRING, PRIMITIVE_0,
     PRINTABLE_STRING, SEQUENCE, SET, UTC_TIME,
 };
@@ -22,7 +23,8 @@ use std::alloc::{AllocError, Global};
 /// Room for a signature with its algorithm, and for the header around all.
 const SIGNATURE_ROOM: usize = 288;
 
-/// Appends a time: a UTCTime through 2049, and a GeneralizedTime from 2050 on.
+/// Appends a time: a UTCTime through 2049, and a GeneralizedTime from 2050 on (RFC 5280 section
+/// 4.1.2.5).
 pub fn push_time(alloc: Global, out: &mut Vec<u8>, seconds: u64) -> Result<(), AllocError>
     requires { IsMoment seconds }
     ensures { OnOk result (out.new.items ≡ out.old.items ++ time.spelling seconds) }
@@ -36,7 +38,7 @@ pub fn push_time(alloc: Global, out: &mut Vec<u8>, seconds: u64) -> Result<(), A
     der::element(alloc, out, tag, text.as_bytes())
 }
 
-/// Appends a GeneralizedTime.
+/// Appends a GeneralizedTime (RFC 5280 section 4.1.2.5.2).
 pub fn push_general_time(alloc: Global, out: &mut Vec<u8>, seconds: u64) -> Result<(), AllocError>
     requires { IsMoment seconds }
     ensures { OnOk result (out.new.items ≡ out.old.items ++ general_time.spelling seconds) }
@@ -45,7 +47,7 @@ pub fn push_general_time(alloc: Global, out: &mut Vec<u8>, seconds: u64) -> Resu
     der::element(alloc, out, GENERALIZED_TIME, text.as_bytes())
 }
 
-/// Appends the name of an identifier.
+/// Appends the name of an identifier (RFC 6487 sections 4.4 and 4.5).
 #[tactic(auto, using(std::proofs::Common::append_assoc), unfolding(crate::specs::NameFormats::name))]
 pub fn push_name(alloc: Global, out: &mut Vec<u8>, key: &[u8; 20]) -> Result<(), AllocError>
     ensures { OnOk result (out.new.items ≡ out.old.items ++ name.spelling key.now) }
@@ -58,7 +60,7 @@ pub fn push_name(alloc: Global, out: &mut Vec<u8>, key: &[u8; 20]) -> Result<(),
     der::enclose(alloc, out, from, SEQUENCE)
 }
 
-/// Appends a period.
+/// Appends a period (RFC 5280 section 4.1.2.5). Both ends are in seconds since 1970.
 #[tactic(auto, using(std::proofs::Common::append_assoc), unfolding(crate::specs::TimeFormats::period))]
 pub fn push_period(alloc: Global, out: &mut Vec<u8>, from: u64, to: u64) -> Result<(), AllocError>
     requires from { IsMoment from }
@@ -78,21 +80,21 @@ pub fn push_identifier(alloc: Global, out: &mut Vec<u8>, oid: &[u8]) -> Result<(
     der::element(alloc, out, OBJECT_IDENTIFIER, oid)
 }
 
-/// Appends the algorithm of a signature.
+/// Appends the algorithm of a signature (RFC 7935 section 2).
 pub fn push_signature_algorithm(alloc: Global, out: &mut Vec<u8>) -> Result<(), AllocError>
     ensures { OnOk result (out.new.items ≡ out.old.items ++ signature_algorithm.spelling tt) }
 {
     der::element(alloc, out, SEQUENCE, &SIGNATURE_ALGORITHM)
 }
 
-/// Appends the algorithm of a key.
+/// Appends the algorithm of a key (RFC 7935 section 3).
 pub fn push_key_algorithm(alloc: Global, out: &mut Vec<u8>) -> Result<(), AllocError>
     ensures { OnOk result (out.new.items ≡ out.old.items ++ key_algorithm.spelling tt) }
 {
     der::element(alloc, out, SEQUENCE, &KEY_ALGORITHM)
 }
 
-/// Appends the algorithm of a digest.
+/// Appends the algorithm of a digest (RFC 7935 section 2).
 pub fn push_digest_algorithm(alloc: Global, out: &mut Vec<u8>) -> Result<(), AllocError>
     ensures { OnOk result (out.new.items ≡ out.old.items ++ digest_algorithm.spelling tt) }
 {
@@ -111,7 +113,7 @@ pub fn push_octet_bits(alloc: Global, out: &mut Vec<u8>, bytes: &[u8]) -> Result
     der::enclose(alloc, out, from, BIT_STRING)
 }
 
-/// Appends the bytes of a key's identifier.
+/// Appends the bytes of a key's identifier (RFC 5280 section 4.2.1.2).
 pub fn push_key_identifier(
     alloc: Global,
     out: &mut Vec<u8>,
@@ -122,7 +124,7 @@ pub fn push_key_identifier(
     der::element(alloc, out, OCTET_STRING, key)
 }
 
-/// Appends the bytes of the identifier of the issuer's key.
+/// Appends the bytes of the identifier of the issuer's key (RFC 5280 section 4.2.1.1).
 #[tactic(auto, using(std::proofs::Common::append_assoc))]
 pub fn push_issuer_key_identifier(
     alloc: Global,
@@ -137,7 +139,7 @@ pub fn push_issuer_key_identifier(
     der::enclose(alloc, out, from, SEQUENCE)
 }
 
-/// Appends the extension with the identifier of the issuer's key.
+/// Appends the extension with the identifier of the issuer's key (RFC 6487 section 4.8.3).
 #[tactic(auto, using(std::proofs::Common::append_assoc))]
 pub fn push_issuer_key(alloc: Global, out: &mut Vec<u8>, key: &[u8; 20]) -> Result<(), AllocError>
     ensures { OnOk result (out.new.items ≡ out.old.items ++ (issuer_key key.now).spelling tt) }
@@ -150,7 +152,7 @@ pub fn push_issuer_key(alloc: Global, out: &mut Vec<u8>, key: &[u8; 20]) -> Resu
     der::enclose(alloc, out, from, SEQUENCE)
 }
 
-/// Appends a key with its algorithm.
+/// Appends a key with its algorithm (RFC 5280 section 4.1.2.7).
 #[tactic(auto, using(std::proofs::Common::append_assoc))]
 pub fn push_key_info(alloc: Global, out: &mut Vec<u8>, key: &[u8; 270]) -> Result<(), AllocError>
     ensures { OnOk result (out.new.items ≡ out.old.items ++ key_info.spelling key.now) }
@@ -161,7 +163,7 @@ pub fn push_key_info(alloc: Global, out: &mut Vec<u8>, key: &[u8; 270]) -> Resul
     der::enclose(alloc, out, from, SEQUENCE)
 }
 
-/// Appends an extension that isn't critical, with that value.
+/// Appends an extension that isn't critical, with that value (RFC 5280 section 4.2).
 #[tactic(auto, using(std::proofs::Common::append_assoc))]
 pub fn push_extension(
     alloc: Global,
@@ -178,7 +180,7 @@ pub fn push_extension(
     der::enclose(alloc, out, from, SEQUENCE)
 }
 
-/// Appends a critical extension with that value.
+/// Appends a critical extension with that value (RFC 5280 section 4.2).
 #[tactic(auto, using(std::proofs::Common::append_assoc))]
 pub fn push_critical_extension(
     alloc: Global,
@@ -196,7 +198,7 @@ pub fn push_critical_extension(
     der::enclose(alloc, out, from, SEQUENCE)
 }
 
-/// What is signed, which is a whole element, with its signature.
+/// What is signed, which is a whole element, with its signature (RFC 5280 section 4.1).
 #[tactic(auto, using(std::proofs::Common::append_assoc))]
 pub fn write_signed(
     alloc: Global,

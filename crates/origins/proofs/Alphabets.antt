@@ -10,8 +10,8 @@ use Rattle.std.specs.List.{AllByRecursion}
 use Rattle.std.specs.Str.Parse.{AllDigits}
 use Rattle.ip_text.specs.Number.{IsDecimalText, IsAsMark, IsAsNumberText}
 use Rattle.ip_text.specs.Ipv4.{dotted}
-use Rattle.ip_text.specs.Ipv6Laws.{each_group_byte}
-use Rattle.origins.specs.Fronts.{is_blank, is_none_of, Passes, Stops}
+use Rattle.ip_text.specs.laws.Ipv6Laws.{each_group_byte}
+use Rattle.origins.specs.inner.Fronts.{is_blank, is_none_of, Passes, Stops}
 use Rattle.origins.specs.Text.{IsAddressText}
 
 -- what passes digits passes decimal numbers

@@ -2,9 +2,9 @@
 use Rattle.std.proofs.Common.{◌≡◌, ℕ, Bool, true, false, ◌==◌, List, [], ◌∷◌, ◌++◌, take, drop, refl, sym, ap, ◌∙◌, inl, inr, append_assoc}
 use Rattle.std.proofs.lemmas.Bool.Decides.{eqb_tells}
 use Rattle.std.specs.List.{AllByRecursion, prefix_len}
-use Rattle.origins.specs.Fronts.{is_blank, is_none_of, Passes, Stops, IsAround}
+use Rattle.origins.specs.inner.Fronts.{is_blank, is_none_of, Passes, Stops, IsAround}
 use Rattle.origins.specs.Text.{IsBlank, IsOriginText, Parts}
-use Rattle.ip_text.specs.AsNumberLaws.{one_as_number}
+use Rattle.ip_text.specs.laws.AsNumberLaws.{one_as_number}
 use Rattle.origins.proofs.FrontLemmas.{front_is, back_is, front_and_back, front_passes, back_stops}
 use Rattle.origins.proofs.Alphabets.{as_number_stops}
 use Rattle.origins.proofs.Prefixes.{passes_prefix, same_prefixes}

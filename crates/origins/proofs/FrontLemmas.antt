@@ -1,7 +1,7 @@
 -- The front of a text that passes a test, and what follows it.
 use Rattle.std.proofs.Common.{◌≡◌, ℕ, ◌+◌, Bool, true, false, cond, List, [], ◌∷◌, ◌++◌, length, take, drop, refl, sym, ap, ◌∙◌, one-add, take-append-drop}
 use Rattle.std.specs.List.{prefix_len}
-use Rattle.origins.specs.Fronts.{Passes, Stops}
+use Rattle.origins.specs.inner.Fronts.{Passes, Stops}
 
 front_len : (p : ℕ → Bool) (a x : List ℕ) → Passes p a → Stops p x → prefix_len p (a ++ x) ≡ length a
 front_len p [] [] h stop = refl

@@ -3,8 +3,8 @@ use Rattle.std.proofs.Common.{◌≡◌, ℕ, Bool, false, List, [], ◌∷◌, 
 use Rattle.std.proofs.lemmas.Bool.Decides.{nat_tests}
 use Rattle.std.specs.List.{prefix_len}
 use Rattle.ip_text.specs.Number.{IsDecimalText}
-use Rattle.ip_text.specs.NumberLaws.{one_decimal}
-use Rattle.origins.specs.Fronts.{is_none_of, Stops}
+use Rattle.ip_text.specs.laws.NumberLaws.{one_decimal}
+use Rattle.origins.specs.inner.Fronts.{is_none_of, Stops}
 use Rattle.origins.specs.Text.{IsLengthsText}
 use Rattle.origins.proofs.FrontLemmas.{front_is, back_is, front_and_back, back_stops}
 use Rattle.origins.proofs.Alphabets.{passes_decimal, digit_no_hyphen}

@@ -1,10 +1,10 @@
 -- An address, and the lengths after a slash.
 use Rattle.std.proofs.Common.{◌≡◌, ℕ, ◌≤◌, ◌<◌, ◌^◌, Some, None, Bool, true, false, List, [], ◌∷◌, ◌++◌, take, drop, Option, refl, sym, ap, ◌∙◌, append_assoc}
 use Rattle.std.specs.List.{prefix_len}
-use Rattle.ip_text.specs.Ipv4Laws.{one_ipv4}
-use Rattle.ip_text.specs.Ipv6Laws.{one_ipv6, one_family}
+use Rattle.ip_text.specs.laws.Ipv4Laws.{one_ipv4}
+use Rattle.ip_text.specs.laws.Ipv6Laws.{one_ipv6, one_family}
 use Rattle.origins.specs.Prefix.{address_bits}
-use Rattle.origins.specs.Fronts.{is_none_of, Passes}
+use Rattle.origins.specs.inner.Fronts.{is_none_of, Passes}
 use Rattle.origins.specs.Text.{IsAddressText, IsLengthsText, IsPrefixText}
 use Rattle.origins.proofs.FrontLemmas.{front_is, back_is, front_and_back, passes_append}
 use Rattle.origins.proofs.Lengths.{same_lengths}

@@ -1,8 +1,8 @@
 -- What is printed of an origin is in the grammar.
 use Rattle.std.proofs.Common.{◌≡◌, ℕ, ◌^◌, ◌<◌, ◌≤◌, Bool, true, false, cond, ◌==◌, List, [], ◌∷◌, ◌++◌, Some, None, unwrap_or, decimal, refl, sym, subst, inl, arith, eqb-true, append-nil, append_assoc}
 use Rattle.ip_text.specs.Number.{IsDecimalText}
-use Rattle.ip_text.specs.NumberLaws.{decimal_text}
-use Rattle.ip_text.specs.Ipv6Laws.{own_ipv6_text}
+use Rattle.ip_text.specs.laws.NumberLaws.{decimal_text}
+use Rattle.ip_text.specs.laws.Ipv6Laws.{own_ipv6_text}
 use Rattle.origins.specs.Prefix.{address_bits}
 use Rattle.origins.specs.Text.{Parts, IsAddressText, IsLengthsText, IsOriginText}
 use Rattle.origins.specs.Origin.{SpellsOrigin, address_text, maximum_text, origin_text}

@@ -1,7 +1,7 @@
 -- What parts make, they make alone.
 use Rattle.std.proofs.Common.{◌≡◌, ℕ, List, Result, Ok, Err, sym, ap, ◌∙◌}
 use Rattle.origins.specs.Text.{Parts, IsOriginText}
-use Rattle.origins.specs.Same.{same_prefix, same_origin}
+use Rattle.origins.specs.laws.Same.{same_prefix, same_origin}
 use Rattle.origins.specs.Origin.{HasParts, MakesOrigin, SpellsOrigin}
 use Rattle.origins.specs.declared.Origin.{Origin}
 use Rattle.origins.specs.declared.reading.OriginFault.{OriginFault}

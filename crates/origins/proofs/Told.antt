@@ -3,7 +3,7 @@ use Rattle.std.proofs.Common.{◌≡◌, ℕ, ◌≤◌, List, Bool, true, false
 use Rattle.ip_text.specs.Number.{saturated}
 use Rattle.origins.specs.Prefix.{address_bits, IsMaximum}
 use Rattle.origins.specs.Text.{Parts, IsOriginText}
-use Rattle.origins.specs.Told.{IsTold}
+use Rattle.origins.specs.inner.Told.{IsTold}
 use Rattle.origins.specs.Origin.{MakesOrigin, ReadsOrigin, parts_of}
 use Rattle.origins.specs.declared.Origin.{Origin}
 use Rattle.origins.specs.declared.grammar.WrittenPrefix.{WrittenPrefix}

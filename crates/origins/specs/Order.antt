@@ -1,4 +1,4 @@
--- The order of origins.
+-- The order of origins. Prefixes stand as RFC 9582 section 4.3.3 has them.
 use Rattle.std.specs.Ordering.{nat_cmp, bool_cmp, then_cmp, on}
 use Rattle.std.specs.declared.cmp.Ordering.{Ordering}
 use Rattle.origins.specs.declared.Prefix.{Prefix}

@@ -1,4 +1,5 @@
--- Which origin a text spells, and the one text that is printed of an origin.
+-- Which origin a text spells, and the one text that is printed of an origin. Its parts are a
+-- ROA's (RFC 9582 sections 4.2 and 4.3.2).
 use Rattle.std.specs.Prelude.{◌≡◌, ◌≢◌, ℕ, ◌-◌, ◌%◌, ◌^◌, Bool, true, false, List, [], ◌++◌, Option, None, unwrap_or, codes, decimal, Result, Ok, Err, ◌==◌, if◌then◌else◌}
 use Rattle.ip_text.specs.Ipv4.{dotted}
 use Rattle.ip_text.specs.Ipv6.{ipv6_text}

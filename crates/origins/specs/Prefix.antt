@@ -1,4 +1,4 @@
--- Prefixes of the two address families, as numbers.
+-- Prefixes of the two address families, as numbers (RFC 4632 section 3.1, RFC 4291 section 2.3).
 use Rattle.std.specs.Prelude.{◌≡◌, ℕ, ◌-◌, ◌/◌, ◌%◌, ◌^◌, ◌<◌, ◌≤◌, Bool, if◌then◌else◌}
 
 -- How many bits an address of the family has: 128 for IPv6 (RFC 4291), 32 for IPv4.

@@ -1,4 +1,5 @@
--- The grammar of an origin's text, as `10.0.0.0/16-24 => 64496`.
+-- The grammar of an origin's text, as `10.0.0.0/16-24 => 64496`. Addresses are in the texts of
+-- RFC 5952 and of dotted decimal, AS numbers in that of RFC 5396.
 use Rattle.std.specs.Prelude.{◌≡◌, ℕ, ◌≤◌, ◌⊎◌, Bool, true, false, List, ◌++◌, Option, Some, None, codes}
 use Rattle.std.specs.List.{AllByRecursion}
 use Rattle.ip_text.specs.Number.{IsDecimalText, IsAsNumberText}

@@ -1,7 +1,7 @@
 // The front of a text, and what follows it.
 ghost use Rattle.std.specs.Prelude.{◌≡◌, ◌≢◌, ◌++◌, ℕ, List, take, drop, MatchOption};
 ghost use Rattle.std.specs.List.{prefix_len};
-ghost use Rattle.origins.specs.Fronts.{is_blank, is_none_of};
+ghost use Rattle.origins.specs.inner.Fronts.{is_blank, is_none_of};
 
 // The text from its first byte that is neither space nor tab.
 pub(crate) fn skip_blanks(text: &[u8]) -> &[u8]

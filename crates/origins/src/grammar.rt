@@ -1,7 +1,7 @@
 // The parts of an origin's text.
 ghost use Rattle.std.specs.Prelude.{◌≡◌, ◌≢◌, ◌≤◌, ◌<◌, ◌^◌, ◌++◌, ℕ, Bool, List, Option, MatchOption, IfSome};
 ghost use Rattle.origins.specs.Text.{IsAddressText, IsLengthsText, IsPrefixText};
-ghost use Rattle.origins.specs.Told.{IsTold, TellsLengths};
+ghost use Rattle.origins.specs.inner.Told.{IsTold, TellsLengths};
 ghost use Rattle.origins.specs.Prefix as bits;
 
 use crate::fronts::{after, split_before};

@@ -3,8 +3,8 @@ ghost use Rattle.std.specs.Prelude.{◌≡◌, ◌≢◌, ◌-◌, ◌%◌, ◌^
 ghost use Rattle.origins.specs.Prefix.{IsPrefix, IsMaximum};
 ghost use Rattle.origins.specs.Prefix as bits;
 ghost use Rattle.origins.specs.Text.{IsPrefixText, IsOriginText, Parts};
-ghost use Rattle.origins.specs.Told.{IsTold};
-ghost use Rattle.origins.specs.Fronts.{IsAround};
+ghost use Rattle.origins.specs.inner.Told.{IsTold};
+ghost use Rattle.origins.specs.inner.Fronts.{IsAround};
 ghost use Rattle.origins.specs.declared.Origin.{Origin};
 ghost use Rattle.origins.specs.Origin.{ReadsOrigin, MakesOrigin, SpellsOrigin, parts_of};
 
@@ -67,7 +67,8 @@ fn make_origin(prefix: WrittenPrefix, asn: u32) -> Result<Origin, OriginFault>
 /// Reads an origin, as `10.0.0.0/16-24 => 64496`.
 ///
 /// The maximum may be left out where it is the length. Round `=>` stand any number of spaces and
-/// tabs, and the AS number may have `AS` in front. It takes no memory.
+/// tabs, and the AS number may have `AS` in front. It takes no memory. Addresses are written as RFC
+/// 5952 or in dotted decimal, the AS number as RFC 5396 has it.
 pub fn read_origin(text: &str) -> Result<Origin, OriginFault>
     ensures reads { ReadsOrigin text.now result }
     // A text that spells an origin is read to it and to nothing else.

@@ -2,7 +2,7 @@
 use Rattle.std.proofs.Common.{◌≡◌, ℕ, ◌+◌, false, List, ◌++◌, take, drop, refl, sym, ◌∙◌, ap, append_assoc}
 use Rattle.std.proofs.Math.Seq.{take-add}
 use Rattle.std.specs.Prelude.{Option, None, Some, option_map, Ok}
-use Rattle.raw_calls.specs.Faults.{CountsAnswer}
+use Rattle.host_calls.specs.Faults.{CountsAnswer}
 use Rattle.outlet_api.specs.Folders.{Folder, grown}
 
 -- so many of the bytes are behind those of the draft

@@ -4,7 +4,7 @@ use Rattle.std.proofs.lemmas.List.{take_more, take-map, map-append, length-map, 
 use Rattle.std.proofs.Math.Seq.{take-append-add}
 use Rattle.std.specs.Prelude.{Option, None, Some, option_map, map, Result, Ok, Err, OnOk, OnErr}
 use Rattle.outlet_api.specs.Calls.{Files, Call, after, after_all, MayHaveDone, IsFront}
-use Rattle.outlet_api.specs.FrontLaws.{after_all-append}
+use Rattle.outlet_api.specs.laws.FrontLaws.{after_all-append}
 
 -- so many of the first calls were made
 abbrev pub AreMade : List Call → ℕ → Option Files → Option Files → Type 0

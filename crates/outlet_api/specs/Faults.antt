@@ -1,6 +1,6 @@
 -- An outlet's count of faults.
 use Rattle.std.specs.Prelude.{◌≡◌, ◌≤◌, ℕ, Result, IsErrOf}
-use Rattle.fault_count.specs.Rise.{HasRisen}
+use Rattle.host_calls.specs.Rise.{HasRisen}
 use Rattle.outlet_api.specs.declared.outlet.OutletStop.{OutletStop}
 use Rattle.outlet_api.specs.declared.outlet.OutletStop.TheVariants.{Fault}
 use Rattle.outlet_api.specs.declared.exports.ExportFault.{ExportFault}

@@ -1,6 +1,6 @@
 -- A folder of files, and a draft of one more, which a rename makes one of them.
 use Rattle.std.specs.Prelude.{◌≡◌, ◌≤◌, ℕ, Bool, true, false, List, [], ◌++◌, Option, Some, option_map, Result, OnErr, IfSome, IsTrue}
-use Rattle.fault_count.specs.Rise.{HasRisen}
+use Rattle.host_calls.specs.Rise.{HasRisen}
 use Rattle.outlet_api.specs.Calls.{Files, with_file}
 
 pub record Folder : Type 0 where

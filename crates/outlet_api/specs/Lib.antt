@@ -2,7 +2,7 @@ pub mod Calls
 pub mod Exports
 pub mod Faults
 pub mod Folders
-pub mod FrontLaws
 pub mod Memory
 pub mod Over
 pub mod Paths
+pub mod laws

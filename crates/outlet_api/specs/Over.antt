@@ -1,6 +1,6 @@
 -- The folder that an outlet is over, and what is seen of its doubles.
 use Rattle.std.specs.Prelude.{ℕ}
-use Rattle.raw_calls.specs.Counts.{fault_count}
+use Rattle.host_calls.specs.Counts.{fault_count}
 use Rattle.outlet_api.specs.Calls.{Files}
 use Rattle.outlet_api.specs.Folders.{Folder}
 use Rattle.outlet_api.specs.Memory.{map_files}

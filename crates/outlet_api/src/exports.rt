@@ -17,7 +17,7 @@ pub struct OutFile {
 }
 
 /// What an export does: it puts the files one after another, and then makes nothing stand at each of the
-/// other paths.
+/// other paths. Of RRDP files the notification has to be put last (RFC 8182 section 3.3.2).
 #[derive(Debug, Drop)]
 pub struct OutFiles {
     pub puts: Vec<OutFile>,

@@ -6,7 +6,7 @@ ghost use Rattle.outlet_api.specs.Folders.{files_in, grown, KeepsFiles, CountsSt
 ghost use Rattle.outlet_api.specs.Paths.{is_file_path};
 
 use crate::{HostFolder, Outlet, OutletStop, RawFolder};
-use raw_calls::CallFault;
+use host_calls::CallFault;
 use std::alloc::Global;
 
 /// An outlet over a folder, by default one of the operating system, of which a contract learns nothing.

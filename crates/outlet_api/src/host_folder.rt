@@ -3,7 +3,7 @@ ghost use Rattle.std.specs.Prelude.{◌≡◌, ◌≤◌, length, None, Ok, IsEr
 ghost use Rattle.outlet_api.specs.Paths as rule;
 
 use crate::{OutletStop, RawFolder, is_file_path};
-use raw_calls::{CallFault, Tally, called, taken};
+use host_calls::{CallFault, Tally, called, taken};
 use std::alloc::Global;
 use std::io::{ErrorKind, Write};
 use std::path::Path;
@@ -145,7 +145,7 @@ fn sync_of(draft: &Option<fs::File>) -> io::Result<()> {
 }
 
 impl RawFolder for HostFolder {
-    ghost use Rattle.raw_calls.specs.Counts.{fault_count, patience_of};
+    ghost use Rattle.host_calls.specs.Counts.{fault_count, patience_of};
 
     ghost folder = { λ _. None };
 

@@ -1,12 +1,12 @@
 // An outlet in memory, some of whose calls are to fail.
 ghost use Rattle.std.specs.Prelude.{◌≡◌, ◌≢◌, ◌↔◌, Err, None, Some, option_copied, option_map, IsTrue, OnOk, OnErr};
-ghost use Rattle.fault_count.specs.Rise.{HasRisen};
+ghost use Rattle.host_calls.specs.Rise.{HasRisen};
 ghost use Rattle.outlet_api.specs.Calls.{no_files, put, removal, after, MayHaveDone};
 ghost use Rattle.outlet_api.specs.Faults.{CountsFaults};
 
 use crate::file_map::FileMap;
 use crate::{Outlet, OutletStop};
-use fault_count::raised;
+use host_calls::raised;
 use std::alloc::{AllocError, Global};
 
 /// An outlet in memory, whose calls can be made to fail. A call that fails changes no file.

@@ -6,7 +6,7 @@ ghost use Rattle.outlet_api.specs.Folders.{CountsStops};
 
 use crate::file_map::FileMap;
 use crate::{OutletStop, RawFolder, is_file_path};
-use raw_calls::{CallFault, Script, Tally};
+use host_calls::{CallFault, Script, Tally};
 use std::alloc::Global;
 use std::mem;
 
@@ -22,7 +22,7 @@ pub struct PlayedFolder {
 }
 
 impl PlayedFolder {
-    ghost use Rattle.raw_calls.specs.Counts.{fault_count};
+    ghost use Rattle.host_calls.specs.Counts.{fault_count};
     ghost use Rattle.outlet_api.specs.Over.{played_files, played_folder};
 
     /// A folder without a file.
@@ -81,7 +81,7 @@ impl PlayedFolder {
 }
 
 impl RawFolder for PlayedFolder {
-    ghost use Rattle.raw_calls.specs.Counts.{fault_count, patience_of};
+    ghost use Rattle.host_calls.specs.Counts.{fault_count, patience_of};
     ghost use Rattle.outlet_api.specs.Over.{played_folder};
 
     ghost folder = { λ played. Some (played_folder played) };

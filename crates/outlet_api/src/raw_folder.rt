@@ -1,12 +1,12 @@
 // The calls of a folder, as the system makes them.
 ghost use Rattle.std.specs.Prelude.{◌≡◌, ◌⊎◌, ◌<◌, ◌≤◌, ℕ, length, take, Option, option_map, IsTrue, IsErrOf, IfOk, OnOk, OnErr};
-ghost use Rattle.raw_calls.specs.Faults.{CountsAnswer};
+ghost use Rattle.host_calls.specs.Faults.{CountsAnswer};
 ghost use Rattle.outlet_api.specs.Calls.{removal, after, MayHaveDone};
 ghost use Rattle.outlet_api.specs.Paths.{is_file_path};
 ghost use Rattle.outlet_api.specs.Folders.{Folder, files_in, begun, grown, settled, placed, KeepsFiles, IsSettled, CountsStops};
 
 use crate::OutletStop;
-use raw_calls::CallFault;
+use host_calls::CallFault;
 use std::alloc::Global;
 
 /// A folder. A new file is drafted beside the others, where nobody looks for it, and renamed. A write

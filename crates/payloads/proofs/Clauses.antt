@@ -1,12 +1,12 @@
 -- The clauses of a body's reading, out of its answer: the same for every body.
 use Rattle.std.proofs.Common.{◌≡◌, ◌≢◌, ℕ, Bool, true, false, Option, List, Result, Ok, Err, IfOk, IfErr, refl, sym, ◌∙◌}
 use Rattle.der.specs.Grammar.{AreBytes}
-use Rattle.der_forms.specs.Form.{Whole}
-use Rattle.der_forms.specs.Object.{Spells, read_object}
+use Rattle.der.specs.Form.{Whole}
+use Rattle.der.specs.Object.{Spells, read_object}
 use Rattle.payloads.specs.declared.fault.BodyFault.{BodyFault}
 use Rattle.payloads.specs.declared.fault.BodyFault.TheVariants.{Shape, Order, Memory}
 use Rattle.payloads.specs.Outcome.{ordered, GivesBody, UnlessNoMemory, IsOrderOrMemory, IsTrueBodyFault}
-use Rattle.payloads.specs.AnswerLaws.{IsOrdering, body-taken, body-again, body-unordered, body-shape, body-disorder}
+use Rattle.payloads.specs.laws.AnswerLaws.{IsOrdering, body-taken, body-again, body-unordered, body-shape, body-disorder}
 
 -- The ordered format beside the one without regard to order.
 pub record IsOrderedForm {A : Type 0} (f h : Whole A) (test : A → Bool) : Type 0 where

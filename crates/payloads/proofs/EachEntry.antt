@@ -1,6 +1,6 @@
 -- Entries that were made are sound.
 use Rattle.std.proofs.Common.{List, [], ◌∷◌, map}
-use Rattle.der_forms.specs.Forms.{AreAll}
+use Rattle.der.specs.Forms.{AreAll}
 use Rattle.payloads.specs.declared.values.RoaEntry.{RoaEntry}
 use Rattle.payloads.specs.RoaFormats.{IsEntry, entry_view}
 

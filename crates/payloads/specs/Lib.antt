@@ -1,14 +1,8 @@
 pub mod Prefixes
-pub mod PrefixLaws
 pub mod Order
-pub mod PlacedLaws
 pub mod RoaFormats
-pub mod EntryLaws
-pub mod BlockLaws
 pub mod RoaReading
-pub mod RoaLaws
 pub mod Outcome
-pub mod AnswerLaws
 pub mod ManifestFormats
 pub mod ManifestReading
-pub mod ManifestLaws
+pub mod laws

@@ -7,9 +7,9 @@ use Rattle.std.specs.Ordering.{nat_cmp, is_lt}
 use Rattle.std.specs.String.{string_bytes}
 use Rattle.der.specs.Tags as tag
 use Rattle.moments.specs.Civil.{IsMoment}
-use Rattle.der_forms.specs.Form.{Whole, Front}
-use Rattle.der_forms.specs.Forms.{content, within, sole, both, preceded, many, tested, placed, AreAll}
-use Rattle.der_forms.specs.Leaves.{number, octet_bits}
+use Rattle.der.specs.Form.{Whole, Front}
+use Rattle.der.specs.Forms.{content, within, sole, both, preceded, many, tested, placed, AreAll}
+use Rattle.der.specs.Leaves.{number, octet_bits}
 use Rattle.object_parts.specs.TimeFormats.{general_time}
 use Rattle.object_parts.specs.FrameFormats.{identifier}
 use Rattle.object_parts.specs.declared.identifiers.TheConstants.{SHA256}
@@ -36,21 +36,33 @@ name_content = tested content is_name
 abbrev pub file_name : Front (List ℕ)
 file_name = within tag.ia5_string name_content
 
--- A name and the 32 bytes of a hash, over the format of the name.
+-- A name and the 32 bytes of a hash (RFC 9286 section 4.2.1), over the format of the name.
 abbrev pub file_content : {A : Type 0} → Front A → Whole (A × List ℕ)
 file_content name = both name (sole tag.bit_string (octet_bits 32))
 
 abbrev pub file : {A : Type 0} → Front A → Front (A × List ℕ)
 file name = within tag.sequence (file_content name)
 
--- The algorithm of the hashes, which is SHA-256, and the files.
+-- The algorithm of the hashes, which is SHA-256, and the files (RFC 9286 section 4.2.1).
 abbrev pub files : {A : Type 0} → Front A → Whole (List (A × List ℕ))
 files name = preceded (identifier SHA256) (sole tag.sequence (many (file name)))
 
--- The number, the times of this update and the next one, and the files. The version is the
--- default one, and so left out.
+-- The number, the times of this update and the next one, and the files (RFC 9286 section 4.2.1).
+-- The version is the default one, and so left out.
 abbrev pub ManifestOf : Type 0 → Type 0
 ManifestOf A = ℕ × (ℕ × (ℕ × List (A × List ℕ)))
+
+abbrev pub manifest_number : {A : Type 0} → ManifestOf A → ℕ
+manifest_number (number, (this_update, (next_update, files))) = number
+
+abbrev pub this_update_of : {A : Type 0} → ManifestOf A → ℕ
+this_update_of (number, (this_update, (next_update, files))) = this_update
+
+abbrev pub next_update_of : {A : Type 0} → ManifestOf A → ℕ
+next_update_of (number, (this_update, (next_update, files))) = next_update
+
+abbrev pub listed_files : {A : Type 0} → ManifestOf A → List (A × List ℕ)
+listed_files (number, (this_update, (next_update, files))) = files
 
 unfoldable pub manifest_body : {A : Type 0} → Front A → Whole (ManifestOf A)
 manifest_body name =
@@ -75,7 +87,7 @@ abbrev pub is_name_below : List ℕ → List ℕ → Bool
 is_name_below a b = is_lt (slice_cmp nat_cmp a b)
 
 abbrev pub names : Manifest → List (List ℕ)
-names value = map (λ file. file.0) value.1.1.1
+names value = map (λ file. file.0) (listed_files value)
 
 abbrev pub is_rising_manifest : Manifest → Bool
 is_rising_manifest value = rises is_name_below (names value)
@@ -86,10 +98,10 @@ pub record IsFile (file : List ℕ × List ℕ) : Type 0 where
 
 -- Numbers of 64 bits, moments, and files whose names rise.
 pub record IsManifest (value : Manifest) : Type 0 where
-  pub number : value.0 < 2 ^ 64
-  pub this_update : IsMoment value.1.0
-  pub next_update : IsMoment value.1.1.0
-  pub files : AreAll IsFile value.1.1.1
+  pub number : manifest_number value < 2 ^ 64
+  pub this_update : IsMoment (this_update_of value)
+  pub next_update : IsMoment (next_update_of value)
+  pub files : AreAll IsFile (listed_files value)
   pub rises : is_rising_manifest value ≡ true
 
 abbrev pub manifest : Whole Manifest

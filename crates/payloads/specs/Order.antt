@@ -1,4 +1,5 @@
--- Lists that rise, and the first value of a list that isn't above the one before it.
+-- Lists that rise, and the first value of a list that isn't above the one before it. So stand the
+-- entries of a ROA (RFC 9582 section 4.3.3), and the names of a manifest here.
 use Rattle.std.specs.Prelude.{ℕ, Bool, true, ◌&&◌, Option, Some, None, List, [], ◌∷◌, if◌then◌else◌}
 
 abbrev pub rises_above : {A : Type 0} → (A → A → Bool) → A → List A → Bool

@@ -1,9 +1,9 @@
--- What reading a body answers.
+-- What reading a body answers (RFC 9582 section 4, RFC 9286 section 4.2).
 use Rattle.std.specs.Prelude.{◌≡◌, ◌≢◌, ℕ, Bool, false, Option, Some, None, List, Result, Ok, Err, ⊤}
-use Rattle.der_forms.specs.Form.{Whole}
-use Rattle.der_forms.specs.Object.{Spells, IsTruePlace}
-use Rattle.der_forms.specs.declared.fault.ShapeFault.{ShapeFault}
-use Rattle.der_forms.specs.declared.fault.ShapeFault.TheVariants.{Shape as NoShape, Memory as NoMemory}
+use Rattle.der.specs.Form.{Whole}
+use Rattle.der.specs.Object.{Spells, IsTruePlace}
+use Rattle.der.specs.declared.shape_fault.ShapeFault.{ShapeFault}
+use Rattle.der.specs.declared.shape_fault.ShapeFault.TheVariants.{Shape as NoShape, Memory as NoMemory}
 use Rattle.payloads.specs.declared.fault.BodyFault.{BodyFault}
 use Rattle.payloads.specs.declared.fault.BodyFault.TheVariants.{Shape, Order, Memory}
 

@@ -2,9 +2,9 @@
 use Rattle.std.specs.Prelude.{◌≡◌, ℕ, Bool}
 use Rattle.origins.specs.Prefix.{address_bits, IsPrefix}
 use Rattle.origins.specs.declared.Prefix.{Prefix}
-use Rattle.der_forms.specs.Form.{Front}
-use Rattle.der_forms.specs.Forms.{mapped_front}
-use Rattle.res_forms.specs.Formats.{leading}
+use Rattle.der.specs.Form.{Front}
+use Rattle.der.specs.Forms.{mapped_front}
+use Rattle.res_ext.specs.Formats.{leading}
 
 -- A prefix as its numbers: whether its family is IPv6, its address, its length.
 abbrev pub prefix_parts : Prefix → Bool × ℕ × ℕ

@@ -2,14 +2,14 @@
 use Rattle.std.specs.Prelude.{◌≡◌, ℕ, zero, suc, ◌<◌, ◌≤◌, ◌^◌, Bool, true, false, not, ◌&&◌, ◌||◌, ◌==◌, nat_lt, nat_le, Option, Some, None, List, [], ◌∷◌, ◌++◌, length, take, drop, map, ⊤, if◌then◌else◌}
 use Rattle.der.specs.Tags as tag
 use Rattle.origins.specs.Prefix.{address_bits, IsPrefix, IsMaximum}
-use Rattle.der_forms.specs.Form.{Whole, Front}
-use Rattle.der_forms.specs.Forms.{leaf, within, sole, after, both, only, maybe, many, tested, through, placed, AreAll}
-use Rattle.der_forms.specs.Leaves.{number, short_number, are_same}
+use Rattle.der.specs.Form.{Whole, Front}
+use Rattle.der.specs.Forms.{leaf, within, sole, after, both, only, maybe, many, tested, through, placed, AreAll}
+use Rattle.der.specs.Leaves.{number, short_number, are_same}
 use Rattle.payloads.specs.Prefixes.{prefix}
 use Rattle.payloads.specs.Order.{rises}
 use Rattle.payloads.specs.declared.values.RoaEntry.{RoaEntry}
 
--- An entry: a prefix, and the greatest length that may be announced.
+-- An entry: a prefix, and the greatest length that may be announced (RFC 9582 section 4.3.2).
 pub record Entry : Type 0 where
   pub v6 : Bool
   pub address : ℕ
@@ -28,12 +28,12 @@ entry_view e = record {
   max = e.max;
 }
 
--- The maximum is written where it isn't the prefix's length.
+-- The maximum is written where it isn't the prefix's length (RFC 9582 section 4.3.2.2).
 abbrev pub entry_parts : Entry → (Bool × ℕ × ℕ) × Option ℕ
 entry_parts e = ((e.v6, e.address, e.len), if e.max == e.len then None else Some e.max)
 
 abbrev pub entry_with : Bool × ℕ × ℕ → ℕ → Entry
-entry_with x max = record { v6 = x.0; address = x.1; len = x.2; max = max }
+entry_with (v6, address, len) max = record { v6 = v6; address = address; len = len; max = max }
 
 unfoldable pub entry_of : Bool × ℕ × ℕ → Option ℕ → Option Entry
 entry_of x None = Some (entry_with x x.2)
@@ -132,7 +132,7 @@ placed_roa = body placed_entry (λ x. x.1.v6) (λ xs. AreEntries (map (λ x. x.1
 abbrev pub placed_blocks : Whole (List (ℕ × Entry))
 placed_blocks = blocks placed_entry (λ x. x.1.v6) (λ xs. AreEntries (map (λ x. x.1) xs))
 
--- The order of entries of one family: by address, by length, by maximum.
+-- The order of entries of one family: by address, by length, by maximum (RFC 9582 section 4.3.3).
 abbrev pub is_below_within : Entry → Entry → Bool
 is_below_within a b =
     if a.address == b.address
@@ -143,14 +143,21 @@ is_below_within a b =
 abbrev pub is_below : Entry → Entry → Bool
 is_below a b = if a.v6 then b.v6 && is_below_within a b else b.v6 || is_below_within a b
 
+-- What is said of an AS and entries, by name.
+abbrev pub roa_asn : ℕ × List Entry → ℕ
+roa_asn (asn, entries) = asn
+
+abbrev pub roa_entries : ℕ × List Entry → List Entry
+roa_entries (asn, entries) = entries
+
 abbrev pub is_rising : ℕ × List Entry → Bool
-is_rising value = rises is_below value.1
+is_rising value = rises is_below (roa_entries value)
 
 -- The number of an AS, and entries that rise.
 pub record IsRoa (value : ℕ × List Entry) : Type 0 where
-  pub asn : value.0 < 2 ^ 32
-  pub some : 1 ≤ length value.1
-  pub each : AreAll IsEntry value.1
+  pub asn : roa_asn value < 2 ^ 32
+  pub some : 1 ≤ length (roa_entries value)
+  pub each : AreAll IsEntry (roa_entries value)
   pub rises : is_rising value ≡ true
 
 abbrev pub roa : Whole (ℕ × List Entry)

@@ -1,6 +1,6 @@
--- What reading the body of a ROA answers.
+-- What reading the body of a ROA answers (RFC 9582 section 4).
 use Rattle.std.specs.Prelude.{ℕ, Option, List, map, Result}
-use Rattle.der_forms.specs.Object.{read_object}
+use Rattle.der.specs.Object.{read_object}
 use Rattle.payloads.specs.declared.fault.BodyFault.{BodyFault}
 use Rattle.payloads.specs.declared.roa.RoaBody.{RoaBody}
 use Rattle.payloads.specs.Order.{first_unordered}

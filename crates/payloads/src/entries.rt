@@ -2,18 +2,18 @@
 
 ghost use Rattle.std.specs.Prelude.{◌≡◌, ◌++◌, OnOk};
 ghost use Rattle.std.specs.Option.{option_map};
-ghost use Rattle.der_forms.specs.Place.{place};
-ghost use Rattle.der_forms.specs.Outcome.{Gives};
-ghost use Rattle.der_forms.specs.Forms.{maybe, only};
-ghost use Rattle.der_forms.specs.Leaves.{number as number_form};
+ghost use Rattle.der.specs.Part.{place};
+ghost use Rattle.der.specs.Outcome.{Gives};
+ghost use Rattle.der.specs.Forms.{maybe, only};
+ghost use Rattle.der.specs.Leaves.{number as number_form};
 ghost use Rattle.payloads.specs.Prefixes.{prefix_parts};
 ghost use Rattle.payloads.specs.RoaFormats.{Entry, entry_view, entry_parts, entry_of, entry_content, entry, is_below};
 
 use crate::order::Ranked;
 use crate::prefixes::{address_bits, prefix, push_prefix};
 use crate::values::RoaEntry;
-use der_forms::tags::SEQUENCE;
-use der_forms::{Part, ShapeFault, number};
+use der::tags::SEQUENCE;
+use der::{Part, ShapeFault, number};
 use origins::Prefix;
 use std::alloc::{AllocError, Global};
 
@@ -62,7 +62,7 @@ fn entry_content(v6: bool, part: Part<'_>) -> Result<RoaEntry, ShapeFault>
     }
 }
 
-/// An entry of the family.
+/// An entry of the family (RFC 9582 section 4.3.2).
 pub fn entry(v6: bool, part: Part<'_>) -> Result<(RoaEntry, Part<'_>), ShapeFault>
     ensures { Gives (λ x. (entry_view x.0, place x.1)) result ((entry v6).read (place part.entry)) }
 {
@@ -104,7 +104,7 @@ fn push_maximum(alloc: Global, out: &mut Vec<u8>, item: &RoaEntry) -> Result<(),
     der::unsigned(alloc, out, u64::from(item.max))
 }
 
-/// Appends an entry.
+/// Appends an entry (RFC 9582 section 4.3.2).
 #[tactic(auto, using(std::proofs::Common::append_assoc))]
 pub fn push_entry(alloc: Global, out: &mut Vec<u8>, item: &RoaEntry) -> Result<(), AllocError>
     ensures { OnOk result (out.new.items ≡ out.old.items

@@ -2,17 +2,17 @@
 
 ghost use Rattle.std.specs.Prelude.{◌≡◌, ◌≤◌, ◌++◌, false, length, map, OnOk};
 ghost use Rattle.std.specs.List.{flat_map};
-ghost use Rattle.der_forms.specs.Place.{place};
-ghost use Rattle.der_forms.specs.Outcome.{Gives, GivesUnlessMemory};
-ghost use Rattle.der_forms.specs.Forms.{both, maybe, only};
-ghost use Rattle.der_forms.specs.ListLaws.{front-moves};
+ghost use Rattle.der.specs.Part.{place};
+ghost use Rattle.der.specs.Outcome.{Gives, GivesUnlessMemory};
+ghost use Rattle.der.specs.Forms.{both, maybe, only};
+ghost use Rattle.der.specs.laws.ListLaws.{front-moves};
 ghost use Rattle.payloads.specs.RoaFormats.{Entry, entry_view, entry, family_bytes, family_in, family_number, family, families_of, leading_v4, blocks, placed_entries, placed_entry, placed_view, placed_blocks};
-ghost use Rattle.payloads.specs.EntryLaws.{entry-law};
+ghost use Rattle.payloads.specs.laws.EntryLaws.{entry-law};
 
 use crate::entries::{entry, push_entry};
 use crate::values::RoaEntry;
-use der_forms::tags::{OCTET_STRING, SEQUENCE};
-use der_forms::{FrontReader, Part, Placed, ShapeFault, are_same, many};
+use der::tags::{OCTET_STRING, SEQUENCE};
+use der::{FrontReader, Part, Placed, ShapeFault, are_same, many};
 use std::alloc::{AllocError, Global};
 
 /// Reads entries of one family.
@@ -97,7 +97,8 @@ fn family(alloc: Global, part: Part<'_>) -> Result<(FamilyEntries, Part<'_>), Sh
     Ok((FamilyEntries { v6, entries }, rest))
 }
 
-/// The entries of one family or of both, with their places.
+/// The entries of one family or of both, with their places (RFC 9582 section 4.3). A place is the
+/// offset in bytes of the entry in the body.
 #[tactic(auto, unfolding(crate::specs::RoaFormats::blocks))]
 pub fn blocks(alloc: Global, part: Part<'_>) -> Result<Vec<(u64, RoaEntry)>, ShapeFault>
     ensures { GivesUnlessMemory (λ v. map placed_view v.items)
@@ -117,7 +118,7 @@ pub fn blocks(alloc: Global, part: Part<'_>) -> Result<Vec<(u64, RoaEntry)>, Sha
     Ok(entries)
 }
 
-/// How many entries of IPv4 stand in front.
+/// How many entries of IPv4 stand in front (RFC 9582 section 4.3.3).
 pub fn leading_v4(entries: &[RoaEntry]) -> usize
     ensures within { result ≤ length entries.now }
     ensures count { result ≡ leading_v4 (λ e. e.v6) (map entry_view entries.now) }
@@ -169,7 +170,7 @@ fn push_family(
     der::enclose(alloc, out, from, SEQUENCE)
 }
 
-/// Appends the families that have entries.
+/// Appends the families that have entries (RFC 9582 section 4.3).
 pub fn push_families(
     alloc: Global,
     out: &mut Vec<u8>,

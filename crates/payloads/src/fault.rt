@@ -1,10 +1,10 @@
-//! Why bytes are no body.
+//! Why bytes are no body (RFC 9582 section 4, RFC 9286 section 4.2).
 
 ghost use Rattle.std.specs.Prelude.{◌≡◌};
 ghost use Rattle.payloads.specs.Outcome.{body_fault};
 ghost use Rattle.payloads.specs.declared.fault.BodyFault.TheVariants.{Memory};
 
-use der_forms::ShapeFault;
+use der::ShapeFault;
 use std::alloc::{AllocError, AllocFailed};
 use thiserror::Error;
 

@@ -2,17 +2,17 @@
 
 ghost use Rattle.std.specs.Prelude.{◌≡◌, ◌++◌, ℕ, List, map, OnOk};
 ghost use Rattle.std.specs.List.{flat_map, list_all};
-ghost use Rattle.der_forms.specs.Place.{place};
-ghost use Rattle.der_forms.specs.Outcome.{GivesUnlessMemory};
+ghost use Rattle.der.specs.Part.{place};
+ghost use Rattle.der.specs.Outcome.{GivesUnlessMemory};
 ghost use Rattle.payloads.specs.ManifestFormats.{is_name, file_name, file_content, file, files, placed_name, is_name_below, name_of, file_view, placed_file_view};
-ghost use Rattle.payloads.specs.ManifestLaws.{within-moves};
+ghost use Rattle.payloads.specs.laws.ManifestLaws.{within-moves};
 ghost use Rattle.der.specs.Tags as tag;
 
 use crate::names::{file_name, is_name};
 use crate::order::Ranked;
 use crate::values::ListedFile;
-use der_forms::tags::{BIT_STRING, IA5_STRING, SEQUENCE};
-use der_forms::{FrontReader, Part, ShapeFault, many, octet_bits};
+use der::tags::{BIT_STRING, IA5_STRING, SEQUENCE};
+use der::{FrontReader, Part, ShapeFault, many, octet_bits};
 use object_parts::identifiers::SHA256;
 use object_parts::{identifier, push_identifier, push_octet_bits};
 use std::alloc::{AllocError, Global};
@@ -66,7 +66,8 @@ impl FrontReader for FileReader {
     ghost moves = { λ reader. within-moves tag.sequence (file_content placed_name) };
 }
 
-/// The algorithm of the hashes, and the files with the places of their names.
+/// The algorithm of the hashes, and the files with the places of their names. A place is the offset
+/// in bytes of the name's element in the body (RFC 9286 section 4.2.1).
 pub fn files(alloc: Global, part: Part<'_>) -> Result<Vec<(u64, ListedFile)>, ShapeFault>
     ensures { GivesUnlessMemory (λ v. map placed_file_view v.items)
         result ((files placed_name).read (place part.entry)) }
@@ -75,7 +76,7 @@ pub fn files(alloc: Global, part: Part<'_>) -> Result<Vec<(u64, ListedFile)>, Sh
     many(alloc, &FileReader, list)
 }
 
-/// Whether each file's name is one.
+/// Whether each file's name is one (RFC 9286 section 4.2.2).
 pub fn have_names(items: &[ListedFile]) -> bool
     ensures { result ≡ list_all (λ f. is_name (name_of f)) items.now }
 {
@@ -105,7 +106,7 @@ fn push_each(alloc: Global, out: &mut Vec<u8>, items: &[ListedFile]) -> Result<(
     Ok(())
 }
 
-/// Appends the algorithm of the hashes, and the files.
+/// Appends the algorithm of the hashes, and the files (RFC 9286 section 4.2.1).
 #[tactic(auto, using(std::proofs::Common::append_assoc))]
 pub fn push_files(alloc: Global, out: &mut Vec<u8>, items: &[ListedFile]) -> Result<(), AllocError>
     ensures { OnOk result (out.new.items ≡ out.old.items

@@ -1,4 +1,5 @@
-//! The bodies of ROAs (RFC 9582) and of manifests (RFC 9286).
+//! The contents of ROAs (RFC 9582 section 4) and of manifests (RFC 9286 section 4.2), read and
+//! written.
 #![tactic(auto)]
 
 mod entries;

@@ -1,9 +1,9 @@
 //! The body of a manifest (RFC 9286 section 4.2).
 
 ghost use Rattle.std.specs.Prelude.{◌≡◌, ◌↔◌, ◌<◌, ◌^◌, ℕ, List, false, Ok, IsTrue, IfOk, IfErr};
-ghost use Rattle.der_forms.specs.Place.{place};
-ghost use Rattle.der_forms.specs.Outcome.{GivesUnlessMemory};
-ghost use Rattle.der_forms.specs.Object.{Spells, read_object};
+ghost use Rattle.der.specs.Part.{place};
+ghost use Rattle.der.specs.Outcome.{GivesUnlessMemory};
+ghost use Rattle.der.specs.Object.{Spells, read_object};
 ghost use Rattle.payloads.specs.Outcome.{ordered, GivesBody, UnlessNoMemory, IsOrderOrMemory, IsTrueBodyFault};
 ghost use Rattle.payloads.specs.ManifestFormats.{Manifest, IsManifest, placed_manifest, unordered_manifest, manifest, is_rising_manifest};
 ghost use Rattle.payloads.specs.ManifestReading.{manifest_view, placed_view, manifest_value, unordered_name, manifest_read};
@@ -12,18 +12,20 @@ use crate::fault::BodyFault;
 use crate::files::{files, have_names, push_files};
 use crate::order::{are_rising, first_unordered, without_places};
 use crate::values::ListedFile;
-use der_forms::tags::SEQUENCE;
-use der_forms::{Part, ShapeFault, number};
+use der::tags::SEQUENCE;
+use der::{Part, ShapeFault, number};
 use moments::is_moment;
 use object_parts::{general_time, push_general_time};
 use std::alloc::{AllocError, Global};
 
-/// What a manifest says: which files a publication point has.
+/// What a manifest says: which files a publication point has (RFC 9286 section 4.2.1).
 #[derive(Debug, Drop)]
 pub struct ManifestBody {
+    /// The manifest number.
     pub number: u64,
     /// Seconds since 1970, from 2000 to 9999.
     pub this_update: u64,
+    /// When the next one is due at the latest, in seconds since 1970.
     pub next_update: u64,
     /// Their names rise.
     pub files: Vec<ListedFile>,
@@ -127,7 +129,9 @@ impl ManifestBody {
         Ok(out)
     }
 
-    /// The body that the bytes spell.
+    /// The body that the bytes spell. Its grammar is asked first, and then whether the names rise.
+    /// Places in faults are offsets in bytes. Whether this update is before the next one isn't asked
+    /// (RFC 9286 section 4.4).
     pub fn read(alloc: Global, bytes: &[u8]) -> Result<ManifestBody, BodyFault>
         // What is read is spelled so, each byte of it, and what is spelled so is read.
         ensures found { IfOk result (λ body. Spells manifest (manifest_view body) bytes.now) }

@@ -3,12 +3,12 @@
 ghost use Rattle.std.specs.Prelude.{◌≡◌, ◌<◌, true, length, IfOk, string_bytes};
 ghost use Rattle.std.specs.List.{list_all};
 ghost use Rattle.std.specs.Char.{is_ascii_alphabetic};
-ghost use Rattle.der_forms.specs.Place.{place};
-ghost use Rattle.der_forms.specs.Outcome.{GivesUnlessMemory};
+ghost use Rattle.der.specs.Part.{place};
+ghost use Rattle.der.specs.Outcome.{GivesUnlessMemory};
 ghost use Rattle.payloads.specs.ManifestFormats.{is_stem_byte, has_dot_at, is_name, name_content, file_name};
 
-use der_forms::tags::IA5_STRING;
-use der_forms::{Part, ShapeFault};
+use der::tags::IA5_STRING;
+use der::{Part, ShapeFault};
 use std::alloc::{AllocError, Global};
 use std::str;
 
@@ -39,7 +39,7 @@ fn has_dot_at(at: usize, bytes: &[u8]) -> bool
     is_stem(&bytes[..at]) && bytes[at] == b'.' && are_letters(&bytes[at + 1..])
 }
 
-/// Whether the bytes are a name: a stem, a dot and three letters.
+/// Whether the bytes are a name: a stem, a dot and three letters (RFC 9286 section 4.2.2).
 #[tactic(auto, unfolding(crate::specs::ManifestFormats::is_name))]
 pub fn is_name(bytes: &[u8]) -> bool
     ensures { result ≡ is_name bytes.now }

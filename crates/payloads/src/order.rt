@@ -1,4 +1,5 @@
-//! Lists that rise, and the first value of a list that isn't above the one before it.
+//! Lists that rise, and the first value of a list that isn't above the one before it. Entries of a
+//! ROA stand so (RFC 9582 section 4.3.3), and so do the names of a manifest here.
 
 ghost use Rattle.std.specs.Prelude.{◌≡◌, Bool, map, IfOk};
 ghost use Rattle.payloads.specs.Order.{rises, first_unordered};
@@ -18,7 +19,8 @@ pub trait Ranked {
         ensures { result ≡ below (view self.now) (view other.now) };
 }
 
-/// The place of the first value that isn't above the one before it.
+/// The place of the first value that isn't above the one before it. Each value has its place, an
+/// offset in bytes.
 pub fn first_unordered<T: Ranked>(items: &[(u64, T)]) -> Option<u64>
     ensures { result ≡ first_unordered T.below (map (λ x. (x.0, T.view x.1)) items.now) }
 {

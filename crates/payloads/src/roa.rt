@@ -1,9 +1,9 @@
 //! The body of a ROA (RFC 9582 section 4).
 
 ghost use Rattle.std.specs.Prelude.{◌≡◌, ◌↔◌, ℕ, List, map, false, Ok, IsTrue, IfOk, IfErr};
-ghost use Rattle.der_forms.specs.Place.{place};
-ghost use Rattle.der_forms.specs.Outcome.{GivesUnlessMemory};
-ghost use Rattle.der_forms.specs.Object.{Spells, read_object};
+ghost use Rattle.der.specs.Part.{place};
+ghost use Rattle.der.specs.Outcome.{GivesUnlessMemory};
+ghost use Rattle.der.specs.Object.{Spells, read_object};
 ghost use Rattle.payloads.specs.Outcome.{ordered, GivesBody, UnlessNoMemory, IsOrderOrMemory, IsTrueBodyFault};
 ghost use Rattle.payloads.specs.RoaFormats.{Entry, IsRoa, placed_view, placed_roa, unordered_roa, roa, is_rising};
 ghost use Rattle.payloads.specs.RoaReading.{roa_view, roa_value, unordered_entry, roa_read};
@@ -12,15 +12,17 @@ use crate::families::{blocks, leading_v4, push_families};
 use crate::fault::BodyFault;
 use crate::order::{are_rising, first_unordered, without_places};
 use crate::values::RoaEntry;
-use der_forms::tags::SEQUENCE;
-use der_forms::{Part, ShapeFault, short_number};
+use der::tags::SEQUENCE;
+use der::{Part, ShapeFault, short_number};
 use std::alloc::{AllocError, Global};
 
-/// What a ROA says: an AS, and what it may announce.
+/// What a ROA says: an AS, and what it may announce (RFC 9582 section 4).
 #[derive(Debug, Drop)]
 pub struct RoaBody {
+    /// The number of the AS (RFC 9582 section 4.2).
     pub asn: u32,
-    /// They rise: by family, IPv4 first, by address, by length, by maximum.
+    /// They rise: by family, IPv4 first, by address, by length, by maximum (RFC 9582 section
+    /// 4.3.3).
     pub entries: Vec<RoaEntry>,
 }
 
@@ -96,7 +98,8 @@ impl RoaBody {
         Ok(out)
     }
 
-    /// The body that the bytes spell.
+    /// The body that the bytes spell. Its grammar is asked first, and then whether the entries rise
+    /// (RFC 9582 section 4.3.3). Places in faults are offsets in bytes.
     pub fn read(alloc: Global, bytes: &[u8]) -> Result<RoaBody, BodyFault>
         // What is read is spelled so, each byte of it, and what is spelled so is read.
         ensures found { IfOk result (λ body. Spells roa (roa_view body) bytes.now) }

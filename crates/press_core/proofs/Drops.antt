@@ -2,7 +2,7 @@
 use Rattle.std.proofs.Common.{◌∙◌, refl, subst, List, [], ◌∷◌, ◌++◌}
 use Rattle.signer_api.specs.State.{SignerState}
 use Rattle.signer_ring.specs.Ring.{Keeps}
-use Rattle.press_state.specs.declared.ended.EndedKey.{EndedKey}
+use Rattle.editions.specs.declared.ended.EndedKey.{EndedKey}
 use Rattle.press_core.specs.Press.{DropsOne, DropsEach}
 
 -- One key more.

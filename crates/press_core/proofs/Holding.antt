@@ -1,5 +1,5 @@
 -- Signers keep their keys, whatever calls they made and faults they counted.
-use Rattle.std.proofs.Common.{◌≡◌, ◌≢◌, ℕ, zero, suc, List, [], ◌∷◌, ◌++◌, Option, Some, None, option_map, refl, sym, ap, subst, ◌∙◌, inl, inr, ◌⊎◌}
+use Rattle.std.proofs.Common.{◌≡◌, ◌≢◌, ℕ, List, [], ◌∷◌, ◌++◌, Option, Some, None, option_map, refl, sym, ap, subst, ◌∙◌, inl, inr, ◌⊎◌}
 use Rattle.std.specs.Prelude.{slice_get, slice_set}
 use Rattle.std.specs.Option.{option_map_or}
 use Rattle.std.proofs.lemmas.Bool.{cases_eq}
@@ -7,21 +7,10 @@ use Rattle.std.proofs.lemmas.Option.{same_Some}
 use Rattle.std.proofs.lemmas.List.Elements.{Contains-append_left}
 use Rattle.signer_api.specs.State.{SignerState, CountsFault}
 use Rattle.signer_ring.specs.Ring.{ChangesOne}
-use Rattle.ring_calls.specs.Calls.{Call, signer_of, change, after_call, after_calls}
-use Rattle.ring_calls.specs.Calls.Call.{Makes, Signs, Once}
+use Rattle.signer_ring.specs.Calls.{Call, signer_of, change, after_call, after_calls}
+use Rattle.signer_ring.specs.Calls.Call.{Makes, Signs, Once}
 use Rattle.press_core.specs.Signers.{IsAmong, HoldKeys}
-
-set-same : (xs : List SignerState) (i : ℕ) (x y : SignerState) → slice_get xs i ≡ Some x → slice_get (slice_set xs i y) i ≡ Some y
-set-same [] i x y is = absurd cc
-set-same (z ∷ xs) zero x y is = refl
-set-same (z ∷ xs) (suc i) x y is = set-same xs i x y is
-
-set-other : (xs : List SignerState) (i j : ℕ) (y : SignerState) → i ≢ j → slice_get (slice_set xs j y) i ≡ slice_get xs i
-set-other [] i j y apart = refl
-set-other (z ∷ xs) zero zero y apart = absurd (apart refl)
-set-other (z ∷ xs) zero (suc j) y apart = refl
-set-other (z ∷ xs) (suc i) zero y apart = refl
-set-other (z ∷ xs) (suc i) (suc j) y apart = set-other xs i j y (λ e. apart (ap suc e))
+use Rattle.items.specs.laws.ElementLaws.{set-same, set-other}
 
 -- ---- one signer
 

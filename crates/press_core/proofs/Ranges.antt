@@ -2,7 +2,7 @@
 use Rattle.std.proofs.Common.{◌≡◌, ℕ, Bool, true, false, Some, None, refl}
 use Rattle.std.specs.Prelude.{if◌then◌else◌}
 use Rattle.std.proofs.lemmas.Option.{same_Some}
-use Rattle.press_state.specs.Moments.{moment_behind, is_out_of_range, moment_in_range}
+use Rattle.editions.specs.Moments.{moment_behind, is_out_of_range, moment_in_range}
 
 inside : (out : Bool) (moment m : ℕ) → Some m ≡ (if out then None else Some moment) → (out ≡ false) × (m ≡ moment)
 inside true moment m is = absurd cc

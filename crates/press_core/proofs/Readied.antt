@@ -1,13 +1,17 @@
 -- From an edition that is ready to one that is prepared.
-use Rattle.std.proofs.Common.{◌≡◌, ℕ, ◌<◌, ◌≤◌, ◌^◌, Bool, true, List, length, refl, sym, ap, subst, ◌∙◌, arith, inl, inr, map, [], ◌∷◌, ◌++◌}
-use Rattle.std.specs.Prelude.{All, Result, Ok, Err, IfOk, IfErr}
+use Rattle.std.proofs.Common.{◌≡◌, ℕ, ◌<◌, ◌≤◌, ◌^◌, Bool, true, List, length, get_or, refl, sym, ap, subst, ◌∙◌, arith, inl, inr, map, [], ◌∷◌, ◌++◌}
+use Rattle.std.specs.Prelude.{All}
+use Rattle.std.proofs.lemmas.Option.{slice_get-get_or}
 use Rattle.signer_api.specs.State.{SignerState}
 use Rattle.names.specs.Name.{IsName}
 use Rattle.authority_book.specs.Origins.{IsAscending}
 use Rattle.authority_book.specs.Settings.{Settings, ConfigValue}
+use Rattle.authority_book.specs.declared.commands.Command.{Command}
+use Rattle.authority_book.specs.Fold.{fold_of, Taken}
 use Rattle.authority_book.specs.declared.rows.NameRow.{NameRow}
 use Rattle.entitle.specs.Certified.{names_of, settings_of, AreCertified}
-use Rattle.key_ids.specs.Places.{Bases}
+use Rattle.entitle.specs.Owed.{AreOwed}
+use Rattle.key_ids.specs.Uris.{Bases}
 use Rattle.key_roll.specs.declared.rows.KeyRow.{KeyRow}
 use Rattle.key_roll.specs.declared.issued.IssuedRow.{IssuedRow}
 use Rattle.key_roll.specs.declared.work.Work.{Work}
@@ -15,44 +19,45 @@ use Rattle.pub_set.specs.declared.steps.Change.{Change}
 use Rattle.pub_set.specs.Changes.{IsApplied}
 use Rattle.issue_plan.specs.Keys.{Basis, next_keys}
 use Rattle.issue_plan.specs.Work.{IsPlan}
-use Rattle.edition_keys.specs.declared.fault.MakeFault.{MakeFault}
-use Rattle.edition_keys.specs.declared.fault.MakeFault.TheVariants.{SignerFault, KeyClash, Memory}
-use Rattle.edition_keys.specs.Making.{making as making_of}
-use Rattle.edition_publishers.specs.Certificates.{Setting}
-use Rattle.edition_outcome.specs.declared.outcome.Made.{Made}
+use Rattle.issue_keys.specs.declared.fault.MakeFault.{MakeFault}
+use Rattle.issue_keys.specs.declared.fault.MakeFault.TheVariants.{SignerFault, KeyClash, Memory}
+use Rattle.issue_keys.specs.Making.{making as making_of}
+use Rattle.issue_drafts.specs.Certificates.{IssueInput}
+use Rattle.issue_make.specs.declared.outcome.Made.{Made}
 use Rattle.issue_make.specs.Work as making
-use Rattle.ring_calls.specs.Calls.{after_calls}
+use Rattle.signer_ring.specs.Calls.{after_calls}
 use Rattle.issue_make.specs.Made.{IsMade, IsStop, calls_of}
 use Rattle.editions.specs.Edition.{cut_at}
-use Rattle.press_state.specs.declared.stock.Parts.{Parts}
-use Rattle.press_state.specs.Stock.{StockValue, value_of, IsKept, AreLive}
-use Rattle.press_state.specs.Moments.{moment_behind}
-use Rattle.press_state.specs.Calling.{is_called_for, LeadsTo}
-use Rattle.press_state.specs.Standing.{IsTableAfter}
-use Rattle.press_state.specs.Ended.{ended_keys}
-use Rattle.work_laws.specs.Following.{AreTyped, CanFollow, setting_over}
-use Rattle.work_laws.specs.Clear.{IsClear}
-use Rattle.edition_steps.specs.PlannedAndMade.{CanBeRead}
-use Rattle.press_core.specs.declared.setup.Setup.{Setup}
-use Rattle.press_core.specs.Start.{Start}
+use Rattle.editions.specs.declared.published_state.StateParts.{StateParts}
+use Rattle.editions.specs.PublishedState.{PublishedStateValue, value_of, IsConsistentState, AreLive, AreTakenIn}
+use Rattle.editions.specs.Moments.{moment_behind}
+use Rattle.editions.specs.Calling.{is_called_for, LeadsTo}
+use Rattle.editions.specs.Standing.{IsTableAfter}
+use Rattle.editions.specs.Ended.{ended_keys}
+use Rattle.editions.specs.inner.Following.{AreTyped, CanFollow, setting_over}
+use Rattle.editions.specs.Clear.{IsClear}
+use Rattle.editions.specs.PlannedAndMade.{CanBeRead}
+use Rattle.press_core.specs.declared.setup.EditionInput.{EditionInput}
+use Rattle.press_core.specs.PrepareInput.{PrepareInput}
 use Rattle.press_core.specs.Next.{PreparedValue}
 use Rattle.press_core.specs.Planned.{IsInRange, IsCalled, IsPlanned, IsPrepared, basis_for, setting_for}
-use Rattle.press_core.specs.Signers.{HoldKeys, AreCalled}
+use Rattle.press_core.specs.Signers.{HoldKeys}
 use Rattle.press_core.proofs.Holding.{hold-calls, hold-fault, hold-further}
+use Rattle.press_core.specs.declared.fault.PressFault.TheVariants as press
 use Rattle.press_core.specs.Faults.{IsPressFault}
-use Rattle.press_core.specs.Ready.{basis_over, CanStart, IsSetUp, IsReady, IsMadeReady, CanStand, IsNextOf, fault_of}
+use Rattle.press_core.specs.inner.Ready.{basis_over, CanStart, IsSetUp, IsReady, IsMadeReady, CanStand, IsNextOf, fault_of}
 
 -- ---- what it is made from
 
-bases-same : (start : Start) (setup : Setup) → IsSetUp start setup → basis_over start.at setup ≡ basis_for start setup.tree.sets.items
+bases-same : (start : PrepareInput) (setup : EditionInput) → IsSetUp start setup → basis_over start.at setup ≡ basis_for start setup.tree.sets.items
 bases-same start setup is =
     λ i. record { rows = start.at.rows; configs = is.configs i; sets = setup.tree.sets.items; moment = is.moment i }
 
 -- The work leads from the live keys to the next ones.
-pub leads : (at : StockValue) (setup : Setup) (site : Bases) (work : Work) → IsPlan (basis_over at setup) at.issued site work → LeadsTo at.rows (next_keys (basis_over at setup)) work
+pub leads : (at : PublishedStateValue) (setup : EditionInput) (site : Bases) (work : Work) → IsPlan (basis_over at setup) at.issued site work → LeadsTo at.rows (next_keys (basis_over at setup)) work
 leads at setup site work plan = record { new_keys = plan.2.new_keys; roles = plan.2.roles; dropped = plan.2.dropped }
 
-pub called-of : (start : Start) (setup : Setup) (work : Work) (called : Bool) → IsSetUp start setup
+pub called-of : (start : PrepareInput) (setup : EditionInput) (work : Work) (called : Bool) → IsSetUp start setup
     → AreCertified (settings_of setup.configs.items) setup.tree.sets.items → IsPlan (basis_over start.at setup) start.at.issued start.site work
     → called ≡ is_called_for start.at setup.cut.items work.moment (next_keys (basis_over start.at setup)) → IsCalled start setup.tree.sets.items called
 called-of start setup work called is certified plan answer =
@@ -66,7 +71,7 @@ called-of start setup work called is certified plan answer =
 
 -- ---- its making
 
-pub can-follow : (start : Start) (setup : Setup) (work : Work) → IsReady start setup work → AreTyped (basis_over start.at setup)
+pub can-follow : (start : PrepareInput) (setup : EditionInput) (work : Work) → IsReady start setup work → AreTyped (basis_over start.at setup)
     → CanFollow start.at start.site (length start.ring) (basis_over start.at setup)
 can-follow start setup work ready typed = record {
   rows = refl;
@@ -83,49 +88,50 @@ can-follow start setup work ready typed = record {
   clear = ready.able.clear;
 }
 
--- The setting of the calls, of the laws, and of the press.
-pub settings-same : (start : Start) (setup : Setup) (work : Work) (names : List NameRow) (parts : Parts) → IsReady start setup work
+-- The input of the calls, of the laws, and of the press.
+pub settings-same : (start : PrepareInput) (setup : EditionInput) (work : Work) (names : List NameRow) (parts : StateParts) → IsReady start setup work
     → names ≡ names_of (settings_of setup.configs.items) → value_of parts ≡ start.at
-    → making.setting_of work names parts.issued start.site ≡ setting_for start work
+    → making.input_of work names parts.issued start.site ≡ setting_for start work
 settings-same start setup work names parts ready named same =
     let names_same = named ∙ ap names_of ready.set_up.configs in
-    let issued = ap (λ (v : StockValue). v.issued) same in
+    let issued = ap (λ (v : PublishedStateValue). v.issued) same in
     λ i. record { work = work; names = names_same i; issued = issued i; site = start.site }
 
-pub law-setting : (start : Start) (setup : Setup) (work : Work) → IsReady start setup work
+pub law-input : (start : PrepareInput) (setup : EditionInput) (work : Work) → IsReady start setup work
     → setting_over (basis_over start.at setup) start.at.issued start.site work ≡ setting_for start work
-law-setting start setup work ready =
+law-input start setup work ready =
     let names_same = ap names_of ready.set_up.configs in
     λ i. record { work = work; names = names_same i; issued = start.at.issued; site = start.site }
 
 -- The laws of the layer below.
 pub record WorkLaws : Type 0 where
-  pub work : (at : StockValue) (site : Bases) (signers : ℕ) (basis : Basis) (work : Work) → IsKept at → CanFollow at site signers basis
-      → IsPlan basis at.issued site work → making.IsWork (setting_over basis at.issued site work) at.rows signers
-  pub live : (at : StockValue) (site : Bases) (signers : ℕ) (basis : Basis) (work : Work) (old new : List SignerState) (made : Made) → IsKept at
+  pub origins : (desk : ℕ) (commands : List Command) → Taken desk commands → IsAscending (fold_of desk commands).origins
+  pub work : (at : PublishedStateValue) (site : Bases) (signers : ℕ) (basis : Basis) (work : Work) → IsConsistentState at → CanFollow at site signers basis
+      → IsPlan basis at.issued site work → making.CanMake (setting_over basis at.issued site work) at.rows signers
+  pub live : (at : PublishedStateValue) (site : Bases) (signers : ℕ) (basis : Basis) (work : Work) (old new : List SignerState) (made : Made) → IsConsistentState at
       → CanFollow at site signers basis → IsPlan basis at.issued site work → IsMade (setting_over basis at.issued site work) at.rows old new made
       → AreLive basis.moment made.rows
-  pub signers : (at : StockValue) (site : Bases) (signers : ℕ) (basis : Basis) (work : Work) (old new : List SignerState) (made : Made) → IsKept at
+  pub signers : (at : PublishedStateValue) (site : Bases) (signers : ℕ) (basis : Basis) (work : Work) (old new : List SignerState) (made : Made) → IsConsistentState at
       → CanFollow at site signers basis → IsPlan basis at.issued site work → IsMade (setting_over basis at.issued site work) at.rows old new made
       → All (λ row. row.signer < signers) made.rows
-  pub clear : (at : StockValue) (site : Bases) (signers : ℕ) (basis : Basis) (work : Work) (old new : List SignerState) (made : Made) (table : List IssuedRow)
-      → IsKept at → CanFollow at site signers basis → IsPlan basis at.issued site work → IsMade (setting_over basis at.issued site work) at.rows old new made
+  pub clear : (at : PublishedStateValue) (site : Bases) (signers : ℕ) (basis : Basis) (work : Work) (old new : List SignerState) (made : Made) (table : List IssuedRow)
+      → IsConsistentState at → CanFollow at site signers basis → IsPlan basis at.issued site work → IsMade (setting_over basis at.issued site work) at.rows old new made
       → IsTableAfter at.issued made.changes made.issued table → IsClear site made.rows table
 
-pub is-able : WorkLaws → (start : Start) (setup : Setup) (work : Work) → IsReady start setup work → AreTyped (basis_over start.at setup)
-    → making.IsWork (setting_for start work) start.at.rows (length start.ring)
+pub is-able : WorkLaws → (start : PrepareInput) (setup : EditionInput) (work : Work) → IsReady start setup work → AreTyped (basis_over start.at setup)
+    → making.CanMake (setting_for start work) start.at.rows (length start.ring)
 is-able laws start setup work ready typed =
-    subst (λ (s : Setting). making.IsWork s start.at.rows (length start.ring)) (law-setting start setup work ready)
+    subst (λ (s : IssueInput). making.CanMake s start.at.rows (length start.ring)) (law-input start setup work ready)
     (laws.work start.at start.site (length start.ring) (basis_over start.at setup) work ready.able.kept (can-follow start setup work ready typed) ready.plan)
 
-pub made-ready : WorkLaws → (start : Start) (setup : Setup) (work : Work) (ring : List SignerState) (made : Made) → IsReady start setup work
+pub made-ready : WorkLaws → (start : PrepareInput) (setup : EditionInput) (work : Work) (ring : List SignerState) (made : Made) → IsReady start setup work
     → AreTyped (basis_over start.at setup) → IsMade (setting_for start work) start.at.rows start.ring ring made → IsMadeReady start setup work ring made
 made-ready laws start setup work ring made ready typed is =
     let basis = basis_over start.at setup in
     let follow = can-follow start setup work ready typed in
     let kept = ready.able.kept in
     let n = length start.ring in
-    let law_is = subst (λ (s : Setting). IsMade s start.at.rows start.ring ring made) (sym (law-setting start setup work ready)) is in
+    let law_is = subst (λ (s : IssueInput). IsMade s start.at.rows start.ring ring made) (sym (law-input start setup work ready)) is in
     record {
       able = is-able laws start setup work ready typed;
       is_made = is;
@@ -135,28 +141,81 @@ made-ready laws start setup work ring made ready typed is =
       clear = λ table after. laws.clear start.at start.site n basis work start.ring ring made table kept follow ready.plan law_is after;
     }
 
--- What the types say of names and origins.
-pub typed-of : (at : StockValue) (setup : Setup) (names : List NameRow) (configs : List ConfigValue) → names ≡ names_of (settings_of setup.configs.items)
-    → configs ≡ setup.configs.items → All (λ row. IsName row.name) names → All (λ config. IsAscending config.origins) (settings_of configs) → AreTyped (basis_over at setup)
-typed-of at setup names configs named same plain ascend = record {
-  names = subst (All (λ (row : NameRow). IsName row.name)) named plain;
-  origins = subst (All (λ (config : Settings). IsAscending config.origins)) (ap settings_of same) ascend;
-}
-
-pub is-ready : (start : Start) (setup : Setup) (work : Work) → CanStart start → IsInRange start.at start.clock → IsSetUp start setup
-    → AreCertified (settings_of setup.configs.items) setup.tree.sets.items → IsPlan (basis_over start.at setup) start.at.issued start.site work
+pub is-ready : (start : PrepareInput) (setup : EditionInput) (work : Work) → CanStart start → IsInRange start.at start.clock → IsSetUp start setup
+    → AreCertified (settings_of setup.configs.items) setup.tree.sets.items → AreOwed (settings_of setup.configs.items) setup.owed.items
+    → IsPlan (basis_over start.at setup) start.at.issued start.site work
     → true ≡ is_called_for start.at setup.cut.items work.moment (next_keys (basis_over start.at setup)) → IsReady start setup work
-is-ready start setup work able in_range is certified plan called = record {
+is-ready start setup work able in_range is certified owes plan called = record {
   able = able;
   set_up = is;
   in_range = in_range;
   called = called-of start setup work true is certified plan called;
+  owes = owes;
   plan = plan;
 }
 
+-- The origins of configurations that accepted commands came to ascend.
+origins-up : WorkLaws → (configs : List Settings) (cut : List ℕ) → AreTakenIn configs cut → All (λ config. IsAscending config.origins) configs
+origins-up laws configs cut taken = λ k d inside.
+    let config = get_or configs k d in
+    let is = taken k config (slice_get-get_or configs k d inside) in
+    subst (λ (s : Settings). IsAscending s.origins) (sym is.is) (laws.origins k is.commands is.taken)
+
+typed-of : WorkLaws → (start : PrepareInput) (setup : EditionInput) (work : Work) → IsReady start setup work → All (λ row. IsName row.name) (names_of (settings_of setup.configs.items))
+    → AreTyped (basis_over start.at setup)
+typed-of laws start setup work ready plain = record {
+  names = plain;
+  origins = origins-up laws (settings_of setup.configs.items) setup.cut.items ready.set_up.taken;
+}
+
+-- In the words of the calls: with the names, the rows and the table as the call has them.
+pub record Called (start : PrepareInput) (setup : EditionInput) (names : List NameRow) (parts : StateParts) (rows : List KeyRow) : Type 0 where
+  pub laws : WorkLaws
+  pub plain : All (λ row. IsName row.name) (names_of (settings_of setup.configs.items))
+  pub named : names ≡ names_of (settings_of setup.configs.items)
+  pub same : value_of parts ≡ start.at
+  pub rows_are : rows ≡ start.at.rows
+
+pub called-as : WorkLaws → (start : PrepareInput) (setup : EditionInput) (names : List NameRow) (parts : StateParts) (rows : List KeyRow) (configs : List ConfigValue)
+    → names ≡ names_of (settings_of configs) → configs ≡ setup.configs.items → All (λ row. IsName row.name) names → value_of parts ≡ start.at → rows ≡ parts.rows
+    → Called start setup names parts rows
+called-as laws start setup names parts rows configs names_are configs_are plain same of_parts =
+    let named = names_are ∙ ap (λ (c : List ConfigValue). names_of (settings_of c)) configs_are in
+    record {
+      laws = laws;
+      plain = subst (All (λ (row : NameRow). IsName row.name)) named plain;
+      named = named;
+      same = same;
+      rows_are = of_parts ∙ ap (λ (v : PublishedStateValue). v.rows) same;
+    }
+
+abbrev pub call_setting : PrepareInput → Work → List NameRow → StateParts → IssueInput
+call_setting start work names parts = making.input_of work names parts.issued start.site
+
+pub call-able : (start : PrepareInput) (setup : EditionInput) (work : Work) (names : List NameRow) (parts : StateParts) (rows : List KeyRow) → Called start setup names parts rows
+    → IsReady start setup work → making.CanMake (call_setting start work names parts) rows (length start.ring)
+call-able start setup work names parts rows c ready =
+    subst (λ (s : IssueInput). making.CanMake s rows (length start.ring)) (sym (settings-same start setup work names parts ready c.named c.same))
+    (subst (λ (r : List KeyRow). making.CanMake (setting_for start work) r (length start.ring)) (sym c.rows_are) (is-able c.laws start setup work ready (typed-of c.laws start setup work ready c.plain)))
+
+pub call-made : (start : PrepareInput) (setup : EditionInput) (work : Work) (names : List NameRow) (parts : StateParts) (rows : List KeyRow) (ring : List SignerState) (made : Made)
+    → Called start setup names parts rows → IsReady start setup work → IsMade (call_setting start work names parts) rows start.ring ring made
+    → IsMadeReady start setup work ring made
+call-made start setup work names parts rows ring made c ready is =
+    made-ready c.laws start setup work ring made ready (typed-of c.laws start setup work ready c.plain)
+    (subst (λ (r : List KeyRow). IsMade (setting_for start work) r start.ring ring made) c.rows_are
+    (subst (λ (s : IssueInput). IsMade s rows start.ring ring made) (settings-same start setup work names parts ready c.named c.same) is))
+
+pub call-stopped : (start : PrepareInput) (setup : EditionInput) (work : Work) (names : List NameRow) (parts : StateParts) (rows : List KeyRow) (ring : List SignerState) (fault : MakeFault)
+    → Called start setup names parts rows → IsReady start setup work → IsStop (call_setting start work names parts) rows start.ring ring fault
+    → IsStop (setting_for start work) start.at.rows start.ring ring fault
+call-stopped start setup work names parts rows ring fault c ready stop =
+    subst (λ (r : List KeyRow). IsStop (setting_for start work) r start.ring ring fault) c.rows_are
+    (subst (λ (s : IssueInput). IsStop s rows start.ring ring fault) (settings-same start setup work names parts ready c.named c.same) stop)
+
 -- ---- the signers' keys
 
-pub stop-holds : (s : Setting) (live : List KeyRow) (old new : List SignerState) (fault : MakeFault) → IsStop s live old new fault → HoldKeys old new
+pub stop-holds : (s : IssueInput) (live : List KeyRow) (old new : List SignerState) (fault : MakeFault) → IsStop s live old new fault → HoldKeys old new
 stop-holds s live old new (SignerFault signer) stop =
     hold-further old (after_calls old stop.calls) new (hold-calls old stop.calls) (hold-fault signer (after_calls old stop.calls) new stop.fault)
 stop-holds s live old new (KeyClash id) stop = subst (HoldKeys old) (sym stop.signers) (hold-calls old (map making_of (stop.before ++ stop.last ∷ [])))
@@ -165,14 +224,12 @@ stop-holds s live old new Memory stop = elim stop [
   | inr begun ↦ subst (HoldKeys old) (sym begun.2) (hold-calls old begun.0)
 ]
 
-pub answer-holds : (s : Setting) (live : List KeyRow) (old new : List SignerState) (answer : Result Made MakeFault) → IfOk answer (IsMade s live old new)
-    → IfErr answer (IsStop s live old new) → HoldKeys old new
-answer-holds s live old new (Ok made) is stop = subst (HoldKeys old) (sym is.signers) (hold-calls old (calls_of s is.course))
-answer-holds s live old new (Err fault) is stop = stop-holds s live old new fault stop
+pub made-holds : (s : IssueInput) (live : List KeyRow) (old new : List SignerState) (made : Made) → IsMade s live old new made → HoldKeys old new
+made-holds s live old new made is = subst (HoldKeys old) (sym is.signers) (hold-calls old (calls_of s is.trace))
 
 -- ---- refusals
 
-pub planned-of : (start : Start) (setup : Setup) (work : Work) → IsReady start setup work → IsPlanned start work
+pub planned-of : (start : PrepareInput) (setup : EditionInput) (work : Work) → IsReady start setup work → IsPlanned start work
 planned-of start setup work ready = record {
   in_range = ready.in_range;
   sets = setup.tree.sets.items;
@@ -180,22 +237,20 @@ planned-of start setup work ready = record {
   plan = subst (λ (b : Basis). IsPlan b start.at.issued start.site work) (bases-same start setup ready.set_up) ready.plan;
 }
 
-pub refused-of : (start : Start) (setup : Setup) (work : Work) (ring : List SignerState) (fault : MakeFault) → IsReady start setup work
+pub refused-of : (start : PrepareInput) (setup : EditionInput) (work : Work) (ring : List SignerState) (fault : MakeFault) → IsReady start setup work
     → IsStop (setting_for start work) start.at.rows start.ring ring fault → IsPressFault start ring (fault_of fault start.clock)
 refused-of start setup work ring (SignerFault signer) ready stop = (record { work = work; planned = planned-of start setup work ready; fault = stop }, refl)
 refused-of start setup work ring (KeyClash id) ready stop = (record { work = work; planned = planned-of start setup work ready; clash = stop }, refl)
-refused-of start setup work ring Memory ready stop = elim stop [
-  | inl short ↦ (map making_of short.made, short.signers)
-  | inr begun ↦ (begun.0, begun.2)
-]
+refused-of start setup work ring Memory ready stop = inr (record { work = work; planned = planned-of start setup work ready; out = inl stop })
 
--- What was made was made by calls.
-pub called-by : (start : Start) (setup : Setup) (work : Work) (ring : List SignerState) (made : Made) → IsMadeReady start setup work ring made → AreCalled start.ring ring
-called-by start setup work ring made is = (calls_of (setting_for start work) is.is_made.course, is.is_made.signers)
+-- Memory ran out once all was made.
+pub short-of : (start : PrepareInput) (setup : EditionInput) (work : Work) (ring : List SignerState) (made : Made) → IsReady start setup work → IsMadeReady start setup work ring made
+    → IsPressFault start ring press.Memory
+short-of start setup work ring made ready is = inr (record { work = work; planned = planned-of start setup work ready; out = inr (made, is.is_made) })
 
 -- ---- what stands then
 
-pub can-stand : (start : Start) (setup : Setup) (work : Work) (ring : List SignerState) (made : Made) → IsReady start setup work
+pub can-stand : (start : PrepareInput) (setup : EditionInput) (work : Work) (ring : List SignerState) (made : Made) → IsReady start setup work
     → IsMadeReady start setup work ring made → CanStand start.at setup made
 can-stand start setup work ring made ready is = record {
   serial = ready.in_range.counted.serial;
@@ -203,12 +258,13 @@ can-stand start setup work ring made ready is = record {
   configs = ready.set_up.config_desks;
   taken = ready.set_up.taken;
   certified = subst (λ (c : List Settings). AreCertified c setup.tree.sets.items) (sym ready.set_up.configs) ready.called.certified;
+  owes = ready.owes;
   live = is.live;
   changes = is.is_made.rising;
   issued = is.is_made.listed;
 }
 
-pub prepared-of : (start : Start) (setup : Setup) (work : Work) (ring : List SignerState) (made : Made) (prepared : PreparedValue) → IsReady start setup work
+pub prepared-of : (start : PrepareInput) (setup : EditionInput) (work : Work) (ring : List SignerState) (made : Made) (prepared : PreparedValue) → IsReady start setup work
     → IsMadeReady start setup work ring made → All CanBeRead made.changes → length made.issued < 2 ^ 62 → IsNextOf start.at setup made prepared
     → IsPrepared start ring prepared
 prepared-of start setup work ring made prepared ready is readable few next = record {

@@ -6,7 +6,7 @@ use Rattle.std.proofs.lemmas.Option.{same_Some}
 use Rattle.std.proofs.lemmas.List.Elements.{All-nil, All-cons, All-head, All-tail, All-append, All-map, All-filter, All-weaker}
 use Rattle.std.proofs.lemmas.List.Sorted.{All-permutation}
 use Rattle.signer_api.specs.declared.values.PublicKey.{PublicKey}
-use Rattle.ring_calls.specs.Calls.{Call, signer_of}
+use Rattle.signer_ring.specs.Calls.{Call, signer_of}
 use Rattle.key_roll.specs.declared.rows.KeyRow.{KeyRow}
 use Rattle.key_roll.specs.declared.work.Work.{Work}
 use Rattle.key_roll.specs.declared.work.NewKey.{NewKey}
@@ -16,19 +16,19 @@ use Rattle.key_roll.specs.declared.work.KeyName.TheVariants.{Live, Fresh}
 use Rattle.key_roll.specs.declared.work.CertWork.{CertWork}
 use Rattle.key_roll.specs.declared.work.RoaWork.{RoaWork}
 use Rattle.key_roll.specs.declared.work.PointWork.{PointWork}
-use Rattle.edition_keys.specs.Keys.{id_of, is_dropped, with_role, role_of, kept_rows, fresh_rows, AreFresh}
-use Rattle.edition_keys.specs.Making.{making}
-use Rattle.edition_publishers.specs.Finding.{Keys, all_keys, key_named}
-use Rattle.edition_publishers.specs.Certificates.{Setting, made_uri, name_at}
-use Rattle.key_ids.specs.Places.{crl_uri, manifest_uri}
+use Rattle.issue_keys.specs.Keys.{id_of, is_dropped, with_role, role_of, kept_rows, fresh_rows, AreFresh}
+use Rattle.issue_keys.specs.Making.{making}
+use Rattle.issue_drafts.specs.Finding.{Keys, all_keys, key_named}
+use Rattle.issue_drafts.specs.Certificates.{IssueInput, made_uri, name_at}
+use Rattle.key_ids.specs.Uris.{crl_uri, manifest_uri}
 use Rattle.issue_values.specs.Publishing.{roa_uri}
-use Rattle.edition_drafts.specs.Drafts.{Draft, Kind, drafts, manifests, certificate_draft, roa_draft, crl_draft, manifest_draft, AreOrdered}
-use Rattle.edition_drafts.specs.Drafts.Kind.{Certificate, Roa, Crl, Manifest}
-use Rattle.edition_signing.specs.Objects.{Signed, Entries, Answers}
-use Rattle.edition_signing.specs.Calls.{first_call, second_call, first_calls, second_calls, content_calls, last_calls}
-use Rattle.edition_outcome.specs.Outcome.{Course, AreKeys, IsCourse, all_of}
+use Rattle.issue_drafts.specs.Drafts.{Draft, Kind, drafts, manifests, certificate_draft, roa_draft, crl_draft, manifest_draft, AreOrdered}
+use Rattle.issue_drafts.specs.Drafts.Kind.{Certificate, Roa, Crl, Manifest}
+use Rattle.issue_sign.specs.Objects.{Signed, Entries, Answers}
+use Rattle.issue_sign.specs.Calls.{first_call, second_call, first_calls, second_calls, content_calls, last_calls}
+use Rattle.issue_make.specs.Outcome.{IssuingTrace, AreKeys, IsIssuingTrace, all_of}
 use Rattle.issue_make.specs.Made.{calls_of}
-use Rattle.issue_make.specs.Work.{IsWork}
+use Rattle.issue_make.specs.Work.{CanMake}
 
 -- ---- lists
 
@@ -87,7 +87,7 @@ new-of : (n : ℕ) (new_keys : List NewKey) (fresh : List KeyRow) → AreFresh n
 new-of n new_keys fresh are all =
     subst (All (IsOf n)) (sym are.rows) (fresh-of n are.news are.keys (All-permutation (λ (k : NewKey). k.signer < n) new_keys are.news are.by_desk.permutation all))
 
-keys-of : (n : ℕ) (s : Setting) (live : List KeyRow) (keys : Keys) → IsWork s live n → AreKeys s live keys → All (IsOf n) keys.fresh × All (IsOf n) (all_keys keys)
+keys-of : (n : ℕ) (s : IssueInput) (live : List KeyRow) (keys : Keys) → CanMake s live n → AreKeys s live keys → All (IsOf n) keys.fresh × All (IsOf n) (all_keys keys)
 keys-of n s live keys work are =
     let fresh = new-of n s.work.new_keys keys.fresh are.fresh work.new_signers in
     (fresh, All-append (IsOf n) keys.kept keys.fresh (subst (All (IsOf n)) (sym are.kept) (kept-of n s.work live work.live_signers)) fresh)
@@ -101,7 +101,7 @@ named-of n keys (Fresh desk) key fresh all e = found _ (IsOf n) keys.fresh key f
 abbrev IsBy : ℕ → Draft → Type 0
 IsBy n d = IsOf n d.issuer
 
-certificate-by : (n : ℕ) (s : Setting) (keys : Keys) → All (IsOf n) keys.fresh → All (IsOf n) (all_keys keys) → (cert : CertWork) (d : Draft) → certificate_draft s keys cert ≡ Some d → IsBy n d
+certificate-by : (n : ℕ) (s : IssueInput) (keys : Keys) → All (IsOf n) keys.fresh → All (IsOf n) (all_keys keys) → (cert : CertWork) (d : Draft) → certificate_draft s keys cert ≡ Some d → IsBy n d
 certificate-by n s keys fresh all cert d e = by (key_named keys cert.issuer) refl (key_named keys cert.subject) e
   where
     by : (i : Option KeyRow) → key_named keys cert.issuer ≡ i → (j : Option KeyRow)
@@ -114,7 +114,7 @@ certificate-by n s keys fresh all cert d e = by (key_named keys cert.issuer) ref
     by (Some issuer) is None e = absurd cc
     by (Some issuer) is (Some subject) e = subst (IsBy n) (same_Some _ d e) (named-of n keys cert.issuer issuer fresh all is)
 
-roa-by : (n : ℕ) (s : Setting) (keys : Keys) → All (IsOf n) keys.fresh → All (IsOf n) (all_keys keys) → (roa : RoaWork) (d : Draft) → roa_draft s keys roa ≡ Some d → IsBy n d
+roa-by : (n : ℕ) (s : IssueInput) (keys : Keys) → All (IsOf n) keys.fresh → All (IsOf n) (all_keys keys) → (roa : RoaWork) (d : Draft) → roa_draft s keys roa ≡ Some d → IsBy n d
 roa-by n s keys fresh all roa d e = by (key_named keys roa.issuer) refl e
   where
     by : (i : Option KeyRow) → key_named keys roa.issuer ≡ i
@@ -126,7 +126,7 @@ roa-by n s keys fresh all roa d e = by (key_named keys roa.issuer) refl e
     by None is e = absurd cc
     by (Some issuer) is e = subst (IsBy n) (same_Some _ d e) (named-of n keys roa.issuer issuer fresh all is)
 
-crl-by : (n : ℕ) (s : Setting) (keys : Keys) → All (IsOf n) keys.fresh → All (IsOf n) (all_keys keys) → (point : PointWork) (d : Draft) → crl_draft s keys point ≡ Some d → IsBy n d
+crl-by : (n : ℕ) (s : IssueInput) (keys : Keys) → All (IsOf n) keys.fresh → All (IsOf n) (all_keys keys) → (point : PointWork) (d : Draft) → crl_draft s keys point ≡ Some d → IsBy n d
 crl-by n s keys fresh all point d e = by (key_named keys point.key) refl e
   where
     by : (i : Option KeyRow) → key_named keys point.key ≡ i
@@ -138,7 +138,7 @@ crl-by n s keys fresh all point d e = by (key_named keys point.key) refl e
     by None is e = absurd cc
     by (Some issuer) is e = subst (IsBy n) (same_Some _ d e) (named-of n keys point.key issuer fresh all is)
 
-manifest-by : (n : ℕ) (s : Setting) (keys : Keys) → All (IsOf n) keys.fresh → All (IsOf n) (all_keys keys) → (point : PointWork) (d : Draft) → manifest_draft s keys point ≡ Some d → IsBy n d
+manifest-by : (n : ℕ) (s : IssueInput) (keys : Keys) → All (IsOf n) keys.fresh → All (IsOf n) (all_keys keys) → (point : PointWork) (d : Draft) → manifest_draft s keys point ≡ Some d → IsBy n d
 manifest-by n s keys fresh all point d e = by (key_named keys point.key) refl e
   where
     by : (i : Option KeyRow) → key_named keys point.key ≡ i
@@ -150,7 +150,7 @@ manifest-by n s keys fresh all point d e = by (key_named keys point.key) refl e
     by None is e = absurd cc
     by (Some issuer) is e = subst (IsBy n) (same_Some _ d e) (named-of n keys point.key issuer fresh all is)
 
-drafts-by : (n : ℕ) (s : Setting) (keys : Keys) → All (IsOf n) keys.fresh → All (IsOf n) (all_keys keys) → All (IsBy n) (drafts s keys)
+drafts-by : (n : ℕ) (s : IssueInput) (keys : Keys) → All (IsOf n) keys.fresh → All (IsOf n) (all_keys keys) → All (IsBy n) (drafts s keys)
 drafts-by n s keys fresh all =
     let certs = filter_map (certificate_draft s keys) s.work.certs in
     let roas = filter_map (roa_draft s keys) s.work.roas in
@@ -161,7 +161,7 @@ drafts-by n s keys fresh all =
     (all-filter_map (roa_draft s keys) (IsBy n) s.work.roas (roa-by n s keys fresh all)))
     (all-filter_map (crl_draft s keys) (IsBy n) s.work.points (crl-by n s keys fresh all))
 
-manifests-by : (n : ℕ) (s : Setting) (keys : Keys) → All (IsOf n) keys.fresh → All (IsOf n) (all_keys keys) → All (IsBy n) (manifests s keys)
+manifests-by : (n : ℕ) (s : IssueInput) (keys : Keys) → All (IsOf n) keys.fresh → All (IsOf n) (all_keys keys) → All (IsBy n) (manifests s keys)
 manifests-by n s keys fresh all = all-filter_map (manifest_draft s keys) (IsBy n) s.work.points (manifest-by n s keys fresh all)
 
 signed-by : (n : ℕ) (drafts : List Draft) (made : List Signed) → AreOrdered drafts (map (λ x. x.draft) made) → All (IsBy n) drafts → All (λ x. IsBy n x.draft) made
@@ -173,37 +173,37 @@ signed-by n drafts made ordered all =
 abbrev IsCallOf : ℕ → Call → Type 0
 IsCallOf n call = signer_of call < n
 
-first-of : (n : ℕ) (s : Setting) (keys : Keys) (all : List Draft) (entries : Entries) (d : Draft) (kind : Kind) (a : Answers) → IsBy n d → IsCallOf n (first_call s keys all entries d kind a)
+first-of : (n : ℕ) (s : IssueInput) (keys : Keys) (all : List Draft) (entries : Entries) (d : Draft) (kind : Kind) (a : Answers) → IsBy n d → IsCallOf n (first_call s keys all entries d kind a)
 first-of n s keys all entries d (Certificate subject held) a is = is
 first-of n s keys all entries d (Roa origin) a is = is
 first-of n s keys all entries d Crl a is = is
 first-of n s keys all entries d Manifest a is = is
 
-second-of : (n : ℕ) (s : Setting) (keys : Keys) (all : List Draft) (d : Draft) (kind : Kind) (a : Answers) (call : Call) → IsBy n d → second_call s keys all d kind a ≡ Some call → IsCallOf n call
+second-of : (n : ℕ) (s : IssueInput) (keys : Keys) (all : List Draft) (d : Draft) (kind : Kind) (a : Answers) (call : Call) → IsBy n d → second_call s keys all d kind a ≡ Some call → IsCallOf n call
 second-of n s keys all d (Certificate subject held) a call is e = absurd cc
 second-of n s keys all d (Roa origin) a call is e = subst (IsCallOf n) (same_Some _ call e) is
 second-of n s keys all d Crl a call is e = absurd cc
 second-of n s keys all d Manifest a call is e = absurd cc
 
 -- Each call of a making is of one of so many signers.
-pub calls-of-signers : (n : ℕ) (s : Setting) (live : List KeyRow) (course : Course) → IsWork s live n → IsCourse s live course → All (IsCallOf n) (calls_of s course)
-calls-of-signers n s live course work is =
-    let are = keys-of n s live course.keys work is.keys in
-    let objects = signed-by n (all_of s course) course.objects is.objects (drafts-by n s course.keys are.0 are.1) in
-    let listed = signed-by n (manifests s course.keys) course.listed is.listed (manifests-by n s course.keys are.0 are.1) in
-    let made = map making course.keys.fresh in
-    let first = first_calls s course.keys (all_of s course) course.entries course.objects in
-    let second = second_calls s course.keys (all_of s course) course.objects in
-    let content = content_calls s course.files course.listed in
-    let last = last_calls s course.keys (all_of s course) course.listed in
+pub calls-of-signers : (n : ℕ) (s : IssueInput) (live : List KeyRow) (trace : IssuingTrace) → CanMake s live n → IsIssuingTrace s live trace → All (IsCallOf n) (calls_of s trace)
+calls-of-signers n s live trace work is =
+    let are = keys-of n s live trace.keys work is.keys in
+    let objects = signed-by n (all_of s trace) trace.objects is.objects (drafts-by n s trace.keys are.0 are.1) in
+    let listed = signed-by n (manifests s trace.keys) trace.listed is.listed (manifests-by n s trace.keys are.0 are.1) in
+    let made = map making trace.keys.fresh in
+    let first = first_calls s trace.keys (all_of s trace) trace.entries trace.objects in
+    let second = second_calls s trace.keys (all_of s trace) trace.objects in
+    let content = content_calls s trace.files trace.listed in
+    let last = last_calls s trace.keys (all_of s trace) trace.listed in
     All-append (IsCallOf n) (made ++ first ++ second ++ content) last
     (All-append (IsCallOf n) (made ++ first ++ second) content
     (All-append (IsCallOf n) (made ++ first) second
-    (All-append (IsCallOf n) made first (All-map (IsCallOf n) making course.keys.fresh are.0)
-    (All-map (IsCallOf n) (λ (x : Signed). first_call s course.keys (all_of s course) course.entries x.draft x.draft.kind x.answers) course.objects
-    (All-weaker (λ (x : Signed). IsBy n x.draft) (λ (x : Signed). IsCallOf n (first_call s course.keys (all_of s course) course.entries x.draft x.draft.kind x.answers))
-    (λ x by. first-of n s course.keys (all_of s course) course.entries x.draft x.draft.kind x.answers by) course.objects objects)))
-    (all-kept_map (λ (x : Signed). second_call s course.keys (all_of s course) x.draft x.draft.kind x.answers) (λ (x : Signed). IsBy n x.draft) (IsCallOf n) course.objects
-    (λ x call by e. second-of n s course.keys (all_of s course) x.draft x.draft.kind x.answers call by e) objects))
-    (All-map (IsCallOf n) _ course.listed listed))
-    (All-map (IsCallOf n) _ course.listed listed)
+    (All-append (IsCallOf n) made first (All-map (IsCallOf n) making trace.keys.fresh are.0)
+    (All-map (IsCallOf n) (λ (x : Signed). first_call s trace.keys (all_of s trace) trace.entries x.draft x.draft.kind x.answers) trace.objects
+    (All-weaker (λ (x : Signed). IsBy n x.draft) (λ (x : Signed). IsCallOf n (first_call s trace.keys (all_of s trace) trace.entries x.draft x.draft.kind x.answers))
+    (λ x by. first-of n s trace.keys (all_of s trace) trace.entries x.draft x.draft.kind x.answers by) trace.objects objects)))
+    (all-kept_map (λ (x : Signed). second_call s trace.keys (all_of s trace) x.draft x.draft.kind x.answers) (λ (x : Signed). IsBy n x.draft) (IsCallOf n) trace.objects
+    (λ x call by e. second-of n s trace.keys (all_of s trace) x.draft x.draft.kind x.answers call by e) objects))
+    (All-map (IsCallOf n) _ trace.listed listed))
+    (All-map (IsCallOf n) _ trace.listed listed)

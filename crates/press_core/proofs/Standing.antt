@@ -1,6 +1,6 @@
--- What stocks stand for.
+-- What published states stand for.
 use Rattle.std.proofs.Common.{◌≡◌, ℕ, zero, suc, ◌+◌, ◌<◌, ◌≤◌, true, Some, List, [], ◌∷◌, length, get_or, take, refl, sym, ap, ap₂, subst, ◌∙◌, arith}
-use Rattle.std.specs.Prelude.{All, slice_get}
+use Rattle.std.specs.Prelude.{All, IsPermutation, map, slice_get}
 use Rattle.std.proofs.lemmas.Option.{same_Some}
 use Rattle.std.proofs.lemmas.List.{take-append-le, length-append}
 use Rattle.std.proofs.lemmas.List.Elements.{All-head, All-tail}
@@ -15,13 +15,18 @@ use Rattle.pub_set.specs.declared.objects.Object.{Object}
 use Rattle.std.specs.List.Sorted.{IsStrictlySortedBy}
 use Rattle.std.proofs.lemmas.Bool.{false≢true}
 use Rattle.pub_set.specs.Objects.{content_at, Rise}
+use Rattle.pub_set.specs.Changes.{Contents}
+use Rattle.entitle.specs.Certified.{names_of}
+use Rattle.entitle.specs.Owed.{AreOwed}
+use Rattle.rp_rules.specs.Yield.{yield}
+use Rattle.editions.specs.Published.{IsPublished, yielded_for}
 use Rattle.key_roll.specs.declared.issued.IssuedRow.{IssuedRow}
 use Rattle.editions.specs.Edition.{Edition, set_after, cut_at}
 use Rattle.editions.specs.Table.{IsTable}
-use Rattle.editions.specs.Step.{Ground, IsMore, AreMore, BeginsWith, AreSteps, configs_from}
-use Rattle.press_state.specs.Stock.{StockValue, IsFirst, desks}
+use Rattle.editions.specs.Step.{Premises, IsMore, AreMore, BeginsWith, AreSteps, configs_from, configs_at}
+use Rattle.editions.specs.PublishedState.{PublishedStateValue, IsFirst, desks}
 use Rattle.press_core.specs.Signers.{HasAllVouched}
-use Rattle.press_core.specs.Stands.{StandsFor}
+use Rattle.press_core.specs.Stands.{IsLeftBy, StandsFor}
 
 -- ---- signers that tell
 
@@ -59,25 +64,27 @@ rise-none : Rise (λ (row : IssuedRow). row.uri) []
 unfolding IsStrictlySortedBy
 rise-none = tt
 
-pub first-stands : (footing : Ground) (stock : StockValue) → IsFirst stock → length footing.lists ≡ desks → StandsFor footing [] stock
-first-stands footing stock first long =
+pub first-stands : (premises : Premises) (published_state : PublishedStateValue) → IsFirst published_state → length premises.lists ≡ desks → StandsFor premises [] published_state
+first-stands premises published_state first long =
     let zeros = first.cut.none in
     record {
+      left = record {
+        serial = first.serial;
+        moment = first.moment;
+        cut = λ desk. zero-cut published_state.cut desk zeros;
+        rows = first.rows;
+        set = λ uri. ap (λ (objects : List Object). content_at objects uri) first.set;
+        desks = long ∙ sym first.cut.one_each;
+        taken_in = λ desk. let none = zero-cut published_state.cut desk zeros in omega (arith, none);
+        configs = first-configs 0 premises.lists published_state.cut published_state.configs zeros (first.configs.one_each ∙ sym long)
+            (λ k less. first.configs.empty k (let all = first.configs.one_each in omega (arith, less, all)) ∙ ap (λ (d : ℕ). Some (empty_settings d)) (omega arith));
+      };
       steps = λ place edition there. absurd cc;
-      serial = first.serial;
-      moment = first.moment;
-      cut = λ desk. zero-cut stock.cut desk zeros;
-      rows = first.rows;
-      set = λ uri. ap (λ (objects : List Object). content_at objects uri) first.set;
       table = subst (IsTable (set_after [])) (sym first.issued) (record {
         rising = rise-none;
         each = λ row there. absurd (let less = there.1 in omega (arith, less));
         all = λ uri some. absurd (false≢true some);
       });
-      desks = long ∙ sym first.cut.one_each;
-      taken_in = λ desk. let none = zero-cut stock.cut desk zeros in omega (arith, none);
-      configs = first-configs 0 footing.lists stock.cut stock.configs zeros (first.configs.one_each ∙ sym long)
-          (λ k less. first.configs.empty k (let all = first.configs.one_each in omega (arith, less, all)) ∙ ap (λ (d : ℕ). Some (empty_settings d)) (omega arith));
     }
 
 -- ---- more commands
@@ -112,17 +119,43 @@ more-configs desk (l ∷ less) (m ∷ more) (n ∷ cut) are held =
     ap₂ (λ (list : List Command) (rest : List Settings). fold_of desk list ∷ rest) (same-taken n l m (held 0) are.0)
     (more-configs (desk + 1) less more cut are.1 (λ k. held (suc k)))
 
-pub more-stands : ((less more : Ground) (editions : List Edition) → IsMore less more → AreSteps less editions → AreSteps more editions)
-    → (less more : Ground) (editions : List Edition) (stock : StockValue) → IsMore less more → StandsFor less editions stock → StandsFor more editions stock
-more-stands law less more editions stock are stands = record {
-  steps = law less more editions are stands.steps;
-  serial = stands.serial;
-  moment = stands.moment;
-  cut = stands.cut;
-  rows = stands.rows;
-  set = stands.set;
-  table = stands.table;
-  desks = more-long less.lists more.lists are.lists ∙ stands.desks;
-  taken_in = λ desk. let first = stands.taken_in desk in let second = more-at less.lists more.lists desk are.lists in omega (arith, first, second);
-  configs = stands.configs ∙ more-configs 0 less.lists more.lists stock.cut are.lists stands.taken_in;
+pub more-left : (less more : List (List Command)) (editions : List Edition) (published_state : PublishedStateValue) → AreMore less more → IsLeftBy less editions published_state → IsLeftBy more editions published_state
+more-left less more editions published_state are left = record {
+  serial = left.serial;
+  moment = left.moment;
+  cut = left.cut;
+  rows = left.rows;
+  set = left.set;
+  desks = more-long less more are ∙ left.desks;
+  taken_in = λ desk. let first = left.taken_in desk in let second = more-at less more desk are in omega (arith, first, second);
+  configs = left.configs ∙ more-configs 0 less more published_state.cut are left.taken_in;
 }
+
+pub more-stands : ((less more : Premises) (editions : List Edition) → IsMore less more → AreSteps less editions → AreSteps more editions)
+    → (less more : Premises) (editions : List Edition) (published_state : PublishedStateValue) → IsMore less more → StandsFor less editions published_state → StandsFor more editions published_state
+more-stands law less more editions published_state are stands = record {
+  left = more-left less.lists more.lists editions published_state are.lists stands.left;
+  steps = law less more editions are stands.steps;
+  table = stands.table;
+}
+
+-- ---- published sets
+
+-- A published set over more commands: what its cut takes in is the same.
+pub more-published : (premises : Premises) (more : List (List Command)) (edition : Edition) (set : Contents) → AreMore premises.lists more
+    → ((desk : ℕ) → cut_at edition.cut desk ≤ length (get_or premises.lists desk [])) → IsPublished premises edition set → IsPublished (record premises { lists = more }) edition set
+more-published premises more edition set are held is =
+    let same : configs_at premises.lists edition.cut ≡ configs_at more edition.cut = more-configs 0 premises.lists more edition.cut are held in
+    record {
+      anchor = is.anchor;
+      current = is.current;
+      objects = is.objects;
+      ascending = is.ascending;
+      are = is.are;
+      visits = is.visits;
+      sound = is.sound;
+      owed = is.owed;
+      owes = subst (λ (c : List Settings). AreOwed c is.owed) same is.owes;
+      yields = subst (λ (c : List Settings). IsPermutation (map (yielded_for premises.site (names_of c)) is.owed) (yield is.visits)) same is.yields;
+      once = is.once;
+    }

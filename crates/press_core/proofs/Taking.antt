@@ -2,8 +2,8 @@
 use Rattle.std.proofs.Common.{◌≡◌, ℕ, zero, suc, ◌+◌, ◌≤◌, List, [], ◌∷◌, length, refl, ap, arith}
 use Rattle.authority_book.specs.Settings.{Settings}
 use Rattle.editions.specs.Edition.{cut_at}
-use Rattle.press_state.specs.declared.gathered.Gathered.{Gathered}
-use Rattle.press_state.specs.Gathering.{configs_from, cut_from}
+use Rattle.editions.specs.declared.gathered.Gathered.{Gathered}
+use Rattle.editions.specs.Gathering.{configs_from, cut_from}
 
 pub configs-long : (desk : ℕ) (configs : List Settings) (gathered : List Gathered) → length (configs_from desk configs gathered) ≡ length configs
 configs-long desk [] gathered = refl

@@ -1,10 +1,10 @@
 pub mod Press
 pub mod Signers
-pub mod Start
+pub mod PrepareInput
 pub mod Next
 pub mod Planned
 pub mod Stands
 pub mod Follows
 pub mod Met
 pub mod Faults
-pub mod Ready
+pub mod inner

@@ -1,27 +1,28 @@
 -- What a press sets out to make, and what comes of it.
 use Rattle.std.specs.Prelude.{◌≡◌, ◌<◌, ◌^◌, ℕ, Bool, true, false, List, All, length}
 use Rattle.signer_api.specs.State.{SignerState}
+use Rattle.signer_ring.specs.Calls.{Call}
 use Rattle.names.specs.Name.{IsName}
 use Rattle.res_sets.specs.declared.holdings.Resources.{Resources}
 use Rattle.entitle.specs.Certified.{names_of, AreCertified}
 use Rattle.key_roll.specs.declared.work.Work.{Work}
 use Rattle.issue_plan.specs.Keys.{Basis, next_keys}
 use Rattle.issue_plan.specs.Work.{IsPlan}
-use Rattle.edition_publishers.specs.Certificates.{Setting}
-use Rattle.edition_outcome.specs.declared.outcome.Made.{Made}
+use Rattle.issue_drafts.specs.Certificates.{IssueInput}
+use Rattle.issue_make.specs.declared.outcome.Made.{Made}
 use Rattle.issue_make.specs.Work as making
-use Rattle.issue_make.specs.Made.{IsMade}
-use Rattle.press_state.specs.Stock.{StockValue}
-use Rattle.press_state.specs.Moments.{moment_behind, is_out_of_range, AreBelowEnd}
-use Rattle.press_state.specs.Gathering.{configs_with, cut_with}
-use Rattle.press_state.specs.Calling.{is_called_for}
-use Rattle.press_state.specs.Standing.{IsTableAfter}
-use Rattle.edition_steps.specs.PlannedAndMade.{CanBeRead}
-use Rattle.press_core.specs.Start.{Start}
+use Rattle.issue_make.specs.Made.{IsMade, calls_of}
+use Rattle.editions.specs.PublishedState.{PublishedStateValue}
+use Rattle.editions.specs.Moments.{moment_behind, is_out_of_range, AreBelowEnd}
+use Rattle.editions.specs.Gathering.{configs_with, cut_with}
+use Rattle.editions.specs.Calling.{is_called_for}
+use Rattle.editions.specs.Standing.{IsTableAfter}
+use Rattle.editions.specs.PlannedAndMade.{CanBeRead}
+use Rattle.press_core.specs.PrepareInput.{PrepareInput}
 use Rattle.press_core.specs.Next.{PreparedValue, IsNext}
 
 -- What the next edition is made from, where that is certified.
-abbrev pub basis_for : Start → List Resources → Basis
+abbrev pub basis_for : PrepareInput → List Resources → Basis
 basis_for start sets = record {
   rows = start.at.rows;
   configs = configs_with start.at.configs start.gathered;
@@ -32,12 +33,12 @@ basis_for start sets = record {
 -- ---- whether it is made
 
 -- It can be dated, and counted.
-pub record IsInRange (at : StockValue) (clock : ℕ) : Type 0 where
+pub record IsInRange (at : PublishedStateValue) (clock : ℕ) : Type 0 where
   pub dated : is_out_of_range clock at.moment ≡ false
   pub counted : AreBelowEnd at.serial at.rows
 
 -- By what is certified at the cut with all that was gathered an edition is called for, or it isn't.
-pub record IsCalled (start : Start) (sets : List Resources) (called : Bool) : Type 0 where
+pub record IsCalled (start : PrepareInput) (sets : List Resources) (called : Bool) : Type 0 where
   pub certified : AreCertified (configs_with start.at.configs start.gathered) sets
   pub answer : is_called_for start.at (cut_with start.at.cut start.gathered)
       (moment_behind start.clock start.at.moment) (next_keys (basis_for start sets)) ≡ called
@@ -45,14 +46,14 @@ pub record IsCalled (start : Start) (sets : List Resources) (called : Bool) : Ty
 -- ---- what is made
 
 -- An edition is in range and called for, and this is its plan.
-pub record IsPlanned (start : Start) (work : Work) : Type 0 where
+pub record IsPlanned (start : PrepareInput) (work : Work) : Type 0 where
   pub in_range : IsInRange start.at start.clock
   pub sets : List Resources
   pub called : IsCalled start sets true
   pub plan : IsPlan (basis_for start sets) start.at.issued start.site work
 
 -- The making of that work.
-abbrev pub setting_for : Start → Work → Setting
+abbrev pub setting_for : PrepareInput → Work → IssueInput
 setting_for start work = record {
   work = work;
   names = names_of (configs_with start.at.configs start.gathered);
@@ -61,11 +62,11 @@ setting_for start work = record {
 }
 
 -- The signers made what was planned, and nothing else; and what is prepared is what it came to.
-pub record IsMadeOf (start : Start) (ring : List SignerState) (prepared : PreparedValue)
+pub record IsMadeOf (start : PrepareInput) (ring : List SignerState) (prepared : PreparedValue)
     : Type 0 where
   pub work : Work
   pub planned : IsPlanned start work
-  pub able : making.IsWork (setting_for start work) start.at.rows (length start.ring)
+  pub able : making.CanMake (setting_for start work) start.at.rows (length start.ring)
   pub made : Made
   pub is_made : IsMade (setting_for start work) start.at.rows start.ring ring made
   -- each object that is put can be read, and they are fewer than counters can count
@@ -78,7 +79,7 @@ pub record IsMadeOf (start : Start) (ring : List SignerState) (prepared : Prepar
 -- The edition is at the clock's moment or just behind the last one, and takes in all that was
 -- gathered. It is made of its plan, and follows what stands; the signers of its keys are there, and
 -- its names are those that an authority can have.
-pub record IsPrepared (start : Start) (ring : List SignerState) (prepared : PreparedValue)
+pub record IsPrepared (start : PrepareInput) (ring : List SignerState) (prepared : PreparedValue)
     : Type 0 where
   pub moment : prepared.next.moment ≡ moment_behind start.clock start.at.moment
   pub cut : prepared.next.cut ≡ cut_with start.at.cut start.gathered
@@ -87,3 +88,9 @@ pub record IsPrepared (start : Start) (ring : List SignerState) (prepared : Prep
   pub next : IsNext start.site start.at prepared
   pub signers : All (λ row. row.signer < length start.ring) prepared.next.rows
   pub names : All (λ row. IsName row.name) (names_of prepared.next.configs)
+
+-- The calls that the signers answered for it.
+abbrev pub calls_for : (start : PrepareInput) (ring : List SignerState) (prepared : PreparedValue)
+    → IsPrepared start ring prepared → List Call
+calls_for start ring prepared is =
+    calls_of (setting_for start is.made.work) is.made.is_made.trace

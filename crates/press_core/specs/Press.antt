@@ -2,16 +2,16 @@
 use Rattle.std.specs.Prelude.{◌≡◌, ◌≤◌, ◌<◌, List, [], ◌∷◌, length}
 use Rattle.signer_api.specs.State.{SignerState, DropsKey}
 use Rattle.signer_ring.specs.Ring.{ChangesOne}
-use Rattle.key_ids.specs.Places.{Bases}
-use Rattle.press_state.specs.declared.ended.EndedKey.{EndedKey}
-use Rattle.press_state.specs.Stock.{StockValue}
+use Rattle.key_ids.specs.Uris.{Bases}
+use Rattle.editions.specs.declared.ended.EndedKey.{EndedKey}
+use Rattle.editions.specs.PublishedState.{PublishedStateValue}
 
 -- The bases of the repository, the signers, what stands after the last edition, and the keys that it
 -- ended and that no signer was asked to drop yet.
 pub record PressValue : Type 0 where
   pub site : Bases
   pub ring : List SignerState
-  pub at : StockValue
+  pub at : PublishedStateValue
   pub ended : List EndedKey
 
 -- The signer of the key, if there is that signer, is asked once to drop it, and nothing else is.

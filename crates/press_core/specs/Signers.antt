@@ -1,7 +1,7 @@
 -- What the signers of a press vouch for, and the keys that they hold.
 use Rattle.std.specs.Prelude.{◌≡◌, ℕ, true, List, Option, None, Some, slice_get, Contains, Any}
 use Rattle.signer_api.specs.State.{SignerState, Tells, Vouches}
-use Rattle.ring_calls.specs.Calls.{Call, after_calls}
+use Rattle.signer_ring.specs.Calls.{Call, after_calls}
 use Rattle.rp_rules.specs.Certificates.{Vouched}
 
 -- What one of the signers vouches for, as far as it tells, is vouched.

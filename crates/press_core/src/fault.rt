@@ -2,15 +2,16 @@
 
 ghost use Rattle.std.specs.Prelude.{◌≡◌};
 ghost use Rattle.press_core.specs.declared.fault.PressFault.TheVariants.{Memory};
-ghost use Rattle.press_core.specs.Ready.{fault_of};
+ghost use Rattle.press_core.specs.inner.Ready.{fault_of};
 
-use edition_keys::MakeFault;
+use issue_keys::MakeFault;
 use key_ids::KeyId;
 use std::alloc::AllocError;
 use std::marker::Model;
 use thiserror::Error;
 
-/// The code of a refusal, and the clock of the call that met it. Only a press makes one, and nobody copies it.
+/// The code of a refusal, and the clock of the call that met it, in seconds since 1970. Only a
+/// press makes one, and nobody copies it.
 #[derive(Debug, Drop)]
 pub struct Met {
     code: u32,
@@ -48,13 +49,13 @@ impl Met {
     }
 }
 
-/// Why no edition is prepared.
+/// Why no edition is prepared. `now` is the clock of the call, in seconds since 1970.
 #[derive(Debug, Drop, Error)]
 pub enum PressFault {
     /// The clock is before the year 2000, or the edition's moment behind the year 9998.
     #[error("the clock {now} is out of range")]
     ClockRange { now: u64, met: Met },
-    /// The serial, or a counter of a live key, can't count further.
+    /// The serial, or the number or the next serial of a live key, is 2^62 or more.
     #[error("the number {value} is at its end")]
     SerialEnd { value: u64, met: Met },
     /// There is nothing to publish behind the edition with that serial.

@@ -1,43 +1,55 @@
 //! Laws of what a press stands for, and of what it prepares.
 
-ghost use Rattle.std.specs.Prelude.{◌≡◌, ℕ, List, [], length, true};
+ghost use Rattle.std.specs.Prelude.{◌≡◌, ◌≤◌, ◌++◌, ◌∷◌, ℕ, List, [], All, length, get_or, true};
 ghost use Rattle.signer_api.specs.State.{SignerState};
 ghost use Rattle.signer_ring.specs.Ring as ring;
 ghost use Rattle.signer_ring.specs.Ring.{AllTell};
 ghost use Rattle.rp_rules.specs.Certificates.{Vouched};
 ghost use Rattle.pub_set.specs.Objects.{content_at};
-ghost use Rattle.editions.specs.Edition.{Edition};
+ghost use Rattle.pub_set.specs.Changes.{Contents};
+ghost use Rattle.editions.specs.Edition.{Edition, cut_at};
 ghost use Rattle.editions.specs.Published.{IsPublished};
-ghost use Rattle.editions.specs.Step.{Ground, IsMore};
-ghost use Rattle.press_state.specs.Stock.{StockValue, IsFirst, desks};
+ghost use Rattle.editions.specs.Step.{Premises, AreMore, IsMore};
+ghost use Rattle.authority_book.specs.declared.commands.Command.{Command};
+ghost use Rattle.editions.specs.inner.Vouched.{IsVouchedBy};
+ghost use Rattle.editions.specs.Gathering.{AreNextCommands};
+ghost use Rattle.editions.specs.PublishedState.{PublishedStateValue, IsFirst, desks};
 ghost use Rattle.press_core.specs.Signers.{HasAllVouched};
-ghost use Rattle.press_core.specs.Start.{Start};
+ghost use Rattle.press_core.specs.PrepareInput.{PrepareInput};
 ghost use Rattle.press_core.specs.Next.{PreparedValue};
-ghost use Rattle.press_core.specs.Planned.{IsPrepared};
-ghost use Rattle.press_core.specs.Stands.{StandsFor};
+ghost use Rattle.press_core.specs.Planned.{IsPrepared, calls_for};
+ghost use Rattle.press_core.specs.Stands.{IsLeftBy, StandsFor};
 ghost use Rattle.press_core.specs.Follows.{edition_of, AreBehind, Follows};
 
-use edition_steps::{the_table_goes_on, what_is_planned_and_made_follows};
 use editions::{
-    editions_follow_one_another, same_objects_same_set, steps_come_one_by_one, steps_stay_steps,
+    accepted_names_are_apart, called_for_by_what_stands, certificates_have_own_serials,
+    editions_are_published, editions_follow_one_another, gathered_commands_go_on, manifests_rise,
+    same_objects_same_set, steps_come_one_by_one, steps_stay_steps, the_table_goes_on,
+    what_is_planned_and_made_follows,
 };
-use press_state::{called_for_by_what_stands, gathered_commands_go_on};
-use tree_walk::editions_are_published;
-use work_laws::accepted_names_are_apart;
 
 /// What stands before the first edition is what no editions leave, over whatever commands.
-pub fn first_stock_stands()
-    ensures { (footing : Ground) (stock : StockValue) → IsFirst stock → length footing.lists ≡ desks
-        → StandsFor footing [] stock }
+pub fn first_published_state_stands()
+    ensures { (premises : Premises) (published_state : PublishedStateValue) → IsFirst published_state → length premises.lists ≡ desks
+        → StandsFor premises [] published_state }
 {}
 
-/// What stands for editions does so over more commands too, and where more is vouched.
+/// What is left by editions is so over more commands too; and what stands for them does, also where more is vouched.
 pub fn more_commands_stand()
-    ensures { (less more : Ground) (editions : List Edition) (stock : StockValue) → IsMore less more
-        → StandsFor less editions stock → StandsFor more editions stock }
+    ensures left { (less more : List (List Command)) (editions : List Edition) (published_state : PublishedStateValue) → AreMore less more
+        → IsLeftBy less editions published_state → IsLeftBy more editions published_state }
+    ensures stands { (less more : Premises) (editions : List Edition) (published_state : PublishedStateValue) → IsMore less more
+        → StandsFor less editions published_state → StandsFor more editions published_state }
 {
     steps_stay_steps();
 }
+
+/// A published set stays published over more commands.
+pub fn more_commands_stay_published()
+    ensures { (premises : Premises) (more : List (List Command)) (edition : Edition) (set : Contents)
+        → AreMore premises.lists more → ((desk : ℕ) → cut_at edition.cut desk ≤ length (get_or premises.lists desk []))
+        → IsPublished premises edition set → IsPublished (record premises { lists = more }) edition set }
+{}
 
 /// Where all signers tell, it is enough that what they vouch for is vouched.
 pub fn telling_signers_vouch()
@@ -47,17 +59,41 @@ pub fn telling_signers_vouch()
         → HasAllVouched vouched signers }
 {}
 
+/// What the signers vouch for in the end they vouch for where they signed it for an edition: so it is enough that all
+/// that they vouch for is vouched.
+pub fn vouching_signers_vouch_for_editions()
+    ensures { (start : PrepareInput) (ring : List SignerState) (prepared : PreparedValue) (is : IsPrepared start ring prepared)
+        (vouched : Vouched) → HasAllVouched vouched ring
+        → All (IsVouchedBy vouched) (calls_for start ring prepared is) }
+{}
+
+/// What will stand is what the editions leave that left what stood, whatever they are, with the one that is prepared
+/// behind them.
+pub fn prepared_editions_leave()
+    ensures { (start : PrepareInput) (ring : List SignerState) (prepared : PreparedValue) → IsPrepared start ring prepared
+        → (lists : List (List Command)) (editions : List Edition) → IsLeftBy lists editions start.at
+        → AreNextCommands lists start.at.cut start.gathered
+        → IsLeftBy lists (editions ++ edition_of prepared ∷ []) prepared.next }
+{
+    editions_follow_one_another();
+    gathered_commands_go_on();
+    same_objects_same_set();
+}
+
 /// What is prepared is an edition that follows those for which the press stands, and is called for; and what will stand
 /// is what all of them leave.
 pub fn prepared_editions_follow()
-    ensures { (start : Start) (ring : List SignerState) (prepared : PreparedValue) (footing : Ground)
-        (editions : List Edition) → IsPrepared start ring prepared → AreBehind start ring footing editions
-        → Follows footing start.clock editions prepared }
+    ensures { (start : PrepareInput) (ring : List SignerState) (prepared : PreparedValue) (is : IsPrepared start ring prepared)
+        (premises : Premises) (editions : List Edition)
+        → AreBehind start (calls_for start ring prepared is) premises editions
+        → Follows premises start.clock editions prepared }
 {
     accepted_names_are_apart();
     called_for_by_what_stands();
+    certificates_have_own_serials();
     editions_follow_one_another();
     gathered_commands_go_on();
+    manifests_rise();
     same_objects_same_set();
     steps_come_one_by_one();
     the_table_goes_on();
@@ -66,10 +102,10 @@ pub fn prepared_editions_follow()
 
 /// The set of what is prepared is sound to relying parties, and yields what is owed.
 pub fn prepared_editions_are_published()
-    ensures { (start : Start) (ring : List SignerState) (prepared : PreparedValue) (footing : Ground)
+    ensures { (start : PrepareInput) (ring : List SignerState) (prepared : PreparedValue) (premises : Premises)
         (editions : List Edition) → IsPrepared start ring prepared
-        → Follows footing start.clock editions prepared
-        → IsPublished footing (edition_of prepared) (content_at prepared.next.set) }
+        → Follows premises start.clock editions prepared
+        → IsPublished premises (edition_of prepared) (content_at prepared.next.set) }
 {
     accepted_names_are_apart();
     editions_are_published();

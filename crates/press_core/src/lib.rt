@@ -10,11 +10,12 @@ mod preparing;
 mod press;
 mod setup;
 
+pub use editions::{Gathered, Published};
 pub use fault::{Met, PressFault};
 pub use laws::{
-    first_stock_stands, more_commands_stand, prepared_editions_are_published,
-    prepared_editions_follow, telling_signers_vouch,
+    first_published_state_stands, more_commands_stand, more_commands_stay_published,
+    prepared_editions_are_published, prepared_editions_follow, prepared_editions_leave,
+    telling_signers_vouch, vouching_signers_vouch_for_editions,
 };
 pub use prepared::Prepared;
 pub use press::{FreshRefused, Press};
-pub use press_state::{Gathered, Published};

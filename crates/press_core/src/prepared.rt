@@ -1,11 +1,11 @@
 //! An edition that was prepared.
 
 ghost use Rattle.std.specs.Prelude.{◌≡◌, IfOk};
-ghost use Rattle.press_state.specs.Sheets.{sheet_of};
+ghost use Rattle.editions.specs.Sheets.{sheet_of};
 
+use editions::{EndedKey, PublishedState};
 use items::Items;
 use notice_board::Sheet;
-use press_state::{EndedKey, Stock};
 use pub_set::Change;
 use std::alloc::{AllocError, Global};
 use std::marker::Model;
@@ -13,7 +13,7 @@ use std::marker::Model;
 /// An edition that was prepared, before it becomes the last one.
 #[derive(Drop)]
 pub struct Prepared {
-    next: Stock,
+    next: PublishedState,
     changes: Items<Change>,
     ended: Vec<EndedKey>,
 }
@@ -31,8 +31,12 @@ impl Model for Prepared {
 }
 
 impl Prepared {
-    /// An edition after which that stock stands, with its changes and the keys that it ends.
-    pub(crate) fn new(next: Stock, changes: Items<Change>, ended: Vec<EndedKey>) -> Prepared
+    /// An edition after which that published state stands, with its changes and the keys that it ends.
+    pub(crate) fn new(
+        next: PublishedState,
+        changes: Items<Change>,
+        ended: Vec<EndedKey>,
+    ) -> Prepared
         ensures { result ≡ record { next = next; changes = changes; ended = ended.items } }
     {
         Prepared {
@@ -57,7 +61,7 @@ impl Prepared {
     }
 
     /// What stands after the edition, and the keys that it ends.
-    pub(crate) fn into_next(self) -> (Stock, Vec<EndedKey>)
+    pub(crate) fn into_next(self) -> (PublishedState, Vec<EndedKey>)
         ensures next { result.0 ≡ self.next }
         ensures ended { result.1.items ≡ self.ended }
     {

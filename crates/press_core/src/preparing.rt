@@ -3,9 +3,9 @@
 ghost use Rattle.std.specs.Prelude.{◌<◌, All, IfOk, IfErr, length};
 ghost use Rattle.signer_ring.specs.Ring.{Keeps};
 ghost use Rattle.entitle.specs.Certified.{names_of};
-ghost use Rattle.press_state.specs.Gathering.{configs_with, AreGathered, AreAccepted};
-ghost use Rattle.work_laws.specs.Clear.{IsClear};
-ghost use Rattle.press_core.specs.Start.{started};
+ghost use Rattle.editions.specs.Gathering.{configs_with, AreGathered, AreAccepted};
+ghost use Rattle.editions.specs.Clear.{IsClear};
+ghost use Rattle.press_core.specs.PrepareInput.{started};
 ghost use Rattle.press_core.specs.Planned.{IsPrepared};
 ghost use Rattle.press_core.specs.Faults.{IsPressFault};
 ghost use Rattle.press_core.specs.Signers.{HoldKeys};
@@ -14,17 +14,17 @@ use crate::fault::{Met, PressFault};
 use crate::making::make_edition;
 use crate::prepared::Prepared;
 use crate::setup::{moment_of, plan_of, set_up};
+use editions::{Gathered, PublishedState};
 use key_ids::Site;
-use press_state::{Gathered, Stock};
 use signer_api::Signer;
 use signer_ring::Ring;
 use std::alloc::Global;
 
-/// Prepares the next edition over what stands, by those signers.
+/// Prepares the next edition over what stands, by those signers. `now` is in seconds since 1970.
 pub fn prepare_over<S: Signer>(
     alloc: Global,
     site: &Site,
-    at: &Stock,
+    at: &PublishedState,
     ring: &mut Ring<S>,
     now: u64,
     gathered: Vec<Gathered>,

@@ -1,30 +1,27 @@
 //! The press.
 
-ghost use Rattle.std.specs.Prelude.{◌≡◌, ◌<◌, [], ℕ, List, All, length, IfOk, IfErr};
+ghost use Rattle.std.specs.Prelude.{◌≡◌, ◌<◌, [], All, length, IfOk, IfErr};
 ghost use Rattle.signer_ring.specs.Ring.{Keeps};
-ghost use Rattle.press_state.specs.Stock.{published_of, IsFirst};
-ghost use Rattle.press_state.specs.Sheets.{sheet_of};
+ghost use Rattle.editions.specs.PublishedState.{published_of, IsFirst};
+ghost use Rattle.editions.specs.Sheets.{sheet_of};
 ghost use Rattle.press_core.specs.Next.{IsNext};
 ghost use Rattle.entitle.specs.Certified.{names_of};
-ghost use Rattle.editions.specs.Edition.{Edition};
-ghost use Rattle.editions.specs.Step.{Ground};
-ghost use Rattle.editions.specs.Published.{IsPublished};
-ghost use Rattle.pub_set.specs.Objects.{content_at};
-ghost use Rattle.press_state.specs.Gathering.{configs_with, AreGathered, AreAccepted};
+ghost use Rattle.editions.specs.Gathering.{configs_with, AreGathered, AreAccepted};
 ghost use Rattle.press_core.specs.Press.{DropsEach};
 ghost use Rattle.press_core.specs.Signers.{HoldKeys};
-ghost use Rattle.press_core.specs.Start.{start_of};
-ghost use Rattle.press_core.specs.Planned.{IsPrepared};
-ghost use Rattle.press_core.specs.Follows.{edition_of, AreBehind, Follows};
+ghost use Rattle.press_core.specs.PrepareInput.{start_of};
+ghost use Rattle.press_core.specs.Follows.{IsNextEdition};
 ghost use Rattle.press_core.specs.Faults.{IsPressFault};
 
 use crate::fault::PressFault;
-use crate::laws::{prepared_editions_are_published, prepared_editions_follow};
+use crate::laws::{
+    prepared_editions_are_published, prepared_editions_follow, prepared_editions_leave,
+};
 use crate::prepared::Prepared;
 use crate::preparing::prepare_over;
+use editions::{EndedKey, Gathered, Published, PublishedState};
 use key_ids::Site;
 use notice_board::Sheet;
-use press_state::{EndedKey, Gathered, Published, Stock};
 use signer_api::Signer;
 use signer_ring::Ring;
 use std::alloc::{AllocError, Global};
@@ -35,12 +32,12 @@ use std::marker::Model;
 pub struct Press<S: Signer = Box<dyn Signer + Send>> {
     site: Site,
     ring: Ring<S>,
-    at: Stock,
+    at: PublishedState,
     ended: Vec<EndedKey>,
 }
 
 impl<S: Signer> Model for Press<S> {
-    ghost use Rattle.work_laws.specs.Clear.{IsClear};
+    ghost use Rattle.editions.specs.Clear.{IsClear};
     ghost use Rattle.press_core.specs.Press.{PressValue};
 
     ghost Value = { PressValue };
@@ -71,7 +68,7 @@ impl<S: Signer> Press<S> {
         ensures ended { IfOk result (λ press. press.ended ≡ []) }
         ensures refused { IfErr result (λ refused. refused.ring ≡ ring) }
     {
-        match Stock::first(alloc) {
+        match PublishedState::first(alloc) {
             Ok(at) => Ok(Press {
                 site,
                 ring,
@@ -89,7 +86,8 @@ impl<S: Signer> Press<S> {
         self.at.parts().serial
     }
 
-    /// How many commands of each desk the last edition takes in.
+    /// How many commands of each desk the last edition takes in. One number for each desk, in their
+    /// order.
     pub fn cut(&self) -> &[u64]
         ensures { result.now ≡ self.now.at.cut }
     {
@@ -97,7 +95,7 @@ impl<S: Signer> Press<S> {
     }
 
     /// What stands after the last edition.
-    pub fn stock(&self) -> &Stock
+    pub fn published_state(&self) -> &PublishedState
         ensures { result.now ≡ self.now.at }
     {
         &self.at
@@ -112,6 +110,10 @@ impl<S: Signer> Press<S> {
 
     /// Prepares the next edition, at that clock and with the commands that were gathered. Its signers make and sign what
     /// it puts; else nothing of the press changes.
+    ///
+    /// `now` is in seconds since 1970. Refusals are asked in this order: `ClockRange`, `SerialEnd`,
+    /// `Nothing`, before any signer is called; then `SignerFault` and `KeyClash`, as the signers'
+    /// calls come to them. `Memory` may come at any time.
     pub fn prepare(
         &mut self,
         alloc: Global,
@@ -127,18 +129,9 @@ impl<S: Signer> Press<S> {
         requires name_signers { All (λ name. name.signer < length self.old.ring)
             (names_of (configs_with self.old.at.configs gathered.items)) }
 
-        // An edition was called for, and what is prepared is what the signers made of its plan.
-        ensures prepared { IfOk result (IsPrepared (start_of self.old now gathered.items) self.new.ring) }
-
-        // It follows the editions that the press stands for, whichever these are.
-        ensures edition { IfOk result (λ prepared. (footing : Ground) (editions : List Edition)
-            → AreBehind (start_of self.old now gathered.items) self.new.ring footing editions
-            → Follows footing now editions prepared) }
-
-        // To relying parties it is sound, and yields what is owed.
-        ensures published { IfOk result (λ prepared. (footing : Ground) (editions : List Edition)
-            → AreBehind (start_of self.old now gathered.items) self.new.ring footing editions
-            → IsPublished footing (edition_of prepared) (content_at prepared.next.set)) }
+        // What the signers made of the plan of an edition that was called for. It follows the editions that the press
+        // stands for, whichever these are; to relying parties it is sound, and yields what is owed.
+        ensures prepared { IfOk result (IsNextEdition (start_of self.old now gathered.items) self.new.ring) }
 
         // Each refusal has its cause. On every answer the rest of the press stays as it is, and the signers keep their
         // keys, and vouch for what they vouched for.
@@ -147,6 +140,7 @@ impl<S: Signer> Press<S> {
         ensures signers { Keeps self.old.ring self.new.ring }
         ensures keys { HoldKeys self.old.ring self.new.ring }
     {
+        prepared_editions_leave();
         prepared_editions_follow();
         prepared_editions_are_published();
         prepare_over(alloc, &self.site, &self.at, &mut self.ring, now, gathered)

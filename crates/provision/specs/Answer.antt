@@ -12,15 +12,17 @@ use Rattle.provision.specs.declared.Request.TheVariants.{List as ListClasses, Is
 abbrev pub only_class : List ℕ
 only_class = codes "0"
 
--- A list of the classes: the one class with the child's resources, or none where it has no resources.
+-- A list of the classes: the one class with the child's resources, or none where it has no
+-- resources (RFC 6492 section 3.3.2).
 abbrev pub IsListed : Resources → Reply → Type 0
 IsListed held NoClass = AreEmpty held
 IsListed held (Class resources) = (¬ AreEmpty held) × (resources ≡ held)
 IsListed held (Issued _ _) = ⊥
 IsListed held (Error _) = ⊥
 
--- A certificate for a key: all the child's resources for it. Another class's name is error 1201, and a child without
--- resources 1202, the class's name being looked at first.
+-- A certificate for a key: all the child's resources for it (RFC 6492 sections 3.4.2 and 3.6).
+-- Another class's name is error 1201, and a child without resources 1202, the class's name being
+-- looked at first.
 abbrev pub IsIssued : Resources → List ℕ → KeyId → Reply → Type 0
 IsIssued held class key NoClass = ⊥
 IsIssued held class key (Class _) = ⊥

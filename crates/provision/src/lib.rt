@@ -1,4 +1,4 @@
-//! What a parent answers to the requests of a child (RFC 6492).
+//! What a parent answers to the requests of a child (RFC 6492) (RFC 6492 section 3).
 #![tactic(auto)]
 
 ghost use Rattle.std.specs.Prelude.{IfOk};
@@ -8,13 +8,14 @@ use key_ids::KeyId;
 use res_sets::Resources;
 use std::alloc::{AllocError, Global};
 
-/// What a parent has for a child: one class, whose name is `0`, with what the child is certified for.
+/// What a parent has for a child: one class, whose name is `0`, with what the child is certified for
+/// (RFC 6492 section 3.3.2).
 #[derive(Debug, Drop)]
 pub struct Class {
     pub resources: Resources,
 }
 
-/// A child's request.
+/// A child's request (RFC 6492 section 3).
 #[derive(Debug, Drop)]
 pub enum Request {
     /// Which classes there are for it (section 3.3).
@@ -23,7 +24,7 @@ pub enum Request {
     Issue { class: String, key: KeyId },
 }
 
-/// The parent's answer.
+/// The parent's answer (RFC 6492 section 3).
 #[derive(Debug, Drop)]
 pub enum Reply {
     /// There is no class for this child.
@@ -41,7 +42,11 @@ const UNKNOWN_CLASS: u32 = 1201;
 
 const NO_RESOURCES: u32 = 1202;
 
-/// The answer to a request of the child that the class is for.
+/// The answer to a request of the child that the class is for (RFC 6492 sections 3.3.2, 3.4.2 and
+/// 3.6).
+///
+/// Of a request for a certificate the class's name is asked first, which is code 1201, and then
+/// whether the class has resources, which is code 1202.
 pub fn answer(alloc: Global, class: &Class, request: &Request) -> Result<Reply, AllocError>
     ensures { IfOk result (IsAnswer class.now.resources request.now) }
 {

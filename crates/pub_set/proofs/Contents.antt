@@ -7,9 +7,9 @@ use Rattle.std.specs.declared.cmp.Ordering.TheVariants.{Less, Equal, Greater}
 use Rattle.pub_set.specs.declared.objects.Object.{Object}
 use Rattle.pub_set.specs.Objects.{uri_cmp, uri_at, is_same, content_at, IsAscending, IsBehind, IsBefore}
 use Rattle.pub_set.specs.Changes.{set_at}
-use Rattle.pub_set.specs.Drafts.{StartsElse, objects_at}
-use Rattle.pub_set.proofs.Uris.{same_is, same_self, below_from_above}
-use Rattle.pub_set.proofs.Lookups.{none_above, none_below, found_at-append, rise-cons, rise-head, rise-between, rise-append, above_further, all_weaken}
+use Rattle.pub_set.specs.inner.Overlays.{StartsElse, objects_at}
+use Rattle.pub_set.specs.laws.UriLaws.{same_is, same_self, below_from_above}
+use Rattle.pub_set.specs.laws.LookupLaws.{none_above, none_below, found_at-append, rise-cons, rise-head, rise-between, rise-append, above_further, all_weaken}
 
 pub content-append : (xs ys : List Object) (uri : List ℕ) → content_at (xs ++ ys) uri ≡ option_or (content_at xs uri) (content_at ys uri)
 content-append xs ys uri = found_at-append uri_at (λ o. o.bytes) xs ys uri

@@ -2,8 +2,8 @@
 use Rattle.std.proofs.Common.{◌≡◌, ℕ, true, false, cond, refl, sym, ◌∙◌, ap, List, [], ◌∷◌, Some, None}
 use Rattle.std.specs.declared.cmp.Ordering.TheVariants.{Less, Equal, Greater}
 use Rattle.pub_set.specs.Objects.{uri_cmp, is_same, found_at, Rise, AllAbove}
-use Rattle.pub_set.proofs.Uris.{same_is, same_self, tied_is, below_from_above}
-use Rattle.pub_set.proofs.Lookups.{none_above, rise-head, rise-tail, above_further}
+use Rattle.pub_set.specs.laws.UriLaws.{same_is, same_self, tied_is, below_from_above}
+use Rattle.pub_set.specs.laws.LookupLaws.{none_above, rise-head, rise-tail, above_further}
 
 some_is : {V : Type 0} (a b : V) → Some a ≡ Some b → a ≡ b
 some_is a b h = cc

@@ -13,11 +13,11 @@ use Rattle.pub_set.specs.declared.steps.Change.{Change}
 use Rattle.pub_set.specs.declared.steps.Change.TheVariants.{Put}
 use Rattle.pub_set.specs.Objects.{uri_cmp, uri_at, is_same, content_at, Rise, AllBelow, IsAscending, IsBefore}
 use Rattle.pub_set.specs.Changes.{uri_of, difference, change_at, IsChanges}
-use Rattle.pub_set.specs.Pairs.{first_pair, rest_of, pair_difference}
-use Rattle.pub_set.specs.Drafts.{objects_at}
-use Rattle.pub_set.proofs.Uris.{same_is, tied_is, below_from_above}
+use Rattle.pub_set.specs.inner.Pairs.{first_pair, rest_of, pair_difference}
+use Rattle.pub_set.specs.inner.Overlays.{objects_at}
+use Rattle.pub_set.specs.laws.UriLaws.{same_is, tied_is, below_from_above}
 use Rattle.pub_set.proofs.Contents.{content-here, content-elsewhere}
-use Rattle.pub_set.proofs.Lookups.{all_weaken, all_append, all_right, none_above, none_below, found_at-append, rise-nil, rise-head, rise-right, rise-push, above_further}
+use Rattle.pub_set.specs.laws.LookupLaws.{all_weaken, all_append, all_right, none_above, none_below, found_at-append, rise-nil, rise-head, rise-right, rise-push, above_further}
 
 -- What the lists have left, and the changes so far.
 pub record IsReached (old new held wanted : List Object) (done : List Change) : Type 0 where

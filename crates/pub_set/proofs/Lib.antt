@@ -1,9 +1,7 @@
-mod Uris
-mod Lookups
-mod Places
 mod Contents
-mod Drafting
-mod Splits
-mod Differences
 mod Determined
-mod Carried
+mod Differences
+mod Drafting
+mod Places
+mod Splits
+mod Standing

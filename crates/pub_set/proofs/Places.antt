@@ -12,8 +12,8 @@ use Rattle.std.proofs.lemmas.List.Sorted.{searchable_from_sorted}
 use Rattle.std.proofs.lemmas.Map.Keys.{Less-from_sorted}
 use Rattle.pub_set.specs.declared.objects.Object.{Object}
 use Rattle.pub_set.specs.Objects.{uri_cmp, uri_at, content_at, IsAscending, IsBehind, IsPlace}
-use Rattle.pub_set.proofs.Uris.{uri_total, tied_is, below_from_above}
-use Rattle.pub_set.proofs.Lookups.{none_above, none_below, found_at-append, found_at-place, all_at}
+use Rattle.pub_set.specs.laws.UriLaws.{uri_total, tied_is, below_from_above}
+use Rattle.pub_set.specs.laws.LookupLaws.{none_above, none_below, found_at-append, found_at-place, all_at}
 
 -- An ascending list is sorted by its URIs.
 sorted_from_ascending : (os : List Object) → IsAscending os → (k : ℕ) (d : Object) → 0 ≤ k → k + 1 < length os →

@@ -4,10 +4,10 @@ use Rattle.std.specs.Prelude.{Option, Ok, Err, insert, remove}
 use Rattle.std.proofs.lemmas.List.{take-append-drop, set_split}
 use Rattle.pub_set.specs.declared.objects.Object.{Object}
 use Rattle.pub_set.specs.Objects.{uri_cmp, uri_at, IsAscending, IsBehind, IsBefore, IsPlace}
-use Rattle.pub_set.specs.Drafts.{IsPut, IsSkipped, PopsIf, StartsElse, objects_at}
-use Rattle.pub_set.proofs.Lookups.{rise-left, rise-right, rise-head, rise-tail, below-middle, below_further, all_append}
+use Rattle.pub_set.specs.inner.Overlays.{IsPut, IsSkipped, PopsIf, StartsElse, objects_at}
+use Rattle.pub_set.specs.laws.LookupLaws.{rise-left, rise-right, rise-head, rise-tail, below-middle, below_further, all_append}
 use Rattle.pub_set.proofs.Contents.{content-put, ascending-put, before_from_starts}
-use Rattle.pub_set.proofs.Uris.{tied_is}
+use Rattle.pub_set.specs.laws.UriLaws.{tied_is}
 use Rattle.std.specs.declared.cmp.Ordering.TheVariants.{Less, Equal}
 
 -- The list has this at the URI, the one part before it, and the other behind it.

@@ -1,4 +1,4 @@
--- Changes of a set, said URI by URI.
+-- Changes of a set, said URI by URI (RFC 8181 section 2.2, RFC 8182 section 3.5.3).
 use Rattle.std.specs.Prelude.{◌≡◌, ℕ, List, [], ◌∷◌, Option, None, Some, if◌then◌else◌}
 use Rattle.std.specs.Str.{bytes_eq}
 use Rattle.sha2.specs.Sha256.{sha256}

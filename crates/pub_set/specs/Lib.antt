@@ -1,5 +1,5 @@
 pub mod Changes
-pub mod Drafts
 pub mod Objects
-pub mod Pairs
 pub mod Queries
+pub mod inner
+pub mod laws

@@ -10,7 +10,7 @@ use Rattle.pub_set.specs.declared.refusals.QueryRefused.{QueryRefused}
 use Rattle.pub_set.specs.declared.refusals.QueryRefused.TheVariants.{Query, Memory}
 use Rattle.pub_set.specs.Changes.{Contents, uri_of, hash_of, after}
 
--- What is wrong with a hash, or with none, where this is held.
+-- What is wrong with a hash, or with none, where this is held (RFC 8181 section 2.5).
 abbrev pub hash_code : Option (List ℕ) → Option (List ℕ) → Option ℕ
 hash_code None None = None
 hash_code (Some bytes) None = Some 2

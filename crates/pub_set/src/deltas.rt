@@ -1,11 +1,11 @@
-//! The changes from one set to another.
+//! The changes from one set to another (RFC 8181 section 2.2, RFC 8182 section 3.5.3).
 
 ghost use Rattle.std.specs.Prelude.{◌≡◌, ◌++◌, option_copied, OnOk, IfOk};
 ghost use Rattle.std.specs.Option.{option_to_list};
 ghost use Rattle.sha2.specs.Sha256.{sha256};
 ghost use Rattle.pub_set.specs.Objects.{IsAscending};
 ghost use Rattle.pub_set.specs.Changes.{IsChanges};
-ghost use Rattle.pub_set.specs.Pairs.{first_pair, rest_of, pair_difference};
+ghost use Rattle.pub_set.specs.inner.Pairs.{first_pair, rest_of, pair_difference};
 
 use crate::objects::{Object, ObjectSet, compare};
 use crate::parts::Content;

@@ -24,3 +24,9 @@ pub fn changes_make_the_new_set()
         → IsChanges old new changes
         → AreWithin base changes → first_refusal base (content_at old) changes ≡ None }
 {}
+
+/// What changes leave of a set is a set.
+pub fn changes_leave_a_set()
+    ensures { (old : List Object) (changes : List Change) → IsAscending old
+        → (new : List Object) × IsAscending new × IsApplied old changes new }
+{}

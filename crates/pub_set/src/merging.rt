@@ -1,4 +1,4 @@
-//! Drafts carried out on the list of objects.
+//! Overlays carried out on the list of objects.
 
 ghost use Rattle.std.specs.Prelude.{◌≡◌, ◌+◌, ◌<◌, ◌≤◌, ◌++◌, [], ℕ, List, OnOk, OnErr};
 ghost use Rattle.std.specs.Vec.{vec_capacity, vec_len};
@@ -6,11 +6,11 @@ ghost use Rattle.std.specs.String.{string_bytes};
 ghost use Rattle.std.specs.BTreeMap.{btree_map_len};
 ghost use Rattle.std.specs.VecDeque.{deque_len};
 ghost use Rattle.pub_set.specs.Objects.{uri_cmp, IsAscending, IsBehind};
-ghost use Rattle.pub_set.specs.Drafts.{IsDrafted, IsPut, StartsFrom, PopsIf, IsSkipped};
+ghost use Rattle.pub_set.specs.inner.Overlays.{IsDrafted, IsPut, StartsFrom, PopsIf, IsSkipped};
 ghost use Rattle.std.specs.declared.cmp.Ordering.TheVariants.{Less};
 
-use crate::drafts::Draft;
 use crate::objects::{Object, compare, place_of};
+use crate::overlays::Overlay;
 use crate::parts::{Content, Uri};
 use std::alloc::{AllocError, Global};
 use std::cmp::Ordering;
@@ -20,32 +20,36 @@ use std::mem;
 // So few changes are made one by one, each at its place. More are merged in.
 const FEW: usize = 8;
 
-/// Makes what the draft says stand at each of its URIs.
+/// Makes what the overlay says stand at each of its URIs.
 ///
 /// What takes memory comes first, and no bytes are copied.
-pub fn carry_out(alloc: Global, objects: &mut Vec<Object>, draft: Draft) -> Result<(), AllocError>
+pub fn carry_out(
+    alloc: Global,
+    objects: &mut Vec<Object>,
+    overlay: Overlay,
+) -> Result<(), AllocError>
     requires { IsAscending objects.old.items }
-    ensures ok { OnOk result (IsDrafted objects.old.items draft.entries objects.new.items) }
+    ensures ok { OnOk result (IsDrafted objects.old.items overlay.entries objects.new.items) }
     ensures err { OnErr result (objects.new.items ≡ objects.old.items) }
 {
-    if draft.len() <= FEW {
-        objects.reserve(draft.len())?;
-        put_each(objects, draft);
+    if overlay.len() <= FEW {
+        objects.reserve(overlay.len())?;
+        put_each(objects, overlay);
     } else {
-        let merged = Vec::with_capacity(alloc, objects.len().saturating_add(draft.len()))?;
+        let merged = Vec::with_capacity(alloc, objects.len().saturating_add(overlay.len()))?;
         let rest = VecDeque::from_vec(mem::replace(objects, merged));
-        merge(objects, rest, draft);
+        merge(objects, rest, overlay);
     }
     Ok(())
 }
 
 // Makes each change at its place, within the room that is there.
-fn put_each(objects: &mut Vec<Object>, draft: Draft)
+fn put_each(objects: &mut Vec<Object>, overlay: Overlay)
     requires ascending { IsAscending objects.old.items }
-    requires room { vec_len objects.old + btree_map_len draft ≤ vec_capacity objects.old }
-    ensures { IsDrafted objects.old.items draft.entries objects.new.items }
+    requires room { vec_len objects.old + btree_map_len overlay ≤ vec_capacity objects.old }
+    ensures { IsDrafted objects.old.items overlay.entries objects.new.items }
 {
-    for (uri, left) in draft {
+    for (uri, left) in overlay {
         put(objects, uri, left);
     }
 }
@@ -72,13 +76,13 @@ fn put(objects: &mut Vec<Object>, uri: String, left: Option<Content>)
 }
 
 // Moves the objects over, and makes each change where its URI comes.
-fn merge(merged: &mut Vec<Object>, mut rest: VecDeque<Object>, draft: Draft)
+fn merge(merged: &mut Vec<Object>, mut rest: VecDeque<Object>, overlay: Overlay)
     requires ascending { IsAscending rest.items }
     requires empty { merged.old.items ≡ [] }
-    requires room { deque_len rest + btree_map_len draft ≤ vec_capacity merged.old }
-    ensures { IsDrafted rest.items draft.entries merged.new.items }
+    requires room { deque_len rest + btree_map_len overlay ≤ vec_capacity merged.old }
+    ensures { IsDrafted rest.items overlay.entries merged.new.items }
 {
-    for (uri, left) in draft {
+    for (uri, left) in overlay {
         merge_one(merged, &mut rest, uri, left);
     }
     move_all(merged, rest);

@@ -5,8 +5,8 @@ ghost use Rattle.pub_set.specs.Objects.{content_at, uri_cmp, IsAscending, IsBehi
 ghost use Rattle.pub_set.specs.Changes.{IsApplied};
 ghost use Rattle.pub_set.specs.Queries.{first_refusal, IsRefusal};
 
-use crate::drafts::draft_query;
 use crate::merging::carry_out;
+use crate::overlays::overlay_query;
 use crate::parts::{Content, Uri};
 use crate::refusals::QueryRefused;
 use crate::steps::Change;
@@ -115,8 +115,8 @@ impl ObjectSet {
 
     /// Carries the changes out one after another, or none of them.
     ///
-    /// The first change that is faulty after those before it refuses the query (RFC 8181,
-    /// section 2.2): its URI has to begin with the base.
+    /// The first change that is faulty after those before it refuses the query (RFC 8181, section
+    /// 2.2): its URI has to begin with the base. A refusal has the code of section 2.5.
     pub fn query(
         &mut self,
         alloc: Global,
@@ -130,8 +130,8 @@ impl ObjectSet {
         ensures refused { IfErr result (IsRefusal base.now (content_at self.old) changes.items) }
         ensures kept { OnErr result (self.new ≡ self.old) }
     {
-        let draft = draft_query(alloc, &self.objects, base, changes)?;
-        carry_out(alloc, &mut self.objects, draft)?;
+        let overlay = overlay_query(alloc, &self.objects, base, changes)?;
+        carry_out(alloc, &mut self.objects, overlay)?;
         Ok(())
     }
 
@@ -167,7 +167,8 @@ pub fn content_of<'a>(objects: &'a [Object], uri: &str) -> Option<&'a [u8]>
     }
 }
 
-/// The place of the object at the URI, or the place where it would stand.
+/// The place of the object at the URI, or the place where it would stand. Both are indexes in the
+/// list.
 pub fn place_of(objects: &[Object], uri: &str) -> Result<usize, usize>
     requires { IsAscending objects.now }
     ensures { IsPlace objects.now uri.now result }

@@ -48,7 +48,8 @@ impl<T: Drop> From<AllocFailed<T>> for QueryRefused {
     }
 }
 
-/// The code with which the change is refused where these bytes are held at its URI.
+/// The code with which the change is refused where these bytes are held at its URI. The base is
+/// asked before the hash (RFC 8181, section 2.5).
 pub fn refusal_code(base: &str, change: &Change, held: Option<&[u8]>) -> Option<u32>
     ensures { result ≡ code_of base.now (option_copied held.entry) change.now }
 {

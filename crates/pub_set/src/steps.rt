@@ -1,4 +1,4 @@
-//! Changes of a set.
+//! Changes of a set (RFC 8181, section 2.2).
 
 ghost use Rattle.std.specs.Prelude.{◌≡◌, IfOk};
 ghost use Rattle.pub_set.specs.Changes.{uri_of, left_by};

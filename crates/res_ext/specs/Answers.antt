@@ -1,13 +1,13 @@
--- What reading an extension answers.
+-- What reading an extension answers (RFC 3779 sections 2.2 and 3.2).
 use Rattle.std.specs.Prelude.{◌≡◌, ℕ, Bool, false, not, ◌&&◌, Option, Some, None, List, Result, Ok, Err, ⊤, if◌then◌else◌}
 use Rattle.der.specs.Tags as tag
 use Rattle.der.specs.Reading.{element_at}
 use Rattle.der.specs.declared.fault.DerFault.{DerFault}
-use Rattle.der_forms.specs.declared.fault.ShapeFault.{ShapeFault}
-use Rattle.der_forms.specs.Place.{Place, start, is_empty}
-use Rattle.der_forms.specs.Form.{Whole, Front}
+use Rattle.der.specs.declared.shape_fault.ShapeFault.{ShapeFault}
+use Rattle.der.specs.Part.{Place, start, is_empty}
+use Rattle.der.specs.Form.{Whole, Front}
 use Rattle.res_sets.specs.declared.numbers.Family.TheVariants.{V4, V6}
-use Rattle.res_forms.specs.Formats.{part}
+use Rattle.res_ext.specs.Formats.{part}
 use Rattle.res_ext.specs.declared.fault.ExtFault.{ExtFault}
 use Rattle.res_ext.specs.declared.fault.ExtFault.TheVariants.{NotCanonical, Family as BadFamily, Memory}
 use Rattle.res_ext.specs.Extensions.{Spans, named, are_alike, may_follow}
@@ -55,7 +55,8 @@ tried f p = found_or p (f.read p)
 
 abbrev pub wrong_behind : Option (Option Spans) → Option (Option Spans)
     → Result ((List ℕ × List ℕ) × Place) ShapeFault → Bool
-wrong_behind v4 v6 (Ok x) = are_alike v4 v6 && not (may_follow x.0.0 v4 v6)
+wrong_behind v4 v6 (Ok ((family, content), behind)) =
+    are_alike v4 v6 && not (may_follow family v4 v6)
 wrong_behind v4 v6 (Err e) = false
 
 abbrev pub wrong_after : Option (Option Spans) → Option (Option Spans) × Place → Bool

@@ -3,11 +3,11 @@
 use Rattle.std.specs.Prelude.{◌≡◌, ℕ, ◌<◌, ◌^◌, Bool, true, false, ◌&&◌, ◌||◌, Option, Some, None, is_none, List, ◌++◌, length}
 use Rattle.der.specs.Tags as tag
 use Rattle.der.specs.Spelling.{spelled}
-use Rattle.der_forms.specs.Form.{Whole, Front}
-use Rattle.der_forms.specs.Forms.{content, within, both, OnSomeOf, spelled_some}
-use Rattle.der_forms.specs.Leaves.{are_same}
+use Rattle.der.specs.Form.{Whole, Front}
+use Rattle.der.specs.Forms.{content, within, both, OnSomeOf, spelled_some}
+use Rattle.der.specs.Leaves.{are_same}
 use Rattle.res_sets.specs.declared.numbers.Family.TheVariants.{V4, V6}
-use Rattle.res_forms.specs.Formats.{family_bytes, part, as_content, ip_content}
+use Rattle.res_ext.specs.Formats.{family_bytes, part, as_content, ip_content}
 
 -- The first and the last number of each range of a set.
 abbrev pub Spans : Type 0

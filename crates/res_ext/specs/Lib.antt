@@ -1,5 +1,6 @@
-pub mod Extensions
 pub mod Answers
-pub mod AnswerLaws
-pub mod FamilyLaws
-pub mod WrittenLaws
+pub mod Extensions
+pub mod Formats
+pub mod Prefixes
+pub mod Views
+pub mod laws

@@ -1,17 +1,19 @@
-//! AS identifiers.
+//! AS identifiers (RFC 3779 section 3.2).
 
 ghost use Rattle.std.specs.Prelude.{◌≡◌, ◌≢◌, Ok, Err, Some, None, Option, IfOk};
 ghost use Rattle.res_sets.specs.declared.numbers.Family.TheVariants.{Asn};
-ghost use Rattle.res_forms.specs.Formats.{as_content, as_identifiers};
-ghost use Rattle.res_forms.specs.Views.{set_view, as_view};
+ghost use Rattle.res_ext.specs.Formats.{as_content, as_identifiers};
+ghost use Rattle.res_ext.specs.Views.{set_view, as_view};
 ghost use Rattle.res_ext.specs.declared.fault.ExtFault.TheVariants.{NotCanonical, Family as BadFamily};
 ghost use Rattle.res_ext.specs.Extensions.{Spans, SpellsAs};
 ghost use Rattle.res_ext.specs.Answers.{IsUnlessMemory, answer, never};
 
+use crate::as_reading::as_content;
 use crate::elements::content_of;
 use crate::fault::ExtFault;
-use der_forms::ShapeFault;
-use res_forms::{AsRead, as_content, push_as_identifiers, push_inherited_as};
+use crate::values::AsRead;
+use crate::writing::{push_as_identifiers, push_inherited_as};
+use der::ShapeFault;
 use res_sets::Ranges;
 use std::alloc::{AllocError, Global};
 
@@ -27,7 +29,7 @@ pub fn write_as(alloc: Global, asn: &Ranges) -> Result<Vec<u8>, AllocError>
     Ok(out)
 }
 
-/// The extension that says that all AS numbers are those of the issuer.
+/// The extension that says that all AS numbers are those of the issuer (RFC 3779 section 3.2.3.3).
 pub fn inherit_as(alloc: Global) -> Result<Vec<u8>, AllocError>
     ensures { IfOk result (λ out. out.items ≡ as_identifiers.spelling None) }
 {
@@ -53,6 +55,8 @@ fn extension_of(alloc: Global, bytes: &[u8]) -> Result<AsRead, ExtFault>
 /// What the extension says, in time linear in the bytes.
 ///
 /// Lengths have at most four bytes: an extension whose content has 2 ^ 32 bytes or more isn't canonical.
+///
+/// Both are the value of the extension, inside its OCTET STRING (RFC 3779 section 3.2.1).
 pub fn read_as(alloc: Global, bytes: &[u8]) -> Result<AsRead, ExtFault>
     // What is read is spelled so, each byte of it, and what is spelled so is read.
     ensures found { IfOk result (λ read. SpellsAs (as_view read) bytes.now) }

@@ -2,11 +2,11 @@
 
 ghost use Rattle.std.specs.Prelude.{◌≡◌};
 ghost use Rattle.std.specs.Option.{option_map};
-ghost use Rattle.der_forms.specs.Place.{place};
+ghost use Rattle.der.specs.Part.{place};
 ghost use Rattle.res_ext.specs.Answers.{content_in};
 
-use der_forms::Part;
-use der_forms::tags::SEQUENCE;
+use der::Part;
+use der::tags::SEQUENCE;
 
 /// The content of the SEQUENCE that is all the bytes.
 pub fn content_of(bytes: &[u8]) -> Option<Part<'_>>

@@ -1,19 +1,19 @@
-//! A family of addresses that may not come next.
+//! A family of addresses that may not come next (RFC 3779 section 2.2.3.3).
 
 ghost use Rattle.std.specs.Prelude.{◌≡◌, ◌≢◌, Option, IfOk, if◌then◌else◌};
 ghost use Rattle.std.specs.Option.{option_map};
-ghost use Rattle.der_forms.specs.Place.{place};
-ghost use Rattle.der_forms.specs.Outcome.{Gives};
-ghost use Rattle.res_forms.specs.Formats.{part as part_form};
-ghost use Rattle.res_forms.specs.Views.{choice_view};
+ghost use Rattle.der.specs.Part.{place};
+ghost use Rattle.der.specs.Outcome.{Gives};
+ghost use Rattle.res_ext.specs.Formats.{part as part_form};
+ghost use Rattle.res_ext.specs.Views.{choice_view};
 ghost use Rattle.res_ext.specs.declared.fault.ExtFault.TheVariants.{NotCanonical, Family as BadFamily, Memory};
 ghost use Rattle.res_ext.specs.Extensions.{named, are_alike, may_follow};
 ghost use Rattle.res_ext.specs.Answers.{tried, goes_wrong};
 
+use crate::choices::{family_number, family_part};
 use crate::fault::ExtFault;
-use der_forms::tags::{OCTET_STRING, SEQUENCE};
-use der_forms::{Part, ShapeFault, are_same};
-use res_forms::{family_number, family_part};
+use der::tags::{OCTET_STRING, SEQUENCE};
+use der::{Part, ShapeFault, are_same};
 use res_sets::{Family, Ranges};
 use std::alloc::{AllocError, Global};
 

@@ -1,4 +1,4 @@
-//! Why an extension could not be read.
+//! Why an extension could not be read (RFC 3779 sections 2.2.3 and 3.2.3).
 
 ghost use Rattle.std.specs.Prelude.{◌≡◌};
 ghost use Rattle.res_ext.specs.declared.fault.ExtFault.TheVariants.{Memory};

@@ -1,9 +1,9 @@
-//! IP address blocks.
+//! IP address blocks (RFC 3779 section 2.2).
 
 ghost use Rattle.std.specs.Prelude.{◌≡◌, Ok, Err, Some, None, Option, IfOk};
 ghost use Rattle.res_sets.specs.declared.numbers.Family.TheVariants.{V4, V6};
-ghost use Rattle.res_forms.specs.Formats.{ip_content, ip_blocks};
-ghost use Rattle.res_forms.specs.Views.{set_view, ip_view};
+ghost use Rattle.res_ext.specs.Formats.{ip_content, ip_blocks};
+ghost use Rattle.res_ext.specs.Views.{set_view, ip_view};
 ghost use Rattle.res_ext.specs.declared.fault.ExtFault.TheVariants.{NotCanonical, Family as BadFamily};
 ghost use Rattle.res_ext.specs.Extensions.{Spans, SpellsIp, HasBadFamily};
 ghost use Rattle.res_ext.specs.Answers.{IsUnlessMemory, answer, goes_wrong};
@@ -11,8 +11,10 @@ ghost use Rattle.res_ext.specs.Answers.{IsUnlessMemory, answer, goes_wrong};
 use crate::elements::content_of;
 use crate::families::fault_of;
 use crate::fault::ExtFault;
-use der_forms::ShapeFault;
-use res_forms::{IpRead, ip_content, push_inherited_ip, push_ip_blocks};
+use crate::ip_reading::ip_content;
+use crate::values::IpRead;
+use crate::writing::{push_inherited_ip, push_ip_blocks};
+use der::ShapeFault;
 use res_sets::Ranges;
 use std::alloc::{AllocError, Global};
 
@@ -29,7 +31,7 @@ pub fn write_ip(alloc: Global, v4: &Ranges, v6: &Ranges) -> Result<Vec<u8>, Allo
     Ok(out)
 }
 
-/// The extension that says that all addresses are those of the issuer.
+/// The extension that says that all addresses are those of the issuer (RFC 3779 section 2.2.3.5).
 pub fn inherit_ip(alloc: Global) -> Result<Vec<u8>, AllocError>
     ensures { IfOk result (λ out. out.items ≡ ip_blocks.spelling None) }
 {
@@ -55,6 +57,8 @@ fn extension_of(alloc: Global, bytes: &[u8]) -> Result<IpRead, ExtFault>
 /// What the extension says, in time linear in the bytes.
 ///
 /// Lengths have at most four bytes: an extension whose content has 2 ^ 32 bytes or more isn't canonical.
+///
+/// Both are the value of the extension, inside its OCTET STRING (RFC 3779 section 2.2.1).
 pub fn read_ip(alloc: Global, bytes: &[u8]) -> Result<IpRead, ExtFault>
     // What is read is spelled so, each byte of it, and what is spelled so is read.
     ensures found { IfOk result (λ read. SpellsIp (ip_view read) bytes.now) }

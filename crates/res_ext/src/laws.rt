@@ -5,7 +5,7 @@ ghost use Rattle.der.specs.Grammar.{AreBytes};
 ghost use Rattle.res_sets.specs.declared.numbers.Range.{Range};
 ghost use Rattle.res_sets.specs.declared.numbers.Family.TheVariants.{Asn, V4, V6};
 ghost use Rattle.res_sets.specs.Numbers.{AreCanonical};
-ghost use Rattle.res_forms.specs.Formats.{span_of, as_content, as_identifiers, ip_content, ip_blocks};
+ghost use Rattle.res_ext.specs.Formats.{span_of, as_content, as_identifiers, ip_content, ip_blocks};
 ghost use Rattle.res_ext.specs.Extensions.{Spans, SpellsIp, SpellsAs, HasBadFamily};
 
 /// Bytes spell one extension of addresses, and then no family in them is refused.

@@ -1,6 +1,6 @@
 -- One canonical list has the numbers of a set.
 use Rattle.std.proofs.Common.{◌≡◌, ℕ, ◌+◌, ◌≤◌, List, [], ◌∷◌, refl, ap, sym, ◌∙◌, arith}
-pub use Rattle.res_sets.specs.Laws.{same_range}
+pub use Rattle.res_sets.specs.laws.SetLaws.{same_range}
 use Rattle.std.proofs.lemmas.Bool.Decides.{nat_tests}
 use Rattle.res_sets.specs.declared.numbers.Family.{Family}
 use Rattle.res_sets.specs.declared.numbers.Range.{Range}

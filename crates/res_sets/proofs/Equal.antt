@@ -3,7 +3,7 @@ use Rattle.std.proofs.Common.{◌≡◌, ◌==◌, ◌&&◌, ap}
 use Rattle.std.specs.Bool.{Decides}
 use Rattle.std.proofs.lemmas.Bool.{and_parts, and_from, eqb-true, eq-eqb}
 use Rattle.res_sets.specs.declared.numbers.Range.{Range}
-use Rattle.res_sets.specs.Laws.{same_range}
+use Rattle.res_sets.specs.laws.SetLaws.{same_range}
 
 pub ranges_decide : (a b : Range) → Decides ((a.first == b.first) && (a.last == b.last)) (a ≡ b)
 ranges_decide a b = (

@@ -5,7 +5,7 @@ use Rattle.std.proofs.lemmas.Bool.Decides.{nat_tests}
 use Rattle.res_sets.specs.declared.numbers.Range.{Range}
 use Rattle.res_sets.specs.Numbers.{spans, any_spans, RisesFrom}
 use Rattle.res_sets.specs.Merging.{room_from, last_first}
-pub use Rattle.res_sets.specs.Laws.{any_spans-push, RisesFrom-push, RisesFrom-front}
+pub use Rattle.res_sets.specs.laws.SetLaws.{any_spans-push, RisesFrom-push, RisesFrom-front}
 
 pub RisesFrom-weaker : (low lower : ℕ) (ranges : List Range) → lower ≤ low → RisesFrom low ranges → RisesFrom lower ranges
 RisesFrom-weaker low lower [] below rises = rises

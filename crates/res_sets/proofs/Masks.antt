@@ -3,7 +3,7 @@ use Rattle.std.proofs.Common.{◌≡◌, ℕ, ◌+◌, ◌-◌, ◌*◌, ◌%◌
 use Rattle.std.proofs.lemmas.Bool.{cases_lt}
 use Rattle.std.proofs.lemmas.Nat.{and_mask, pow-add, pow_below, leading_length}
 use lib.Count.{count_leading_zeros}
-pub use Rattle.res_sets.specs.Laws.{room_above}
+pub use Rattle.res_sets.specs.laws.SetLaws.{room_above}
 use Rattle.res_sets.specs.declared.numbers.Range.{Range}
 use Rattle.res_sets.specs.Prefixes.{IsPrefixRange}
 

@@ -4,7 +4,7 @@ use Rattle.std.specs.Bool.{MatchBool}
 use Rattle.std.specs.List.{list_any, before_first, after_first}
 use Rattle.ip_text.specs.Number.{IsDecimalText, IsAsNumberText}
 use Rattle.ip_text.specs.Ipv4.{IsIpv4Text}
-use Rattle.ip_text.specs.NumberLaws.{one_decimal}
+use Rattle.ip_text.specs.laws.NumberLaws.{one_decimal}
 use Rattle.ip_text.specs.Ipv6.{IsIpv6Text}
 use Rattle.res_sets.specs.declared.numbers.Family.{Family}
 use Rattle.res_sets.specs.declared.numbers.Family.TheVariants.{Asn, V4, V6}

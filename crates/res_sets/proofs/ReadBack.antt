@@ -9,7 +9,7 @@ use Rattle.std.proofs.lemmas.List.{reverse-append, reverse-reverse}
 use Rattle.std.proofs.lemmas.List.Folds.{list_any-append}
 use Rattle.ip_text.specs.Number.{IsDecimalText}
 use Rattle.ip_text.specs.Ipv6.{IsIpv6Text, ipv6_text}
-use Rattle.ip_text.specs.NumberLaws.{decimal_text}
+use Rattle.ip_text.specs.laws.NumberLaws.{decimal_text}
 use Rattle.res_sets.specs.declared.numbers.Family.{Family}
 use Rattle.res_sets.specs.declared.numbers.Family.TheVariants.{Asn, V4, V6}
 use Rattle.res_sets.specs.declared.numbers.Range.{Range}

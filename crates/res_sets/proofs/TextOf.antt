@@ -4,7 +4,7 @@ use Rattle.res_sets.specs.declared.numbers.Family.{Family}
 use Rattle.res_sets.specs.declared.numbers.Family.TheVariants.{Asn, V4, V6}
 use Rattle.res_sets.specs.declared.numbers.Range.{Range}
 use Rattle.res_sets.specs.Prefixes.{prefix_of}
-use Rattle.res_sets.specs.PrefixLaws.{prefix_of-some, prefix_of-found, prefix_of-none, prefix_cases, none-prefix_of}
+use Rattle.res_sets.specs.laws.PrefixLaws.{prefix_of-some, prefix_of-found, prefix_of-none, prefix_cases, none-prefix_of}
 use Rattle.res_sets.specs.Printed.{prefix_or_ends, range_text, ranges_text, PrintsAddresses, PrintsRange, Prints}
 
 addresses_are : (bits : ℕ) (family : Family) (range : Range) (text : List ℕ) → PrintsAddresses bits family range text → text ≡ prefix_or_ends family range (prefix_of bits range)

@@ -2,7 +2,7 @@
 use Rattle.std.proofs.Common.{◌≡◌, ℕ, ◌-◌, ◌%◌, ◌^◌, ◌≤◌, List, Option, Some, None, MatchOption, Result, Ok, Err, refl, sym, ap, subst, ◌∙◌, arith}
 use Rattle.std.specs.Option.{IsSomeAnd, ok_or}
 use Rattle.ip_text.specs.Reader.{Reads}
-use Rattle.ip_text.specs.NumberLaws.{saturated_text}
+use Rattle.ip_text.specs.laws.NumberLaws.{saturated_text}
 use Rattle.ip_text.specs.Number.{IsDecimalText, IsSaturatedText}
 use Rattle.res_sets.specs.declared.numbers.Range.{Range}
 use Rattle.res_sets.specs.declared.prefixes.BlockFault.{BlockFault}

@@ -4,8 +4,7 @@ pub mod Merging
 pub mod Triples
 pub mod Blocks
 pub mod Prefixes
-pub mod PrefixLaws
 pub mod Texts
 pub mod Printed
 pub mod Pushed
-pub mod Laws
+pub mod laws

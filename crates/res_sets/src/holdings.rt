@@ -5,7 +5,7 @@ use crate::numbers::Family;
 use crate::sets::Ranges;
 use std::alloc::{AllocError, Global};
 
-/// The resources of a holder: a set of each family.
+/// The resources of a holder: a set of each family (RFC 3779 sections 2 and 3).
 #[derive(Debug, Drop)]
 pub struct Resources {
     pub asn: Ranges,

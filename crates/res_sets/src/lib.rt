@@ -1,4 +1,5 @@
-//! Sets of Internet number resources: AS numbers, IPv4 addresses and IPv6 addresses (RFC 3779).
+//! Sets of Internet number resources: AS numbers, IPv4 addresses and IPv6 addresses (RFC 3779
+//! sections 2 and 3).
 //!
 //! A set's meaning is the numbers that are in it. A set is kept as the one sorted list of ranges
 //! that has them, and each operation goes over such lists once.

@@ -32,6 +32,7 @@ fn leaves_gap(before: Option<Range>, range: &Range) -> bool
     }
 }
 
+/// Sorted, and no two overlap or touch (RFC 3779 sections 2.2.3.6 and 3.2.3.4).
 pub fn is_canonical(family: Family, ranges: &[Range]) -> bool
     ensures { IsTrue result ↔ AreCanonical family ranges.now }
 {

@@ -15,7 +15,7 @@ impl Family {
     ghost use Rattle.std.specs.Prelude.{◌≡◌, ◌+◌};
     ghost use Rattle.res_sets.specs.Numbers.{family_end};
 
-    /// The greatest number of the family.
+    /// The greatest number of the family. 2^32 - 1, or 2^128 - 1 for IPv6 addresses.
     pub fn last(self) -> u128
         ensures { result + 1 ≡ family_end self }
     {

@@ -1,4 +1,4 @@
-//! Prefixes as ranges.
+//! Prefixes as ranges (RFC 3779 section 2.1).
 
 ghost use Rattle.std.specs.Prelude.{◌≡◌, ℕ, ◌+◌, ◌^◌, ◌<◌, ◌≤◌, MatchOption};
 ghost use Rattle.res_sets.specs.Prefixes.{IsPrefixRange, ReadsPrefix};
@@ -25,7 +25,8 @@ fn ones(bits: u32) -> u128
     }
 }
 
-// The addresses, of so many bits, that begin as the address does.
+/// The addresses, of so many bits, that begin as the address does: `length` is how many of its bits
+/// are fixed.
 pub fn prefix_range(bits: u32, address: u128, length: u64) -> Result<Range, BlockFault>
     requires short { bits ≤ 128 }
     requires fits { address < 2 ^ bits }

@@ -75,7 +75,7 @@ impl Ranges {
         Ok(Ranges { family, ranges })
     }
 
-    /// The set with this canonical list. Takes no memory.
+    /// The set with this canonical list. Takes no memory. None where the list isn't canonical.
     pub fn from_sorted(family: Family, ranges: Vec<Range>) -> Option<Ranges>
         requires few { length ranges.items < 2 ^ 32 }
         ensures canonical { IsSome result ↔ AreCanonical family ranges.items }

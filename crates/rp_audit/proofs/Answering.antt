@@ -8,7 +8,7 @@ use Rattle.rp_rules.specs.declared.rules.Rule.TheVariants as rule
 use Rattle.rp_rules.specs.Checks.{Refused as Refusal, Checked, Test, ◌>>=◌, refused, tested, found}
 use Rattle.rp_audit.specs.declared.refusal.AuditRefused.{AuditRefused}
 use Rattle.rp_audit.specs.declared.refusal.AuditRefused.TheVariants.{Refused, Unreached, SignerFault, Memory}
-use Rattle.rp_audit.specs.Told.{Tells, Answers, Gives, IsAnswer, kept, read_as, answered}
+use Rattle.rp_audit.specs.inner.Told.{Tells, Answers, Gives, IsAnswer, kept, read_as, answered}
 use Rattle.rp_audit.proofs.Checking.{bind_ok, bind_err, bind_assoc, tested_ok, tested_err}
 
 -- ---- one call after another

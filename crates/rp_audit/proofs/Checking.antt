@@ -11,7 +11,7 @@ use Rattle.rp_rules.specs.declared.rules.Rule.TheVariants as rule
 use Rattle.rp_rules.specs.Checks.{Refused as Refusal, Checked, Test, ◌>>=◌, refused, tested, found}
 use Rattle.rp_audit.specs.declared.refusal.AuditRefused.{AuditRefused}
 use Rattle.rp_audit.specs.declared.refusal.AuditRefused.TheVariants.{Refused, Unreached, SignerFault, Memory}
-use Rattle.rp_audit.specs.Told.{IsRefusal, Tells, kept, read_as}
+use Rattle.rp_audit.specs.inner.Told.{IsRefusal, Tells, kept, read_as}
 
 -- ---- checks one after another
 

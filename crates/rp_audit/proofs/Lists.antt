@@ -17,7 +17,7 @@ use Rattle.pub_set.specs.declared.objects.Object.{Object}
 use Rattle.payloads.specs.declared.values.ListedFile.{ListedFile}
 use Rattle.payloads.specs.Order.{rises, rises_above}
 use Rattle.payloads.specs.ManifestFormats.{Manifest, names, name_of, is_name_below, file_view}
-use Rattle.rp_rules.specs.Authorities.{Authority, file_place, manifest_place}
+use Rattle.rp_rules.specs.Authorities.{Authority, listed_uri, manifest_place}
 use Rattle.rp_rules.specs.Certificates.{File, is_among}
 use Rattle.rp_rules.specs.Points.{are_distinct, is_list, files_of, is_crl_file, is_file_in_use, first_of}
 
@@ -140,11 +140,11 @@ and_true false b c d e = refl
 
 -- The list of a manifest whose names rise.
 pub list_rising : (a : Authority) (m : Manifest) (one own all : Bool) → rises is_name_below (names m) ≡ true
-    → one ≡ (length (filter is_crl_file (files_of m)) == 1) → own ≡ is_among (map (file_place a) (names m)) (manifest_place a) → all ≡ list_all is_file_in_use (files_of m)
+    → one ≡ (length (filter is_crl_file (files_of m)) == 1) → own ≡ is_among (map (listed_uri a) (names m)) (manifest_place a) → all ≡ list_all is_file_in_use (files_of m)
     → (one && not own && all) ≡ is_list a m
 list_rising a m one own all r e f g =
     let crls : Bool = length (filter is_crl_file (files_of m)) == 1 in
-    let own_ : Bool = is_among (map (file_place a) (names m)) (manifest_place a) in
+    let own_ : Bool = is_among (map (listed_uri a) (names m)) (manifest_place a) in
     let all_ : Bool = list_all is_file_in_use (files_of m) in
     ap (λ (x : Bool). x && not own && all) e ∙ (ap (λ (x : Bool). crls && not x && all) f ∙ (ap (λ (x : Bool). crls && not own_ && x) g
     ∙ sym (and_true crls (are_distinct (names m)) (not own_) all_ (distinct_rising (names m) r))))

@@ -10,8 +10,8 @@ use Rattle.rp_rules.specs.declared.rules.Rule.{Rule}
 use Rattle.rp_rules.specs.declared.rules.Rule.TheVariants as rule
 use Rattle.rp_rules.specs.Checks.{Refused as Refusal, Checked, Test, ◌>>=◌, tested, found}
 use Rattle.rp_rules.specs.Objects.{SignedRoa, such, certificate_in, is_authoritys, roa_in}
-use Rattle.rp_rules.specs.Authorities.{Authority, file_place}
-use Rattle.rp_rules.specs.Certificates.{Setting, File, listed_bytes, authority_tests, authority_of, accepted_authority}
+use Rattle.rp_rules.specs.Authorities.{Authority, listed_uri}
+use Rattle.rp_rules.specs.Certificates.{WalkContext, File, listed_bytes, authority_tests, authority_of, accepted_authority}
 use Rattle.rp_rules.specs.Points.{Point, is_certificate_file, roa_tests, accepted_roa}
 use Rattle.rp_rules.specs.Yield.{serial_of, roa_serial, serial_in, listed_serial}
 
@@ -46,11 +46,11 @@ listed_was held uri file bytes e =
     found_was uri rule.Missing (held uri) one.0 one.1
     ∙ ap (λ (b : List ℕ). Some b) (tested_was uri ((rule.Hash, bytes_eq (sha256 one.0) file.1) ∷ []) one.0 bytes one.2)
 
-pub authority_serial : (s : Setting) (held : Contents) (p : Point) (revoked : List CrlEntry) (visited : List (List ℕ)) (file : File) (a : Authority) → is_certificate_file file ≡ true
+pub authority_serial : (s : WalkContext) (held : Contents) (p : Point) (revoked : List CrlEntry) (visited : List (List ℕ)) (file : File) (a : Authority) → is_certificate_file file ≡ true
     → accepted_authority s held p.authority revoked visited file ≡ Ok a → a.cert.serial ≡ listed_serial held p file
 unfolding accepted_authority
 authority_serial s held p revoked visited file a kind e =
-    let uri : List ℕ = file_place p.authority file.0 in
+    let uri : List ℕ = listed_uri p.authority file.0 in
     let f : SignedCert → Checked Authority = λ c. tested uri (authority_tests s p.authority revoked visited uri c) (authority_of p.authority uri c) in
     let one = bind_was (listed_bytes held uri file) (λ bytes. found uri rule.Shape (such is_authoritys (certificate_in bytes)) >>= f) a e in
     let two = bind_was (found uri rule.Shape (such is_authoritys (certificate_in one.0))) f a one.2 in
@@ -61,11 +61,11 @@ authority_serial s held p revoked visited file a kind e =
     ∙ (ap (λ (b : Bool). if b then serial_of (certificate_in one.0) else roa_serial (roa_in one.0)) kind
     ∙ (ap serial_of cert ∙ ap (λ (x : Authority). x.cert.serial) same)))
 
-pub roa_file_serial : (s : Setting) (held : Contents) (p : Point) (visited : List (List ℕ)) (file : File) (r : SignedRoa) → is_certificate_file file ≡ false
+pub roa_file_serial : (s : WalkContext) (held : Contents) (p : Point) (visited : List (List ℕ)) (file : File) (r : SignedRoa) → is_certificate_file file ≡ false
     → accepted_roa s held p visited file ≡ Ok r → r.certificate.cert.serial ≡ listed_serial held p file
 unfolding accepted_roa
 roa_file_serial s held p visited file r kind e =
-    let uri : List ℕ = file_place p.authority file.0 in
+    let uri : List ℕ = listed_uri p.authority file.0 in
     let f : SignedRoa → Checked SignedRoa = λ x. tested uri (roa_tests s p visited uri x) x in
     let one = bind_was (listed_bytes held uri file) (λ bytes. found uri rule.Shape (roa_in bytes) >>= f) r e in
     let two = bind_was (found uri rule.Shape (roa_in one.0)) f r one.2 in

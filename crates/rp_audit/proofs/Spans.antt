@@ -7,7 +7,7 @@ use Rattle.std.proofs.lemmas.Grind.{common_steps}
 use Rattle.std.proofs.lemmas.Bool.Decides.{nat_tests}
 use Rattle.res_sets.specs.declared.numbers.Range.{Range}
 use Rattle.res_sets.specs.Numbers.{spans, any_spans, RisesFrom}
-use Rattle.res_forms.specs.Formats.{span_of}
+use Rattle.res_ext.specs.Formats.{span_of}
 use Rattle.cert_obj.specs.Values.{Sets}
 use Rattle.rp_rules.specs.Holdings.{Span, has_span, is_inside as inside, are_inside}
 

@@ -13,7 +13,7 @@ use Rattle.signer_ring.specs.Ring.{AllTell, Vouched, Keeps}
 use Rattle.rp_rules.specs.Checks.{Checked}
 use Rattle.rp_rules.specs.Certificates.{VouchesMore}
 use Rattle.rp_audit.specs.Vouching.{is_signed, vouched_by, vouched_in}
-use Rattle.rp_audit.specs.Told.{IsAnswer}
+use Rattle.rp_audit.specs.inner.Told.{IsAnswer}
 
 abbrev signed_as : List ℕ → List ℕ → List ℕ → Signed
 signed_as k d s = record { key = k; digest = d; signature = s }

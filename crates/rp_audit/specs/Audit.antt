@@ -1,11 +1,11 @@
 -- What an audit answers.
 use Rattle.std.specs.Prelude.{◌≡◌, ℕ, List, Result, Ok, Err, ⊤}
-use Rattle.key_ids.specs.Places.{Bases}
+use Rattle.key_ids.specs.Uris.{Bases}
 use Rattle.pub_set.specs.declared.objects.Object.{Object}
 use Rattle.signer_api.specs.State.{SignerState, CountsFault}
 use Rattle.signer_ring.specs.Ring.{AllTell, ChangesOne}
 use Rattle.rp_rules.specs.declared.rules.Rule.TheVariants as rule
-use Rattle.rp_rules.specs.Certificates.{Setting}
+use Rattle.rp_rules.specs.Certificates.{WalkContext}
 use Rattle.rp_rules.specs.Yield.{AuditedValue}
 use Rattle.rp_rules.specs.Sound.{IsRefused, IsUnreached, IsAuditOf}
 use Rattle.rp_audit.specs.Vouching.{vouched_in}
@@ -14,13 +14,13 @@ use Rattle.rp_audit.specs.declared.refusal.AuditRefused.TheVariants.{Refused, Un
 use Rattle.std.specs.String.{string_bytes}
 
 -- How a set is looked at where these signers are asked.
-abbrev pub asking : List SignerState → List ℕ → Bases → ℕ → Setting
+abbrev pub asking : List SignerState → List ℕ → Bases → ℕ → WalkContext
 asking signers anchor bases moment =
     record { vouched = vouched_in signers; anchor = anchor; bases = bases; moment = moment }
 
 -- Why the set isn't sound: a refusal by the rule of signatures where all signers tell, any other
 -- one in any case. Of a signer that failed, and of memory, nothing is told of the set.
-abbrev pub IsTold : List SignerState → Setting → List Object → AuditRefused → Type 0
+abbrev pub IsTold : List SignerState → WalkContext → List Object → AuditRefused → Type 0
 IsTold signers s objects (Refused uri broken) =
     (broken ≡ rule.Signature → AllTell signers) → IsRefused s objects (string_bytes uri) broken
 IsTold signers s objects (Unreached uri) = IsUnreached s objects (string_bytes uri)

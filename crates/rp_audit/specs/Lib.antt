@@ -1,5 +1,3 @@
 pub mod Vouching
 pub mod Audit
-pub mod Told
-pub mod Views
-pub mod Noted
+pub mod inner

@@ -1,29 +1,29 @@
-//! Accepted certificates of authorities.
+//! Accepted certificates of authorities (RFC 6487 section 7).
 
 ghost use Rattle.std.specs.Prelude.{◌≡◌, ℕ, [], List, true, IfOk, is_some};
 ghost use Rattle.signer_api.specs.State.{SignerState};
 ghost use Rattle.cert_obj.specs.Values.{cert_value, read_value};
 ghost use Rattle.crl_obj.specs.Values.{are_rising};
 ghost use Rattle.payloads.specs.ManifestFormats.{file_view};
-ghost use Rattle.key_ids.specs.Places.{anchor_uri};
+ghost use Rattle.key_ids.specs.Uris.{anchor_uri};
 ghost use Rattle.rp_rules.specs.declared.rules.Rule.TheVariants as rule;
 ghost use Rattle.rp_rules.specs.Checks.{found};
 ghost use Rattle.rp_rules.specs.Objects.{such, certificate_in, is_anchors, is_authoritys};
-ghost use Rattle.rp_rules.specs.Authorities.{file_place};
+ghost use Rattle.rp_rules.specs.Authorities.{listed_uri};
 ghost use Rattle.rp_rules.specs.Certificates.{is_valid_at, names_issuer, is_revoked, listed_bytes, anchor_tests, anchor_of, accepted_anchor, authority_tests, authority_of, accepted_authority};
-ghost use Rattle.rp_audit.specs.Told.{Tells, Answers, Gives, read_as, answered};
-ghost use Rattle.rp_audit.specs.Views.{setting_of, held_in, authority_value};
-ghost use Rattle.rp_audit.specs.Noted.{Sees};
+ghost use Rattle.rp_audit.specs.inner.Told.{Tells, Answers, Gives, read_as, answered};
+ghost use Rattle.rp_audit.specs.inner.Views.{context_of, held_in, authority_value};
+ghost use Rattle.rp_audit.specs.inner.Noted.{Sees};
 
 use crate::authority::Authority;
 use crate::bytes::{are_same, owned};
 use crate::certificates::{anchors_in, authoritys_in};
 use crate::holdings::{held_under, is_held_under};
-use crate::places::{anchor_places, authority_places, file_place};
 use crate::refusal::{AuditRefused, found, keep_all};
 use crate::scene::{Scene, bytes_at, lies_in, listed_bytes};
-use crate::seen::Seen;
 use crate::signing::is_vouched;
+use crate::uris::{has_anchor_uris, has_authority_uris, listed_uri};
+use crate::visited_uris::VisitedUris;
 use cert_obj::{Cert, Held, ReadCert};
 use crl_obj::CrlEntry;
 use key_ids::KeyId;
@@ -82,13 +82,13 @@ fn anchor_tests(
     signed: bool,
 ) -> Result<[(Rule, bool); 5], AllocError>
     ensures { IfOk result (λ tests. tests
-        ≡ answered signed (anchor_tests (setting_of scene.now []) (read_value read.now))) }
+        ≡ answered signed (anchor_tests (context_of scene.now []) (read_value read.now))) }
 {
     let cert = &read.cert;
     let id = KeyId::of(&cert.key.bytes);
     let own = are_same(&cert.issuer.bytes, &id.bytes);
     let handed = are_same(&cert.key.bytes, &scene.anchor.bytes);
-    let placed = anchor_places(alloc, scene.site, cert)?;
+    let placed = has_anchor_uris(alloc, scene.site, cert)?;
     Ok([
         (Rule::Signature, signed),
         (Rule::Identity, own && handed),
@@ -113,14 +113,14 @@ fn anchor_of(alloc: Global, uri: &str, read: ReadCert) -> Result<Authority, Allo
     })
 }
 
-/// The anchor, whose certificate is accepted.
+/// The anchor, whose certificate is accepted (RFC 8630 section 3).
 pub fn accept_anchor<S: Signer>(
     alloc: Global,
     scene: &Scene<'_>,
     ring: &mut Ring<S>,
 ) -> Result<Authority, AuditRefused>
     ensures { Answers (Gives authority_value)
-        (λ signers. accepted_anchor (setting_of scene.now signers) (held_in scene.now)) result ring.old ring.new }
+        (λ signers. accepted_anchor (context_of scene.now signers) (held_in scene.now)) result ring.old ring.new }
 {
     let place = scene.site.anchor_uri(alloc)?;
     let uri = place.as_str();
@@ -150,7 +150,7 @@ fn read_authoritys(
 fn authority_tests(
     alloc: Global,
     scene: &Scene<'_>,
-    seen: &Seen,
+    visited_uris: &VisitedUris,
     issuer: &Authority,
     revoked: &[CrlEntry],
     uri: &str,
@@ -158,12 +158,12 @@ fn authority_tests(
     signed: bool,
 ) -> Result<[(Rule, bool); 7], AllocError>
     requires { are_rising revoked.now ≡ true }
-    ensures { (visited : List (List ℕ)) → Sees visited seen.now → IfOk result (λ tests. tests
-        ≡ answered signed (authority_tests (setting_of scene.now []) (authority_value issuer.now) revoked.now visited
+    ensures { (visited : List (List ℕ)) → Sees visited visited_uris.now → IfOk result (λ tests. tests
+        ≡ answered signed (authority_tests (context_of scene.now []) (authority_value issuer.now) revoked.now visited
         uri.now (read_value read.now))) }
 {
     let cert = &read.cert;
-    let placed = authority_places(alloc, scene.site, issuer, uri, cert)?;
+    let placed = has_authority_uris(alloc, scene.site, issuer, uri, cert)?;
     Ok([
         (Rule::Signature, signed),
         (Rule::Identity, names_issuer(issuer, cert)),
@@ -171,7 +171,7 @@ fn authority_tests(
         (Rule::Resources, is_held_under(&issuer.held, &cert.held)),
         (Rule::Revoked, !is_revoked(revoked, cert.serial)),
         (Rule::Place, placed),
-        (Rule::Depth, !seen.has(uri)),
+        (Rule::Depth, !visited_uris.has(uri)),
     ])
 }
 
@@ -195,27 +195,36 @@ fn authority_of(
     })
 }
 
-/// An authority whose certificate an issuer lists and that is accepted.
+/// An authority whose certificate an issuer lists and that is accepted (RFC 6487 section 7.2).
 pub fn accept_authority<S: Signer>(
     alloc: Global,
     scene: &Scene<'_>,
     ring: &mut Ring<S>,
-    seen: &Seen,
+    visited_uris: &VisitedUris,
     issuer: &Authority,
     revoked: &[CrlEntry],
     file: &ListedFile,
 ) -> Result<Authority, AuditRefused>
     requires { are_rising revoked.now ≡ true }
-    ensures { (visited : List (List ℕ)) → Sees visited seen.now → Answers (Gives authority_value)
-        (λ signers. accepted_authority (setting_of scene.now signers) (held_in scene.now)
+    ensures { (visited : List (List ℕ)) → Sees visited visited_uris.now → Answers (Gives authority_value)
+        (λ signers. accepted_authority (context_of scene.now signers) (held_in scene.now)
         (authority_value issuer.now) revoked.now visited (file_view file.now)) result ring.old ring.new }
 {
-    let place = file_place(alloc, issuer, file.name.as_str())?;
+    let place = listed_uri(alloc, issuer, file.name.as_str())?;
     let uri = place.as_str();
     let read = read_authoritys(alloc, scene, uri, file)?;
     let key = &issuer.cert.key;
     let signed = is_vouched(alloc, ring, key, &read.digest, &read.signature)?;
-    let tests = authority_tests(alloc, scene, seen, issuer, revoked, uri, &read, signed)?;
+    let tests = authority_tests(
+        alloc,
+        scene,
+        visited_uris,
+        issuer,
+        revoked,
+        uri,
+        &read,
+        signed,
+    )?;
     keep_all(alloc, uri, &tests)?;
     let child = authority_of(alloc, issuer, uri, read)?;
     Ok(child)

@@ -1,4 +1,4 @@
-//! An authority.
+//! An authority (RFC 6487 section 7).
 
 ghost use Rattle.std.specs.Prelude.{◌≡◌};
 ghost use Rattle.sha1.specs.Sha1.{sha1};

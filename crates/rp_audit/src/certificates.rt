@@ -1,4 +1,4 @@
-//! What bytes say, where they are those of a certificate or of a CRL.
+//! What bytes say, where they are those of a certificate or of a CRL (RFC 6487 sections 4 and 5).
 
 ghost use Rattle.std.specs.Prelude.{◌≡◌, true, IfOk, IfSome};
 ghost use Rattle.std.specs.Option.{option_map};
@@ -8,7 +8,7 @@ ghost use Rattle.rp_rules.specs.Objects.{such, certificate_in, is_anchors, is_au
 
 use cert_obj::{CertKind, ReadCert};
 use crl_obj::ReadCrl;
-use der_forms::ShapeFault;
+use der::ShapeFault;
 use std::alloc::{AllocError, Global};
 
 /// The certificate that the bytes are.

@@ -1,18 +1,18 @@
-//! Files that a manifest lists.
+//! Files that a manifest lists (RFC 9286 section 4.2).
 
 ghost use Rattle.std.specs.Prelude.{◌≡◌, ◌&&◌, true, length, map, IfOk};
 ghost use Rattle.std.specs.List.{filter, list_all};
 ghost use Rattle.std.specs.Option.{option_map};
 ghost use Rattle.payloads.specs.ManifestFormats.{name_of, file_view, is_rising_manifest};
 ghost use Rattle.payloads.specs.ManifestReading.{manifest_view};
-ghost use Rattle.rp_rules.specs.Authorities.{file_place, manifest_place};
+ghost use Rattle.rp_rules.specs.Authorities.{listed_uri, manifest_place};
 ghost use Rattle.rp_rules.specs.Certificates.{is_among};
 ghost use Rattle.rp_rules.specs.Points.{is_certificate_file, is_roa_file, is_crl_file, is_file_in_use, first_of, is_list};
-ghost use Rattle.rp_audit.specs.Views.{authority_value};
+ghost use Rattle.rp_audit.specs.inner.Views.{authority_value};
 
 use crate::authority::Authority;
 use crate::bytes::is_same;
-use crate::places::file_place;
+use crate::uris::listed_uri;
 use payloads::{ListedFile, ManifestBody};
 use std::alloc::{AllocError, Global};
 
@@ -71,11 +71,11 @@ fn lists_itself(
     files: &[ListedFile],
 ) -> Result<bool, AllocError>
     ensures { IfOk result (λ yes. yes ≡ is_among
-        (map (file_place (authority_value authority.now)) (map name_of files.now))
+        (map (listed_uri (authority_value authority.now)) (map name_of files.now))
         (manifest_place (authority_value authority.now))) }
 {
     for file in files {
-        let place = file_place(alloc, authority, file.name.as_str())?;
+        let place = listed_uri(alloc, authority, file.name.as_str())?;
         if is_same(place.as_str(), authority.cert.uris.manifest.as_str()) {
             return Ok(true);
         }
@@ -83,7 +83,8 @@ fn lists_itself(
     Ok(false)
 }
 
-/// One CRL, each name once, no name of the manifest's own, and files of the three kinds alone.
+/// One CRL, each name once, no name of the manifest's own, and files of the three kinds alone (RFC
+/// 9286 sections 2 and 4.2.2).
 pub fn is_list(
     alloc: Global,
     authority: &Authority,

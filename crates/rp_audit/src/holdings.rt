@@ -1,9 +1,9 @@
-//! Number resources inside others.
+//! Number resources inside others (RFC 3779 sections 2.3 and 3.3, RFC 6487 section 7.1).
 
 ghost use Rattle.std.specs.Prelude.{◌≡◌, map};
 ghost use Rattle.std.specs.List.{list_all};
 ghost use Rattle.cert_obj.specs.Values.{sets_of, held_value};
-ghost use Rattle.res_forms.specs.Views.{set_view};
+ghost use Rattle.res_ext.specs.Views.{set_view};
 ghost use Rattle.payloads.specs.RoaFormats.{entry_view};
 ghost use Rattle.rp_rules.specs.Holdings.{has_span, is_inside, addresses, span_of, are_inside, held_under, have_prefixes};
 ghost use Rattle.rp_rules.specs.Certificates.{is_held_under};
@@ -52,7 +52,7 @@ pub fn held_under<'a>(issuer: &'a Resources, held: &'a Held) -> &'a Resources
     }
 }
 
-/// Inherited resources are inside the issuer's.
+/// Inherited resources are inside the issuer's (RFC 6487 section 7.1).
 pub fn is_held_under(issuer: &Resources, held: &Held) -> bool
     ensures { result ≡ is_held_under (sets_of issuer.now) (held_value held.now) }
 {
@@ -76,7 +76,7 @@ fn has_prefix(held: &Resources, entry: &RoaEntry) -> bool
     }
 }
 
-/// The prefix of each entry lies in the addresses of its family.
+/// The prefix of each entry lies in the addresses of its family (RFC 9582 section 5).
 pub fn have_prefixes(held: &Resources, entries: &[RoaEntry]) -> bool
     ensures { result ≡ have_prefixes (sets_of held.now) (map entry_view entries.now) }
 {

@@ -1,4 +1,4 @@
-//! What bytes say, where they are those of a signed object.
+//! What bytes say, where they are those of a signed object (RFC 6488 section 3).
 
 ghost use Rattle.std.specs.Prelude.{◌≡◌, true, IfOk, IfSome};
 ghost use Rattle.std.specs.Option.{option_map};
@@ -7,7 +7,7 @@ ghost use Rattle.payloads.specs.ManifestReading.{manifest_view, manifest_read};
 ghost use Rattle.payloads.specs.RoaReading.{roa_view, roa_read};
 ghost use Rattle.cms_obj.specs.Values.{object_value};
 ghost use Rattle.rp_rules.specs.Objects.{value_in, manifest_in, roa_in, object_in, is_manifest};
-ghost use Rattle.rp_audit.specs.Views.{manifest_value, roa_value};
+ghost use Rattle.rp_audit.specs.inner.Views.{manifest_value, roa_value};
 
 use crate::certificates::entity_in;
 use crate::signed::{ReadManifest, ReadRoa};
@@ -38,7 +38,7 @@ fn roa_body(alloc: Global, content: &[u8]) -> Result<Option<RoaBody>, AllocError
     }
 }
 
-/// The manifest that the bytes are.
+/// The manifest that the bytes are (RFC 9286 section 4).
 pub fn manifest_in<'a>(
     alloc: Global,
     bytes: &'a [u8],
@@ -64,7 +64,7 @@ pub fn manifest_in<'a>(
     }
 }
 
-/// The ROA that the bytes are.
+/// The ROA that the bytes are (RFC 9582 section 4).
 pub fn roa_in<'a>(alloc: Global, bytes: &'a [u8]) -> Result<Option<ReadRoa<'a>>, AllocError>
     ensures { IfOk result (λ r. option_map roa_value r ≡ roa_in bytes.now) }
 {

@@ -1,4 +1,4 @@
-//! Accepted publication points.
+//! Accepted publication points (RFC 9286 section 6).
 
 ghost use Rattle.std.specs.Prelude.{◌≡◌, ◌++◌, ◌∷◌, ℕ, [], List, true, IfOk, is_none};
 ghost use Rattle.cert_obj.specs.Values.{cert_value};
@@ -10,9 +10,9 @@ ghost use Rattle.rp_rules.specs.Objects.{manifest_in, crl_in};
 ghost use Rattle.rp_rules.specs.Authorities.{manifest_place};
 ghost use Rattle.rp_rules.specs.Certificates.{listed_bytes};
 ghost use Rattle.rp_rules.specs.Points.{is_current, is_identified, is_placed, manifest_tests, accepted_manifest, crl_tests, accepted_crl, point_tests, accepted_point};
-ghost use Rattle.rp_audit.specs.Told.{Tells, Answers, Gives, read_as, answered};
-ghost use Rattle.rp_audit.specs.Views.{setting_of, held_in, authority_value, manifest_value, point_value};
-ghost use Rattle.rp_audit.specs.Noted.{Sees};
+ghost use Rattle.rp_audit.specs.inner.Told.{Tells, Answers, Gives, read_as, answered};
+ghost use Rattle.rp_audit.specs.inner.Views.{context_of, held_in, authority_value, manifest_value, point_value};
+ghost use Rattle.rp_audit.specs.inner.Noted.{Sees};
 
 use crate::authorities::{is_revoked, is_valid_at, names_issuer};
 use crate::authority::Authority;
@@ -20,12 +20,12 @@ use crate::bytes::{are_same, is_same};
 use crate::certificates::crl_in;
 use crate::files::{first_crl, is_list};
 use crate::objects::manifest_in;
-use crate::places::{crl_place, file_place, places_issuer};
 use crate::refusal::{AuditRefused, found, keep_all};
 use crate::scene::{Scene, bytes_at, lies_in, listed_bytes};
-use crate::seen::Seen;
 use crate::signed::{Listing, ReadManifest};
 use crate::signing::{are_vouched, is_vouched};
+use crate::uris::{crl_uri_of, has_issuer_uris, listed_uri};
+use crate::visited_uris::VisitedUris;
 use cert_obj::{Cert, Held};
 use crl_obj::{Crl, ReadCrl};
 use key_ids::KeyId;
@@ -81,20 +81,20 @@ fn is_placed(
 ) -> Result<bool, AllocError>
     ensures { IfOk result (λ yes. yes ≡ is_placed (authority_value issuer.now) uri.now (manifest_value m.now)) }
 {
-    let issued = places_issuer(alloc, issuer, &m.certificate.cert)?;
+    let issued = has_issuer_uris(alloc, issuer, &m.certificate.cert)?;
     Ok(issued && is_same(m.certificate.cert.uris.object.as_str(), uri))
 }
 
 fn manifest_tests(
     alloc: Global,
     scene: &Scene<'_>,
-    seen: &Seen,
+    visited_uris: &VisitedUris,
     authority: &Authority,
     m: &ReadManifest<'_>,
     signed: bool,
 ) -> Result<[(Rule, bool); 7], AllocError>
-    ensures { (visited : List (List ℕ)) → Sees visited seen.now → IfOk result (λ tests. tests
-        ≡ answered signed (manifest_tests (setting_of scene.now []) (authority_value authority.now) visited
+    ensures { (visited : List (List ℕ)) → Sees visited visited_uris.now → IfOk result (λ tests. tests
+        ≡ answered signed (manifest_tests (context_of scene.now []) (authority_value authority.now) visited
         (manifest_value m.now))) }
 {
     let uri = authority.cert.uris.manifest.as_str();
@@ -107,7 +107,7 @@ fn manifest_tests(
         (Rule::Resources, inherits(&m.certificate.cert)),
         (Rule::Place, placed),
         (Rule::List, listed),
-        (Rule::Depth, !seen.has(uri)),
+        (Rule::Depth, !visited_uris.has(uri)),
     ])
 }
 
@@ -116,18 +116,18 @@ fn accept_manifest<'a, S: Signer>(
     alloc: Global,
     scene: &Scene<'a>,
     ring: &mut Ring<S>,
-    seen: &Seen,
+    visited_uris: &VisitedUris,
     authority: &Authority,
 ) -> Result<ReadManifest<'a>, AuditRefused>
-    ensures { (visited : List (List ℕ)) → Sees visited seen.now → Answers (Gives manifest_value)
-        (λ signers. accepted_manifest (setting_of scene.now signers) (held_in scene.now)
+    ensures { (visited : List (List ℕ)) → Sees visited visited_uris.now → Answers (Gives manifest_value)
+        (λ signers. accepted_manifest (context_of scene.now signers) (held_in scene.now)
         (authority_value authority.now) visited) result ring.old ring.new }
 {
     let uri = authority.cert.uris.manifest.as_str();
     let m = read_manifest(alloc, scene, uri)?;
     let key = &authority.cert.key;
     let signed = are_vouched(alloc, ring, key, &m.certificate, &m.object)?;
-    let tests = manifest_tests(alloc, scene, seen, authority, &m, signed)?;
+    let tests = manifest_tests(alloc, scene, visited_uris, authority, &m, signed)?;
     keep_all(alloc, uri, &tests)?;
     Ok(m)
 }
@@ -151,20 +151,20 @@ fn read_crl(
 fn crl_tests(
     alloc: Global,
     scene: &Scene<'_>,
-    seen: &Seen,
+    visited_uris: &VisitedUris,
     authority: &Authority,
     uri: &str,
     read: &ReadCrl,
     signed: bool,
 ) -> Result<[(Rule, bool); 5], AllocError>
     // Its manifest is visited too.
-    ensures { (visited : List (List ℕ)) → Sees visited seen.now → IfOk result (λ tests. tests
-        ≡ answered signed (crl_tests (setting_of scene.now []) (authority_value authority.now)
+    ensures { (visited : List (List ℕ)) → Sees visited visited_uris.now → IfOk result (λ tests. tests
+        ≡ answered signed (crl_tests (context_of scene.now []) (authority_value authority.now)
         (visited ++ manifest_place (authority_value authority.now) ∷ []) uri.now (read_crl_value read.now))) }
 {
     let crl = &read.crl;
-    let own = crl_place(alloc, authority)?;
-    let again = seen.has(uri) || is_same(authority.cert.uris.manifest.as_str(), uri);
+    let own = crl_uri_of(alloc, authority)?;
+    let again = visited_uris.has(uri) || is_same(authority.cert.uris.manifest.as_str(), uri);
     Ok([
         (Rule::Signature, signed),
         (
@@ -185,22 +185,22 @@ fn accept_crl<S: Signer>(
     alloc: Global,
     scene: &Scene<'_>,
     ring: &mut Ring<S>,
-    seen: &Seen,
+    visited_uris: &VisitedUris,
     authority: &Authority,
     file: &ListedFile,
 ) -> Result<Crl, AuditRefused>
-    ensures told { (visited : List (List ℕ)) → Sees visited seen.now → Answers (Gives crl_value)
-        (λ signers. accepted_crl (setting_of scene.now signers) (held_in scene.now) (authority_value authority.now)
+    ensures told { (visited : List (List ℕ)) → Sees visited visited_uris.now → Answers (Gives crl_value)
+        (λ signers. accepted_crl (context_of scene.now signers) (held_in scene.now) (authority_value authority.now)
         (visited ++ manifest_place (authority_value authority.now) ∷ []) (file_view file.now))
         result ring.old ring.new }
     ensures rises { IfOk result (λ crl. are_rising crl.entries.items ≡ true) }
 {
-    let place = file_place(alloc, authority, file.name.as_str())?;
+    let place = listed_uri(alloc, authority, file.name.as_str())?;
     let uri = place.as_str();
     let read = read_crl(alloc, scene, uri, file)?;
     let key = &authority.cert.key;
     let signed = is_vouched(alloc, ring, key, &read.digest, &read.signature)?;
-    let tests = crl_tests(alloc, scene, seen, authority, uri, &read, signed)?;
+    let tests = crl_tests(alloc, scene, visited_uris, authority, uri, &read, signed)?;
     keep_all(alloc, uri, &tests)?;
     Ok(read.crl)
 }
@@ -219,22 +219,22 @@ fn point_tests(m: &ReadManifest<'_>, crl: &Crl) -> [(Rule, bool); 2]
     ]
 }
 
-/// The point of an authority, which is accepted.
+/// The point of an authority, which is accepted (RFC 9286 section 6, RFC 6488 section 3).
 pub fn accept_point<'a, S: Signer>(
     alloc: Global,
     scene: &Scene<'a>,
     ring: &mut Ring<S>,
-    seen: &Seen,
+    visited_uris: &VisitedUris,
     authority: &Authority,
 ) -> Result<Listing<'a>, AuditRefused>
-    ensures { (visited : List (List ℕ)) → Sees visited seen.now → Answers (Gives (point_value authority.now))
-        (λ signers. accepted_point (setting_of scene.now signers) (held_in scene.now)
+    ensures { (visited : List (List ℕ)) → Sees visited visited_uris.now → Answers (Gives (point_value authority.now))
+        (λ signers. accepted_point (context_of scene.now signers) (held_in scene.now)
         (authority_value authority.now) visited) result ring.old ring.new }
 {
     let uri = authority.cert.uris.manifest.as_str();
-    let manifest = accept_manifest(alloc, scene, ring, seen, authority)?;
+    let manifest = accept_manifest(alloc, scene, ring, visited_uris, authority)?;
     let file = found(alloc, uri, Rule::List, first_crl(&manifest.body.files))?;
-    let crl = accept_crl(alloc, scene, ring, seen, authority, file)?;
+    let crl = accept_crl(alloc, scene, ring, visited_uris, authority, file)?;
     keep_all(alloc, uri, &point_tests(&manifest, &crl))?;
     Ok(Listing { manifest, crl })
 }

@@ -2,7 +2,7 @@
 
 ghost use Rattle.std.specs.Prelude.{◌≡◌};
 ghost use Rattle.rp_rules.specs.Checks.{found};
-ghost use Rattle.rp_audit.specs.Told.{IsRefusal, Tells, kept};
+ghost use Rattle.rp_audit.specs.inner.Told.{IsRefusal, Tells, kept};
 
 use rp_rules::Rule;
 use std::alloc::{AllocError, Global};

@@ -1,4 +1,4 @@
-//! Accepted ROAs.
+//! Accepted ROAs (RFC 9582 section 5).
 
 ghost use Rattle.std.specs.Prelude.{◌≡◌, ◌++◌, ℕ, [], List, true, IfOk, OnOk};
 ghost use Rattle.crl_obj.specs.Values.{are_rising};
@@ -9,21 +9,21 @@ ghost use Rattle.rp_rules.specs.Certificates.{listed_bytes};
 ghost use Rattle.rp_rules.specs.Points.{Point, is_identified, is_placed, roa_resources, roa_tests, accepted_roa};
 ghost use Rattle.rp_rules.specs.Yield.{yield_of, yielded_of};
 ghost use Rattle.rp_rules.specs.Views.{yielded_value, yielded_values};
-ghost use Rattle.rp_audit.specs.Told.{Tells, Answers, Gives, read_as, answered};
-ghost use Rattle.rp_audit.specs.Views.{setting_of, held_in, authority_value, roa_value};
-ghost use Rattle.rp_audit.specs.Noted.{Sees};
+ghost use Rattle.rp_audit.specs.inner.Told.{Tells, Answers, Gives, read_as, answered};
+ghost use Rattle.rp_audit.specs.inner.Views.{context_of, held_in, authority_value, roa_value};
+ghost use Rattle.rp_audit.specs.inner.Noted.{Sees};
 
 use crate::authorities::{is_revoked, is_valid_at, names_issuer};
 use crate::authority::Authority;
 use crate::bytes::{are_same, is_same, owned};
 use crate::holdings::{have_prefixes, is_held_under};
 use crate::objects::roa_in;
-use crate::places::{file_place, places_issuer};
 use crate::refusal::{AuditRefused, found, keep_all};
 use crate::scene::{Scene, listed_bytes};
-use crate::seen::Seen;
 use crate::signed::ReadRoa;
 use crate::signing::are_vouched;
+use crate::uris::{has_issuer_uris, listed_uri};
+use crate::visited_uris::VisitedUris;
 use cert_obj::Held;
 use crl_obj::CrlEntry;
 use key_ids::KeyId;
@@ -65,7 +65,7 @@ fn is_placed(
 ) -> Result<bool, AllocError>
     ensures { IfOk result (λ yes. yes ≡ is_placed (authority_value issuer.now) uri.now (roa_value r.now)) }
 {
-    let issued = places_issuer(alloc, issuer, &r.certificate.cert)?;
+    let issued = has_issuer_uris(alloc, issuer, &r.certificate.cert)?;
     Ok(issued && is_same(r.certificate.cert.uris.object.as_str(), uri))
 }
 
@@ -85,7 +85,7 @@ fn has_resources(issuer: &Authority, r: &ReadRoa<'_>) -> bool
 fn roa_tests(
     alloc: Global,
     scene: &Scene<'_>,
-    seen: &Seen,
+    visited_uris: &VisitedUris,
     issuer: &Authority,
     revoked: &[CrlEntry],
     uri: &str,
@@ -94,8 +94,8 @@ fn roa_tests(
 ) -> Result<[(Rule, bool); 7], AllocError>
     requires { are_rising revoked.now ≡ true }
     ensures { (p : Point) (visited : List (List ℕ)) → p.authority ≡ authority_value issuer.now
-        → p.crl.entries ≡ revoked.now → Sees visited seen.now → IfOk result (λ tests. tests
-        ≡ answered signed (roa_tests (setting_of scene.now []) p visited uri.now (roa_value r.now))) }
+        → p.crl.entries ≡ revoked.now → Sees visited visited_uris.now → IfOk result (λ tests. tests
+        ≡ answered signed (roa_tests (context_of scene.now []) p visited uri.now (roa_value r.now))) }
 {
     let cert = &r.certificate.cert;
     let placed = is_placed(alloc, issuer, uri, r)?;
@@ -106,37 +106,46 @@ fn roa_tests(
         (Rule::Resources, has_resources(issuer, r)),
         (Rule::Revoked, !is_revoked(revoked, cert.serial)),
         (Rule::Place, placed),
-        (Rule::Depth, !seen.has(uri)),
+        (Rule::Depth, !visited_uris.has(uri)),
     ])
 }
 
-/// A ROA that a point lists and that is accepted.
+/// A ROA that a point lists and that is accepted (RFC 9582 section 5, RFC 6488 section 3).
 pub fn accept_roa<'a, S: Signer>(
     alloc: Global,
     scene: &Scene<'a>,
     ring: &mut Ring<S>,
-    seen: &Seen,
+    visited_uris: &VisitedUris,
     issuer: &Authority,
     revoked: &[CrlEntry],
     file: &ListedFile,
 ) -> Result<ReadRoa<'a>, AuditRefused>
     requires { are_rising revoked.now ≡ true }
     ensures { (p : Point) (visited : List (List ℕ)) → p.authority ≡ authority_value issuer.now
-        → p.crl.entries ≡ revoked.now → Sees visited seen.now → Answers (Gives roa_value)
-        (λ signers. accepted_roa (setting_of scene.now signers) (held_in scene.now) p visited (file_view file.now))
+        → p.crl.entries ≡ revoked.now → Sees visited visited_uris.now → Answers (Gives roa_value)
+        (λ signers. accepted_roa (context_of scene.now signers) (held_in scene.now) p visited (file_view file.now))
         result ring.old ring.new }
 {
-    let place = file_place(alloc, issuer, file.name.as_str())?;
+    let place = listed_uri(alloc, issuer, file.name.as_str())?;
     let uri = place.as_str();
     let roa = read_roa(alloc, scene, uri, file)?;
     let key = &issuer.cert.key;
     let signed = are_vouched(alloc, ring, key, &roa.certificate, &roa.object)?;
-    let tests = roa_tests(alloc, scene, seen, issuer, revoked, uri, &roa, signed)?;
+    let tests = roa_tests(
+        alloc,
+        scene,
+        visited_uris,
+        issuer,
+        revoked,
+        uri,
+        &roa,
+        signed,
+    )?;
     keep_all(alloc, uri, &tests)?;
     Ok(roa)
 }
 
-/// Notes what a ROA yields.
+/// Notes what a ROA yields (RFC 9582 section 4).
 pub fn note_origins(
     alloc: Global,
     origins: &mut Vec<YieldedOrigin>,

@@ -5,8 +5,8 @@ ghost use Rattle.rp_rules.specs.declared.rules.Rule.TheVariants as rule;
 ghost use Rattle.rp_rules.specs.Checks.{found};
 ghost use Rattle.rp_rules.specs.Certificates.{lies_in, listed_bytes};
 ghost use Rattle.payloads.specs.ManifestFormats.{file_view};
-ghost use Rattle.rp_audit.specs.Told.{Tells};
-ghost use Rattle.rp_audit.specs.Views.{held_in};
+ghost use Rattle.rp_audit.specs.inner.Told.{Tells};
+ghost use Rattle.rp_audit.specs.inner.Views.{held_in};
 
 use crate::bytes::are_same;
 use crate::refusal::{AuditRefused, refusal};
@@ -18,7 +18,8 @@ use sha2::{Digest as Hasher, Sha256};
 use signer_api::PublicKey;
 use std::alloc::Global;
 
-/// A set, the site that it is of, the anchor's key, and the moment.
+/// A set, the site that it is of, the anchor's key, and the moment. The moment is in seconds since
+/// 1970.
 #[derive(Clone, Copy)]
 pub struct Scene<'a> {
     pub set: &'a ObjectSet,
@@ -37,7 +38,7 @@ pub fn bytes_at<'a>(alloc: Global, scene: &Scene<'a>, uri: &str) -> Result<&'a [
     }
 }
 
-/// The bytes of a listed file, which have the listed hash.
+/// The bytes of a listed file, which have the listed hash (RFC 9286 sections 6.4 and 6.5).
 pub fn listed_bytes<'a>(
     alloc: Global,
     scene: &Scene<'a>,
@@ -54,7 +55,8 @@ pub fn listed_bytes<'a>(
     Ok(bytes)
 }
 
-/// The moment is neither before the first second nor after the last.
+/// The moment is neither before the first second nor after the last. All three are in seconds since
+/// 1970 (RFC 5280 section 4.1.2.5).
 pub fn lies_in(moment: u64, first: u64, last: u64) -> bool
     ensures { result ≡ lies_in moment first last }
 {

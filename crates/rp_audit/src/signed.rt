@@ -1,4 +1,4 @@
-//! Signed objects that were read.
+//! Signed objects that were read (RFC 6488 section 2).
 
 ghost use Rattle.std.specs.Prelude.{◌≡◌, true};
 ghost use Rattle.crl_obj.specs.Values.{are_rising};

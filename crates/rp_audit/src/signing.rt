@@ -1,7 +1,7 @@
-//! Which signatures are vouched.
+//! Which signatures are vouched (RFC 6488 section 3).
 
 ghost use Rattle.std.specs.Prelude.{◌&&◌, Ok};
-ghost use Rattle.rp_audit.specs.Told.{Answers, IsAnswer};
+ghost use Rattle.rp_audit.specs.inner.Told.{Answers, IsAnswer};
 ghost use Rattle.rp_audit.specs.Vouching.{vouched_in};
 
 use crate::refusal::AuditRefused;

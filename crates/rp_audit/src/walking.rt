@@ -1,10 +1,10 @@
-//! The walk.
+//! The walk (RFC 6487 section 7.2, RFC 9286 section 6).
 
 ghost use Rattle.std.specs.Prelude.{◌≡◌, ◌<◌, ◌+◌, ◌-◌, ◌++◌, ◌∷◌, ℕ, [], List, not, true, false, length, max, option_copied, IfOk, IfErr, OnOk};
 ghost use Rattle.std.specs.List.{find};
 ghost use Rattle.pub_set.specs.Changes.{Contents};
 ghost use Rattle.payloads.specs.ManifestFormats.{name_of, file_view};
-ghost use Rattle.rp_rules.specs.Authorities.{file_place};
+ghost use Rattle.rp_rules.specs.Authorities.{listed_uri};
 ghost use Rattle.rp_rules.specs.Certificates.{is_among};
 ghost use Rattle.rp_rules.specs.Points.{is_certificate_file, other_files};
 ghost use Rattle.rp_rules.specs.Walk.{Visit, Published, Route, visited, visit_file, visit_files, visit_below, walk};
@@ -12,22 +12,22 @@ ghost use Rattle.rp_rules.specs.Yield.{own_serial};
 ghost use Rattle.rp_rules.specs.Views.{point_values};
 ghost use Rattle.rp_rules.specs.Sound.{IsAuditOf};
 ghost use Rattle.rp_audit.specs.Audit.{asking, IsTold, Asks};
-ghost use Rattle.rp_audit.specs.Told.{Answers};
-ghost use Rattle.rp_audit.specs.Views.{setting_of, held_in, authority_value, point_value, roa_value};
-ghost use Rattle.rp_audit.specs.Noted.{Sees, Notes, GoesOn, VisitsFile, VisitsFiles, IsWalk, open_point, closed, visit_authority, visit_roa};
+ghost use Rattle.rp_audit.specs.inner.Told.{Answers};
+ghost use Rattle.rp_audit.specs.inner.Views.{context_of, held_in, authority_value, point_value, roa_value};
+ghost use Rattle.rp_audit.specs.inner.Noted.{Sees, Notes, WalkContinues, VisitsFile, VisitsFiles, IsWalk, open_point, closed, visit_authority, visit_roa};
 
 use crate::authorities::{accept_anchor, accept_authority};
 use crate::authority::Authority;
 use crate::bytes::owned;
 use crate::files::{is_certificate_file, is_crl_file};
 use crate::noted::Noted;
-use crate::places::{crl_place, file_place};
 use crate::points::accept_point;
 use crate::refusal::{AuditRefused, refusal};
 use crate::roas::{accept_roa, note_origins};
 use crate::scene::Scene;
-use crate::seen::Seen;
 use crate::signed::{Listing, ReadRoa};
+use crate::uris::{crl_uri_of, listed_uri};
+use crate::visited_uris::VisitedUris;
 use cert_obj::CertKind;
 use crl_obj::CrlEntry;
 use key_ids::Site;
@@ -74,16 +74,16 @@ fn note_point(
     authority: &Authority,
     listing: &Listing<'_>,
 ) -> Result<(), AllocError>
-    ensures uris { OnOk result ((visits : List Visit) → Sees (visited visits) noted.old.seen
-        → Sees (visited (visits ++ Published (point_value authority.now listing.now) ∷ [])) noted.new.seen) }
+    ensures uris { OnOk result ((visits : List Visit) → Sees (visited visits) noted.old.visited_uris
+        → Sees (visited (visits ++ Published (point_value authority.now listing.now) ∷ [])) noted.new.visited_uris) }
     ensures origins { OnOk result (noted.new.origins.items ≡ noted.old.origins.items) }
     ensures points { OnOk result (point_values noted.new.points.items
         ≡ point_values noted.old.points.items ++ open_point (point_value authority.now listing.now) ∷ []) }
 {
     noted
-        .seen
+        .visited_uris
         .add(owned(alloc, authority.cert.uris.manifest.as_str())?)?;
-    noted.seen.add(crl_place(alloc, authority)?)?;
+    noted.visited_uris.add(crl_uri_of(alloc, authority)?)?;
     noted.points.push(AuditedPoint {
         key: authority.cert.key,
         number: listing.crl.number,
@@ -96,7 +96,7 @@ fn note_point(
 
 /// Notes the greatest serial of the point at a place, if there is one.
 fn close_point(noted: &mut Noted, place: usize, serial: u64)
-    ensures seen { noted.new.seen ≡ noted.old.seen }
+    ensures visited_uris { noted.new.visited_uris ≡ noted.old.visited_uris }
     ensures origins { noted.new.origins ≡ noted.old.origins }
     ensures points { point_values noted.new.points.items ≡ closed place serial (point_values noted.old.points.items) }
 {
@@ -114,12 +114,12 @@ fn note_roa(
     roa: &ReadRoa<'_>,
 ) -> Result<(), AllocError>
     ensures { OnOk result ((held : Contents) (visits : List Visit) → Notes held visits
-        (Route (authority_value authority.now) (file_place (authority_value authority.now) (name_of file.now))
+        (Route (authority_value authority.now) (listed_uri (authority_value authority.now) (name_of file.now))
         (roa_value roa.now) ∷ []) noted.old noted.new) }
 {
     noted
-        .seen
-        .add(file_place(alloc, authority, file.name.as_str())?)?;
+        .visited_uris
+        .add(listed_uri(alloc, authority, file.name.as_str())?)?;
     note_origins(alloc, &mut noted.origins, authority, roa)
 }
 
@@ -134,15 +134,23 @@ fn visit_roa<S: Signer>(
     file: &ListedFile,
 ) -> Result<u64, AuditRefused>
     requires { is_certificate_file (file_view file.now) ≡ false }
-    ensures { (visits : List Visit) → Sees (visited visits) noted.old.seen → Answers
+    ensures { (visits : List Visit) → Sees (visited visits) noted.old.visited_uris → Answers
         (λ serial m. VisitsFile (held_in scene.now) (point_value authority.now listing.now) (file_view file.now) visits
         noted.old noted.new serial m)
-        (λ signers. visit_roa (setting_of scene.now signers) (held_in scene.now)
+        (λ signers. visit_roa (context_of scene.now signers) (held_in scene.now)
         (point_value authority.now listing.now) (file_view file.now) visits)
         result ring.old ring.new }
 {
     let entries = listing.crl.entries.as_slice();
-    let roa = accept_roa(alloc, scene, ring, &noted.seen, authority, entries, file)?;
+    let roa = accept_roa(
+        alloc,
+        scene,
+        ring,
+        &noted.visited_uris,
+        authority,
+        entries,
+        file,
+    )?;
     note_roa(alloc, noted, authority, file, &roa)?;
     Ok(roa.certificate.cert.serial)
 }
@@ -160,17 +168,25 @@ fn visit_authority<S: Signer>(
     levels: u32,
 ) -> Result<u64, AuditRefused>
     requires { is_certificate_file (file_view file.now) ≡ true }
-    ensures { (visits : List Visit) → Sees (visited visits) noted.old.seen → Answers
+    ensures { (visits : List Visit) → Sees (visited visits) noted.old.visited_uris → Answers
         (λ serial m. VisitsFile (held_in scene.now) (point_value authority.now listing.now) (file_view file.now) visits
         noted.old noted.new serial m)
-        (λ signers. visit_authority (setting_of scene.now signers) (held_in scene.now)
-        (visit_below levels (setting_of scene.now signers) (held_in scene.now))
+        (λ signers. visit_authority (context_of scene.now signers) (held_in scene.now)
+        (visit_below levels (context_of scene.now signers) (held_in scene.now))
         (point_value authority.now listing.now) (file_view file.now) visits)
         result ring.old ring.new }
 {
     let entries = listing.crl.entries.as_slice();
-    let child = accept_authority(alloc, scene, ring, &noted.seen, authority, entries, file)?;
-    noted.seen.add(owned(alloc, child.uri.as_str())?)?;
+    let child = accept_authority(
+        alloc,
+        scene,
+        ring,
+        &noted.visited_uris,
+        authority,
+        entries,
+        file,
+    )?;
+    noted.visited_uris.add(owned(alloc, child.uri.as_str())?)?;
     visit_below(alloc, scene, ring, noted, &child, levels)?;
     Ok(child.cert.serial)
 }
@@ -187,11 +203,11 @@ fn visit_file<S: Signer>(
     file: &ListedFile,
     levels: u32,
 ) -> Result<u64, AuditRefused>
-    ensures { (visits : List Visit) → Sees (visited visits) noted.old.seen → Answers
+    ensures { (visits : List Visit) → Sees (visited visits) noted.old.visited_uris → Answers
         (λ serial m. VisitsFile (held_in scene.now) (point_value authority.now listing.now) (file_view file.now) visits
         noted.old noted.new serial m)
-        (λ signers. visit_file (setting_of scene.now signers) (held_in scene.now)
-        (visit_below levels (setting_of scene.now signers) (held_in scene.now))
+        (λ signers. visit_file (context_of scene.now signers) (held_in scene.now)
+        (visit_below levels (context_of scene.now signers) (held_in scene.now))
         (point_value authority.now listing.now) (file_view file.now) visits)
         result ring.old ring.new }
 {
@@ -212,11 +228,11 @@ fn visit_files<S: Signer>(
     listing: &Listing<'_>,
     levels: u32,
 ) -> Result<u64, AuditRefused>
-    ensures { (visits : List Visit) → Sees (visited visits) noted.old.seen → Answers
+    ensures { (visits : List Visit) → Sees (visited visits) noted.old.visited_uris → Answers
         (λ serial m. VisitsFiles (held_in scene.now) (point_value authority.now listing.now) visits noted.old noted.new
         serial m)
-        (λ signers. visit_files (setting_of scene.now signers) (held_in scene.now)
-        (visit_below levels (setting_of scene.now signers) (held_in scene.now))
+        (λ signers. visit_files (context_of scene.now signers) (held_in scene.now)
+        (visit_below levels (context_of scene.now signers) (held_in scene.now))
         (point_value authority.now listing.now) (other_files (point_value authority.now listing.now)) visits)
         result ring.old ring.new }
 {
@@ -241,16 +257,16 @@ fn visit_below<S: Signer>(
     authority: &Authority,
     levels: u32,
 ) -> Result<(), AuditRefused>
-    ensures { (visits : List Visit) → Sees (visited visits) noted.old.seen → Answers
-        (λ _ m. GoesOn (held_in scene.now) visits noted.old noted.new m)
-        (λ signers. visit_below levels (setting_of scene.now signers) (held_in scene.now)
+    ensures { (visits : List Visit) → Sees (visited visits) noted.old.visited_uris → Answers
+        (λ _ m. WalkContinues (held_in scene.now) visits noted.old noted.new m)
+        (λ signers. visit_below levels (context_of scene.now signers) (held_in scene.now)
         (authority_value authority.now) visits)
         result ring.old ring.new }
 {
     if levels == 0 {
         return Err(refusal(alloc, authority.uri.as_str(), Rule::Depth));
     }
-    let listing = accept_point(alloc, scene, ring, &noted.seen, authority)?;
+    let listing = accept_point(alloc, scene, ring, &noted.visited_uris, authority)?;
     let place = noted.points.len();
     note_point(alloc, noted, authority, &listing)?;
     let serial = visit_files(alloc, scene, ring, noted, authority, &listing, levels - 1)?;
@@ -265,22 +281,22 @@ fn walk<S: Signer>(
     ring: &mut Ring<S>,
 ) -> Result<Noted, AuditRefused>
     ensures { Answers (λ noted m. IsWalk (held_in scene.now) noted m)
-        (λ signers. walk (setting_of scene.now signers) (held_in scene.now)) result ring.old ring.new }
+        (λ signers. walk (context_of scene.now signers) (held_in scene.now)) result ring.old ring.new }
 {
     let anchor = accept_anchor(alloc, scene, ring)?;
     let mut noted = Noted::new(alloc);
-    noted.seen.add(owned(alloc, anchor.uri.as_str())?)?;
+    noted.visited_uris.add(owned(alloc, anchor.uri.as_str())?)?;
     visit_below(alloc, scene, ring, &mut noted, &anchor, 65)?;
     Ok(noted)
 }
 
 /// The first object that wasn't visited.
-fn first_unseen<'a>(objects: &'a [Object], seen: &Seen) -> Option<&'a Object>
-    ensures { (uris : List (List ℕ)) → Sees uris seen.now
+fn first_unseen<'a>(objects: &'a [Object], visited_uris: &VisitedUris) -> Option<&'a Object>
+    ensures { (uris : List (List ℕ)) → Sees uris visited_uris.now
         → option_copied result ≡ find (λ o. not (is_among uris o.uri)) objects.now }
 {
     for object in objects {
-        if !seen.has(object.uri.as_str()) {
+        if !visited_uris.has(object.uri.as_str()) {
             return Some(object);
         }
     }
@@ -290,6 +306,7 @@ fn first_unseen<'a>(objects: &'a [Object], seen: &Seen) -> Option<&'a Object>
 /// What a sound set yields, or why it isn't sound.
 ///
 /// The objects are looked at by the rules of `rp_rules`. Each signature is put to the signers of the ring.
+/// `moment` is in seconds since 1970.
 pub fn audit<S: Signer>(
     alloc: Global,
     set: &ObjectSet,
@@ -317,7 +334,7 @@ pub fn audit<S: Signer>(
     };
     let noted = walk(alloc, &scene, ring)?;
     let objects = set.as_slice();
-    if let Some(object) = first_unseen(objects, &noted.seen) {
+    if let Some(object) = first_unseen(objects, &noted.visited_uris) {
         let uri = owned(alloc, object.uri.as_str())?;
         return Err(AuditRefused::Unreached { uri });
     }

@@ -6,7 +6,7 @@ use Rattle.std.proofs.lemmas.List.Elements.{Contains-append_left, Contains-appen
 use Rattle.pub_set.specs.declared.objects.Object.{Object}
 use Rattle.pub_set.specs.Objects.{content_at}
 use Rattle.pub_set.specs.Changes.{Contents}
-use Rattle.key_ids.specs.Places.{anchor_uri}
+use Rattle.key_ids.specs.Uris.{anchor_uri}
 use Rattle.cert_obj.specs.Values.{CertValue, SignedCert}
 use Rattle.crl_obj.specs.declared.values.CrlEntry.{CrlEntry}
 use Rattle.crl_obj.specs.Values.{CrlValue, SignedCrl}
@@ -14,12 +14,12 @@ use Rattle.rp_rules.specs.declared.rules.Rule.{Rule}
 use Rattle.rp_rules.specs.declared.rules.Rule.TheVariants as rule
 use Rattle.rp_rules.specs.Checks.{Checked, Test, ◌>>=◌, tested, found}
 use Rattle.rp_rules.specs.Objects.{Signed, SignedManifest, SignedRoa, such, certificate_in, is_anchors, is_authoritys, crl_in, manifest_in, roa_in}
-use Rattle.rp_rules.specs.Authorities.{Authority, file_place, manifest_place}
-use Rattle.rp_rules.specs.Certificates.{Setting, Vouched, vouching, File, anchor_tests, anchor_of, accepted_anchor, listed_bytes, authority_tests, authority_of, accepted_authority}
+use Rattle.rp_rules.specs.Authorities.{Authority, listed_uri, manifest_place}
+use Rattle.rp_rules.specs.Certificates.{WalkContext, Vouched, vouching, File, anchor_tests, anchor_of, accepted_anchor, listed_bytes, authority_tests, authority_of, accepted_authority}
 use Rattle.rp_rules.specs.Points.{Point, is_signed, is_crl_file, first_of, files_of, crl_file, other_files, manifest_tests, accepted_manifest, crl_tests, accepted_crl, point_tests, accepted_point, roa_tests, accepted_roa, is_certificate_file}
 use Rattle.rp_rules.specs.Walk.{Visit, Certificate, Published, Route, Below, visited, visit_file, visit_files, visit_below, walk}
 use Rattle.rp_rules.specs.Asked.{Asked, asked, of_certificate, of_crl, of_signed, asked_of, asked_if, asked_at, files_if, files_in, published, asked_under, IsThere, IsAsked, SaysSame}
-use Rattle.rp_rules.proofs.Lists.{none, here, there, first-or-rest}
+use Rattle.items.specs.laws.ElementLaws.{none, here, there, first-or-rest}
 use Rattle.rp_rules.proofs.Kept.{bind-ok, tested-ok, found-ok, read-ok, listed-ok}
 
 -- ---- checks
@@ -140,15 +140,15 @@ record IsManifestOf (held : Contents) (a : Authority) (m : SignedManifest) : Typ
   there : held (manifest_place a) ≡ Some bytes
   says : manifest_in bytes ≡ Some m
 
-file-published : (held : Contents) (a : Authority) (m : SignedManifest) (file : File) → IsManifestOf held a m → Contains (files_of m.body) file → Contains (published held a.cert) (file_place a file.0)
+file-published : (held : Contents) (a : Authority) (m : SignedManifest) (file : File) → IsManifestOf held a m → Contains (files_of m.body) file → Contains (published held a.cert) (listed_uri a file.0)
 file-published held a m file is listed =
     let files : Contains (files_in (held a.cert.uris.manifest)) file =
     subst (λ (o : Option (List ℕ)). Contains (files_in o) file) (sym is.there) (subst (λ (o : Option SignedManifest). Contains (files_if o) file) (sym is.says) listed) in
-    there a.cert.uris.manifest (map (λ (f : File). a.cert.uris.folder ++ f.0) (files_in (held a.cert.uris.manifest))) (file_place a file.0)
+    there a.cert.uris.manifest (map (λ (f : File). a.cert.uris.folder ++ f.0) (files_in (held a.cert.uris.manifest))) (listed_uri a file.0)
     (in-map (λ (f : File). a.cert.uris.folder ++ f.0) (files_in (held a.cert.uris.manifest)) file files)
 
 -- What is asked under an authority's key of the bytes at a published URI.
-asked-there : (s : Setting) (held : Contents) (a : Authority) (uri bytes : List ℕ) (x : Asked) → IsKnown held a → Contains (published held a.cert) uri → held uri ≡ Some bytes → Contains (asked_of a.cert.key bytes) x → IsAsked s held x
+asked-there : (s : WalkContext) (held : Contents) (a : Authority) (uri bytes : List ℕ) (x : Asked) → IsKnown held a → Contains (published held a.cert) uri → held uri ≡ Some bytes → Contains (asked_of a.cert.key bytes) x → IsAsked s held x
 asked-there s held a uri bytes x known there-published there-bytes c =
     let at : Contains (asked_at held a.cert.key uri) x = subst (λ (o : Option (List ℕ)). Contains (asked_if a.cert.key o) x) (sym there-bytes) c in
     let under : Contains (asked_under held a.cert) x = in-flat (asked_at held a.cert.key) (published held a.cert) uri x there-published at in
@@ -156,14 +156,14 @@ asked-there s held a uri bytes x known there-published there-bytes c =
 
 -- ---- objects
 
-signed-same : {Body : Type 0} (s : Setting) (other : Vouched) (held : Contents) (a : Authority) (uri bytes : List ℕ) (x : Signed Body) → SaysSame s other held → IsKnown held a → Contains (published held a.cert) uri → held uri ≡ Some bytes → BothIn (asked_of a.cert.key bytes) a.cert.key x
+signed-same : {Body : Type 0} (s : WalkContext) (other : Vouched) (held : Contents) (a : Authority) (uri bytes : List ℕ) (x : Signed Body) → SaysSame s other held → IsKnown held a → Contains (published held a.cert) uri → held uri ≡ Some bytes → BothIn (asked_of a.cert.key bytes) a.cert.key x
     → is_signed (vouching s other) a x ≡ is_signed s a x
 signed-same s other held a uri bytes x says known in-place there-bytes both =
     ap₂ (λ (p q : Bool). p && q)
     (says (asked a.cert.key x.certificate.digest x.certificate.signature) (asked-there s held a uri bytes (asked a.cert.key x.certificate.digest x.certificate.signature) known in-place there-bytes both.outer))
     (says (asked x.certificate.cert.key x.object.digest x.object.signature) (asked-there s held a uri bytes (asked x.certificate.cert.key x.object.digest x.object.signature) known in-place there-bytes both.inner))
 
-anchor-same : (s : Setting) (other : Vouched) (held : Contents) → SaysSame s other held → accepted_anchor (vouching s other) held ≡ accepted_anchor s held
+anchor-same : (s : WalkContext) (other : Vouched) (held : Contents) → SaysSame s other held → accepted_anchor (vouching s other) held ≡ accepted_anchor s held
 unfolding accepted_anchor
 anchor-same s other held says =
     let uri = anchor_uri s.bases in
@@ -173,16 +173,16 @@ anchor-same s other held says =
     (in-certificate s.anchor bytes c (such-ok is_anchors (certificate_in bytes) c reads)) in
     ap (λ (b : Bool). (rule.Signature, b) ∷ tail (anchor_tests s c)) (says (asked s.anchor c.digest c.signature) (inl first)))
 
-authority-same : (s : Setting) (other : Vouched) (held : Contents) (issuer : Authority) (revoked : List CrlEntry) (seen : List (List ℕ)) (file : File) → SaysSame s other held → IsKnown held issuer → Contains (published held issuer.cert) (file_place issuer file.0)
+authority-same : (s : WalkContext) (other : Vouched) (held : Contents) (issuer : Authority) (revoked : List CrlEntry) (seen : List (List ℕ)) (file : File) → SaysSame s other held → IsKnown held issuer → Contains (published held issuer.cert) (listed_uri issuer file.0)
     → accepted_authority (vouching s other) held issuer revoked seen file ≡ accepted_authority s held issuer revoked seen file
 unfolding accepted_authority
 authority-same s other held issuer revoked seen file says known in-place =
-    let uri = file_place issuer file.0 in
+    let uri = listed_uri issuer file.0 in
     read-same (listed_bytes held uri file) uri rule.Shape (λ bytes. such is_authoritys (certificate_in bytes)) (authority_tests s issuer revoked seen uri) (authority_tests (vouching s other) issuer revoked seen uri) (authority_of issuer uri)
     (λ bytes e c reads. ap (λ (b : Bool). (rule.Signature, b) ∷ tail (authority_tests s issuer revoked seen uri c)) (says (asked issuer.cert.key c.digest c.signature)
     (asked-there s held issuer uri bytes (asked issuer.cert.key c.digest c.signature) known in-place (listed-ok held uri file bytes e).0 (in-certificate issuer.cert.key bytes c (such-ok is_authoritys (certificate_in bytes) c reads)))))
 
-manifest-same : (s : Setting) (other : Vouched) (held : Contents) (a : Authority) (seen : List (List ℕ)) → SaysSame s other held → IsKnown held a → accepted_manifest (vouching s other) held a seen ≡ accepted_manifest s held a seen
+manifest-same : (s : WalkContext) (other : Vouched) (held : Contents) (a : Authority) (seen : List (List ℕ)) → SaysSame s other held → IsKnown held a → accepted_manifest (vouching s other) held a seen ≡ accepted_manifest s held a seen
 unfolding accepted_manifest
 manifest-same s other held a seen says known =
     let uri = manifest_place a in
@@ -190,27 +190,27 @@ manifest-same s other held a seen says known =
     (λ bytes e m reads. ap (λ (b : Bool). (rule.Signature, b) ∷ tail (manifest_tests s a seen m))
     (signed-same s other held a uri bytes m says known (here uri (map (λ (f : File). a.cert.uris.folder ++ f.0) (files_in (held a.cert.uris.manifest)))) (found-ok uri rule.Missing (held uri) bytes e) (in-manifest a.cert.key bytes m reads)))
 
-crl-same : (s : Setting) (other : Vouched) (held : Contents) (a : Authority) (seen : List (List ℕ)) (file : File) → SaysSame s other held → IsKnown held a → Contains (published held a.cert) (file_place a file.0)
+crl-same : (s : WalkContext) (other : Vouched) (held : Contents) (a : Authority) (seen : List (List ℕ)) (file : File) → SaysSame s other held → IsKnown held a → Contains (published held a.cert) (listed_uri a file.0)
     → accepted_crl (vouching s other) held a seen file ≡ accepted_crl s held a seen file
 unfolding accepted_crl
 crl-same s other held a seen file says known in-place =
-    let uri = file_place a file.0 in
+    let uri = listed_uri a file.0 in
     read-same (listed_bytes held uri file) uri rule.Shape crl_in (crl_tests s a seen uri) (crl_tests (vouching s other) a seen uri) (λ c. c.crl)
     (λ bytes e c reads. ap (λ (b : Bool). (rule.Signature, b) ∷ tail (crl_tests s a seen uri c)) (says (asked a.cert.key c.digest c.signature)
     (asked-there s held a uri bytes (asked a.cert.key c.digest c.signature) known in-place (listed-ok held uri file bytes e).0 (in-crl a.cert.key bytes c reads))))
 
-roa-same : (s : Setting) (other : Vouched) (held : Contents) (p : Point) (seen : List (List ℕ)) (file : File) → SaysSame s other held → IsKnown held p.authority → Contains (published held p.authority.cert) (file_place p.authority file.0)
+roa-same : (s : WalkContext) (other : Vouched) (held : Contents) (p : Point) (seen : List (List ℕ)) (file : File) → SaysSame s other held → IsKnown held p.authority → Contains (published held p.authority.cert) (listed_uri p.authority file.0)
     → accepted_roa (vouching s other) held p seen file ≡ accepted_roa s held p seen file
 unfolding accepted_roa
 roa-same s other held p seen file says known in-place =
-    let uri = file_place p.authority file.0 in
+    let uri = listed_uri p.authority file.0 in
     read-same (listed_bytes held uri file) uri rule.Shape roa_in (roa_tests s p seen uri) (roa_tests (vouching s other) p seen uri) (λ r. r)
     (λ bytes e r reads. ap (λ (b : Bool). (rule.Signature, b) ∷ tail (roa_tests s p seen uri r))
     (signed-same s other held p.authority uri bytes r says known in-place (listed-ok held uri file bytes e).0 (in-roa p.authority.cert.key bytes r reads)))
 
 -- ---- points
 
-manifest-there : (s : Setting) (held : Contents) (a : Authority) (seen : List (List ℕ)) (m : SignedManifest) → accepted_manifest s held a seen ≡ Ok m → IsManifestOf held a m
+manifest-there : (s : WalkContext) (held : Contents) (a : Authority) (seen : List (List ℕ)) (m : SignedManifest) → accepted_manifest s held a seen ≡ Ok m → IsManifestOf held a m
 unfolding accepted_manifest
 manifest-there s held a seen m e =
     let uri = manifest_place a in
@@ -220,13 +220,13 @@ manifest-there s held a seen m e =
 abbrev made : Authority → SignedManifest → CrlValue → Checked Point
 made a m crl = tested (manifest_place a) (point_tests m crl) (record { authority = a; manifest = m; crl = crl })
 
-abbrev behind-list : Setting → Contents → Authority → List (List ℕ) → SignedManifest → File → Checked Point
+abbrev behind-list : WalkContext → Contents → Authority → List (List ℕ) → SignedManifest → File → Checked Point
 behind-list s held a seen m file = accepted_crl s held a (seen ++ manifest_place a ∷ []) file >>= made a m
 
-abbrev behind-manifest : Setting → Contents → Authority → List (List ℕ) → SignedManifest → Checked Point
+abbrev behind-manifest : WalkContext → Contents → Authority → List (List ℕ) → SignedManifest → Checked Point
 behind-manifest s held a seen m = found (manifest_place a) rule.List (crl_file m.body) >>= behind-list s held a seen m
 
-point-same : (s : Setting) (other : Vouched) (held : Contents) (a : Authority) (seen : List (List ℕ)) → SaysSame s other held → IsKnown held a → accepted_point (vouching s other) held a seen ≡ accepted_point s held a seen
+point-same : (s : WalkContext) (other : Vouched) (held : Contents) (a : Authority) (seen : List (List ℕ)) → SaysSame s other held → IsKnown held a → accepted_point (vouching s other) held a seen ≡ accepted_point s held a seen
 unfolding accepted_point
 point-same s other held a seen says known =
     bind-same (accepted_manifest s held a seen) (accepted_manifest (vouching s other) held a seen) (behind-manifest s held a seen) (behind-manifest (vouching s other) held a seen)
@@ -241,7 +241,7 @@ record IsPoint (held : Contents) (a : Authority) (p : Point) : Type 0 where
   above : p.authority ≡ a
   manifest : IsManifestOf held a p.manifest
 
-point-there : (s : Setting) (held : Contents) (a : Authority) (seen : List (List ℕ)) (p : Point) → accepted_point s held a seen ≡ Ok p → IsPoint held a p
+point-there : (s : WalkContext) (held : Contents) (a : Authority) (seen : List (List ℕ)) (p : Point) → accepted_point s held a seen ≡ Ok p → IsPoint held a p
 unfolding accepted_point
 point-there s held a seen p e =
     let m = bind-ok (accepted_manifest s held a seen) (behind-manifest s held a seen) p e in
@@ -252,10 +252,10 @@ point-there s held a seen p e =
 
 -- ---- the walk
 
-child-known : (s : Setting) (held : Contents) (issuer : Authority) (revoked : List CrlEntry) (seen : List (List ℕ)) (file : File) (child : Authority) → accepted_authority s held issuer revoked seen file ≡ Ok child → IsKnown held child
+child-known : (s : WalkContext) (held : Contents) (issuer : Authority) (revoked : List CrlEntry) (seen : List (List ℕ)) (file : File) (child : Authority) → accepted_authority s held issuer revoked seen file ≡ Ok child → IsKnown held child
 unfolding accepted_authority
 child-known s held issuer revoked seen file child e =
-    let uri = file_place issuer file.0 in
+    let uri = listed_uri issuer file.0 in
     let one = read-ok (listed_bytes held uri file) uri rule.Shape (λ bytes. such is_authoritys (certificate_in bytes)) (authority_tests s issuer revoked seen uri) (authority_of issuer uri) child e in
     record {
       cert = one.2;
@@ -263,7 +263,7 @@ child-known s held issuer revoked seen file child e =
       same = ap (λ (a : Authority). a.cert) one.4;
     }
 
-anchor-known : (s : Setting) (held : Contents) (anchor : Authority) → accepted_anchor s held ≡ Ok anchor → IsKnown held anchor
+anchor-known : (s : WalkContext) (held : Contents) (anchor : Authority) → accepted_anchor s held ≡ Ok anchor → IsKnown held anchor
 unfolding accepted_anchor
 anchor-known s held anchor e =
     let uri = anchor_uri s.bases in
@@ -278,23 +278,23 @@ anchor-known s held anchor e =
 abbrev GoesAlike : Contents → Below → Below → Type 0
 GoesAlike held below other = (a : Authority) (visits : List Visit) → IsKnown held a → other a visits ≡ below a visits
 
-file-same : (s : Setting) (other : Vouched) (held : Contents) (below below' : Below) (p : Point) (file : File) (visits : List Visit) → SaysSame s other held → GoesAlike held below below' → IsKnown held p.authority → Contains (published held p.authority.cert) (file_place p.authority file.0)
+file-same : (s : WalkContext) (other : Vouched) (held : Contents) (below below' : Below) (p : Point) (file : File) (visits : List Visit) → SaysSame s other held → GoesAlike held below below' → IsKnown held p.authority → Contains (published held p.authority.cert) (listed_uri p.authority file.0)
     → visit_file (vouching s other) held below' p file visits ≡ visit_file s held below p file visits
 unfolding visit_file
 file-same s other held below below' p file visits says alike known in-place =
     either-same (is_certificate_file file)
     (accepted_authority s held p.authority p.crl.entries (visited visits) file >>= (λ a. below a (visits ++ Certificate a ∷ [])))
     (accepted_authority (vouching s other) held p.authority p.crl.entries (visited visits) file >>= (λ a. below' a (visits ++ Certificate a ∷ [])))
-    (accepted_roa s held p (visited visits) file >>= (λ roa. Ok (visits ++ Route p.authority (file_place p.authority file.0) roa ∷ [])))
-    (accepted_roa (vouching s other) held p (visited visits) file >>= (λ roa. Ok (visits ++ Route p.authority (file_place p.authority file.0) roa ∷ [])))
+    (accepted_roa s held p (visited visits) file >>= (λ roa. Ok (visits ++ Route p.authority (listed_uri p.authority file.0) roa ∷ [])))
+    (accepted_roa (vouching s other) held p (visited visits) file >>= (λ roa. Ok (visits ++ Route p.authority (listed_uri p.authority file.0) roa ∷ [])))
     (bind-same (accepted_authority s held p.authority p.crl.entries (visited visits) file) (accepted_authority (vouching s other) held p.authority p.crl.entries (visited visits) file)
     (λ a. below a (visits ++ Certificate a ∷ [])) (λ a. below' a (visits ++ Certificate a ∷ []))
     (authority-same s other held p.authority p.crl.entries (visited visits) file says known in-place)
     (λ a e. alike a (visits ++ Certificate a ∷ []) (child-known s held p.authority p.crl.entries (visited visits) file a e)))
-    (ap (λ m. m >>= (λ roa. Ok (visits ++ Route p.authority (file_place p.authority file.0) roa ∷ []))) (roa-same s other held p (visited visits) file says known in-place))
+    (ap (λ m. m >>= (λ roa. Ok (visits ++ Route p.authority (listed_uri p.authority file.0) roa ∷ []))) (roa-same s other held p (visited visits) file says known in-place))
 
-files-same : (s : Setting) (other : Vouched) (held : Contents) (below below' : Below) (p : Point) (files : List File) (visits : List Visit) → SaysSame s other held → GoesAlike held below below' → IsKnown held p.authority
-    → ((file : File) → Contains files file → Contains (published held p.authority.cert) (file_place p.authority file.0))
+files-same : (s : WalkContext) (other : Vouched) (held : Contents) (below below' : Below) (p : Point) (files : List File) (visits : List Visit) → SaysSame s other held → GoesAlike held below below' → IsKnown held p.authority
+    → ((file : File) → Contains files file → Contains (published held p.authority.cert) (listed_uri p.authority file.0))
     → visit_files (vouching s other) held below' p files visits ≡ visit_files s held below p files visits
 unfolding visit_files
 files-same s other held below below' p [] visits says alike known places = refl
@@ -303,7 +303,7 @@ files-same s other held below below' p (file ∷ files) visits says alike known 
     (file-same s other held below below' p file visits says alike known (places file (here file files)))
     (λ next e. files-same s other held below below' p files next says alike known (λ f c. places f (there file files f c)))
 
-below-same : (levels : ℕ) (s : Setting) (other : Vouched) (held : Contents) → SaysSame s other held → GoesAlike held (visit_below levels s held) (visit_below levels (vouching s other) held)
+below-same : (levels : ℕ) (s : WalkContext) (other : Vouched) (held : Contents) → SaysSame s other held → GoesAlike held (visit_below levels s held) (visit_below levels (vouching s other) held)
 unfolding visit_below
 below-same zero s other held says a visits known = refl
 below-same (suc levels) s other held says a visits known =
@@ -318,7 +318,7 @@ below-same (suc levels) s other held says a visits known =
     (subst (λ (b : Authority). IsKnown held b) (sym is.above) known)
     (λ file c. file-published held p.authority p.manifest file manifest (part-of (λ (f : File). not (is_crl_file f)) (files_of p.manifest.body) file c)))
 
-walk-same : (s : Setting) (other : Vouched) (held : Contents) → SaysSame s other held → walk (vouching s other) held ≡ walk s held
+walk-same : (s : WalkContext) (other : Vouched) (held : Contents) → SaysSame s other held → walk (vouching s other) held ≡ walk s held
 unfolding walk
 walk-same s other held says =
     bind-same (accepted_anchor s held) (accepted_anchor (vouching s other) held)
@@ -326,5 +326,5 @@ walk-same s other held says =
     (anchor-same s other held says)
     (λ anchor e. below-same 65 s other held says anchor (Certificate anchor ∷ []) (anchor-known s held anchor e))
 
-pub same_walk : (s : Setting) (other : Vouched) (objects : List Object) → SaysSame s other (content_at objects) → walk (vouching s other) (content_at objects) ≡ walk s (content_at objects)
+pub same_walk : (s : WalkContext) (other : Vouched) (objects : List Object) → SaysSame s other (content_at objects) → walk (vouching s other) (content_at objects) ≡ walk s (content_at objects)
 same_walk s other objects says = walk-same s other (content_at objects) says

@@ -10,8 +10,8 @@ use Rattle.rp_rules.specs.declared.rules.Rule.{Rule}
 use Rattle.rp_rules.specs.declared.rules.Rule.TheVariants as rule
 use Rattle.rp_rules.specs.Checks.{Refused, Checked, Test, ◌>>=◌, tested, found}
 use Rattle.rp_rules.specs.Objects.{SignedManifest, SignedRoa, such, certificate_in, is_authoritys, crl_in, manifest_in, roa_in}
-use Rattle.rp_rules.specs.Authorities.{Authority, file_place, crl_place, manifest_place}
-use Rattle.rp_rules.specs.Certificates.{Setting, File, is_among, listed_bytes, authority_tests, authority_of, accepted_authority}
+use Rattle.rp_rules.specs.Authorities.{Authority, listed_uri, crl_uri_of, manifest_place}
+use Rattle.rp_rules.specs.Certificates.{WalkContext, File, is_among, listed_bytes, authority_tests, authority_of, accepted_authority}
 use Rattle.rp_rules.specs.Points.{Point, is_list, manifest_tests, accepted_manifest, crl_tests, accepted_crl, point_tests, accepted_point, roa_tests, accepted_roa, crl_file}
 use Rattle.rp_rules.proofs.Lists.{same-bytes, not-true}
 
@@ -72,32 +72,32 @@ listed-ok held uri file bytes e =
 new-file : (held : Contents) (seen : List (List ℕ)) (uri : List ℕ) (file : File) (bytes : List ℕ) → listed_bytes held uri file ≡ Ok bytes → is_among seen uri ≡ false → IsNew held seen uri file
 new-file held seen uri file bytes e new = let one = listed-ok held uri file bytes e in record { bytes = bytes; there = one.0; hash = one.1; new = new }
 
-pub authority-ok : (s : Setting) (held : Contents) (issuer : Authority) (revoked : List CrlEntry) (seen : List (List ℕ)) (file : File) (child : Authority)
-    → accepted_authority s held issuer revoked seen file ≡ Ok child → IsNew held seen (file_place issuer file.0) file × (child.uri ≡ file_place issuer file.0)
+pub authority-ok : (s : WalkContext) (held : Contents) (issuer : Authority) (revoked : List CrlEntry) (seen : List (List ℕ)) (file : File) (child : Authority)
+    → accepted_authority s held issuer revoked seen file ≡ Ok child → IsNew held seen (listed_uri issuer file.0) file × (child.uri ≡ listed_uri issuer file.0)
 unfolding accepted_authority
 authority-ok s held issuer revoked seen file child e =
-    let uri = file_place issuer file.0 in
+    let uri = listed_uri issuer file.0 in
     let one = read-ok (listed_bytes held uri file) uri rule.Shape (λ bytes. such is_authoritys (certificate_in bytes)) (authority_tests s issuer revoked seen uri) (authority_of issuer uri) child e in
     (new-file held seen uri file one.0 one.1 (not-true (is_among seen uri) one.5.1.1.1.1.1.1.0), ap (λ (a : Authority). a.uri) (sym one.4))
 
-pub roa-ok : (s : Setting) (held : Contents) (p : Point) (seen : List (List ℕ)) (file : File) (roa : SignedRoa) → accepted_roa s held p seen file ≡ Ok roa → IsNew held seen (file_place p.authority file.0) file
+pub roa-ok : (s : WalkContext) (held : Contents) (p : Point) (seen : List (List ℕ)) (file : File) (roa : SignedRoa) → accepted_roa s held p seen file ≡ Ok roa → IsNew held seen (listed_uri p.authority file.0) file
 unfolding accepted_roa
 roa-ok s held p seen file roa e =
-    let uri = file_place p.authority file.0 in
+    let uri = listed_uri p.authority file.0 in
     let one = read-ok (listed_bytes held uri file) uri rule.Shape roa_in (roa_tests s p seen uri) (λ r. r) roa e in
     new-file held seen uri file one.0 one.1 (not-true (is_among seen uri) one.5.1.1.1.1.1.1.0)
 
-crl-ok : (s : Setting) (held : Contents) (authority : Authority) (seen : List (List ℕ)) (file : File) (crl : CrlValue)
-    → accepted_crl s held authority seen file ≡ Ok crl → IsNew held seen (file_place authority file.0) file × (file_place authority file.0 ≡ crl_place authority)
+crl-ok : (s : WalkContext) (held : Contents) (authority : Authority) (seen : List (List ℕ)) (file : File) (crl : CrlValue)
+    → accepted_crl s held authority seen file ≡ Ok crl → IsNew held seen (listed_uri authority file.0) file × (listed_uri authority file.0 ≡ crl_uri_of authority)
 unfolding accepted_crl
 crl-ok s held authority seen file crl e =
-    let uri = file_place authority file.0 in
+    let uri = listed_uri authority file.0 in
     let one = read-ok (listed_bytes held uri file) uri rule.Shape crl_in (crl_tests s authority seen uri) (λ c. c.crl) crl e in
-    (new-file held seen uri file one.0 one.1 (not-true (is_among seen uri) one.5.1.1.1.1.0), same-bytes uri (crl_place authority) one.5.1.1.1.0)
+    (new-file held seen uri file one.0 one.1 (not-true (is_among seen uri) one.5.1.1.1.1.0), same-bytes uri (crl_uri_of authority) one.5.1.1.1.0)
 
 -- ---- points
 
-manifest-ok : (s : Setting) (held : Contents) (authority : Authority) (seen : List (List ℕ)) (m : SignedManifest) → accepted_manifest s held authority seen ≡ Ok m → (is_list authority m.body ≡ true) × (is_among seen (manifest_place authority) ≡ false)
+manifest-ok : (s : WalkContext) (held : Contents) (authority : Authority) (seen : List (List ℕ)) (m : SignedManifest) → accepted_manifest s held authority seen ≡ Ok m → (is_list authority m.body ≡ true) × (is_among seen (manifest_place authority) ≡ false)
 unfolding accepted_manifest
 manifest-ok s held authority seen m e =
     let uri = manifest_place authority in
@@ -112,8 +112,8 @@ pub record IsPointOf (held : Contents) (authority : Authority) (seen : List (Lis
   pub new : is_among seen (manifest_place authority) ≡ false
   pub file : File
   pub first : crl_file p.manifest.body ≡ Some file
-  pub crl : IsNew held (seen ++ manifest_place authority ∷ []) (file_place authority file.0) file
-  pub place : file_place authority file.0 ≡ crl_place authority
+  pub crl : IsNew held (seen ++ manifest_place authority ∷ []) (listed_uri authority file.0) file
+  pub place : listed_uri authority file.0 ≡ crl_uri_of authority
 
 abbrev made : Authority → SignedManifest → CrlValue → Point
 made authority m crl = record { authority = authority; manifest = m; crl = crl }
@@ -121,13 +121,13 @@ made authority m crl = record { authority = authority; manifest = m; crl = crl }
 abbrev behind-crl : Authority → SignedManifest → CrlValue → Checked Point
 behind-crl authority m crl = tested (manifest_place authority) (point_tests m crl) (made authority m crl)
 
-abbrev behind-list : Setting → Contents → Authority → List (List ℕ) → SignedManifest → File → Checked Point
+abbrev behind-list : WalkContext → Contents → Authority → List (List ℕ) → SignedManifest → File → Checked Point
 behind-list s held authority seen m file = accepted_crl s held authority (seen ++ manifest_place authority ∷ []) file >>= behind-crl authority m
 
-abbrev behind-manifest : Setting → Contents → Authority → List (List ℕ) → SignedManifest → Checked Point
+abbrev behind-manifest : WalkContext → Contents → Authority → List (List ℕ) → SignedManifest → Checked Point
 behind-manifest s held authority seen m = found (manifest_place authority) rule.List (crl_file m.body) >>= behind-list s held authority seen m
 
-pub point-ok : (s : Setting) (held : Contents) (authority : Authority) (seen : List (List ℕ)) (p : Point) → accepted_point s held authority seen ≡ Ok p → IsPointOf held authority seen p
+pub point-ok : (s : WalkContext) (held : Contents) (authority : Authority) (seen : List (List ℕ)) (p : Point) → accepted_point s held authority seen ≡ Ok p → IsPointOf held authority seen p
 unfolding accepted_point
 point-ok s held authority seen p e =
     let m = bind-ok (accepted_manifest s held authority seen) (behind-manifest s held authority seen) p e in

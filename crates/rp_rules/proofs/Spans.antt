@@ -4,7 +4,7 @@ use Rattle.std.specs.Prelude.{◌↔◌}
 use Rattle.std.proofs.lemmas.Bool.{and_parts, and_from, or_cases, or_left, or_right}
 use Rattle.res_sets.specs.declared.numbers.Family.{Family}
 use Rattle.res_sets.specs.Numbers.{family_end}
-use Rattle.res_forms.specs.Formats.{are_canonical}
+use Rattle.res_ext.specs.Formats.{are_canonical}
 use Rattle.cert_obj.specs.Values.{IsListOf}
 use Rattle.rp_rules.specs.Holdings.{Span, has_span, has_number, is_inside}
 

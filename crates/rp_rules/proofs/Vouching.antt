@@ -7,13 +7,13 @@ use Rattle.pub_set.specs.Objects.{content_at}
 use Rattle.pub_set.specs.Changes.{Contents}
 use Rattle.crl_obj.specs.declared.values.CrlEntry.{CrlEntry}
 use Rattle.crl_obj.specs.Values.{CrlValue}
-use Rattle.key_ids.specs.Places.{anchor_uri}
+use Rattle.key_ids.specs.Uris.{anchor_uri}
 use Rattle.rp_rules.specs.declared.rules.Rule.{Rule}
 use Rattle.rp_rules.specs.declared.rules.Rule.TheVariants as rule
 use Rattle.rp_rules.specs.Checks.{Refused, Checked, Test, ◌>>=◌, tested, found}
 use Rattle.rp_rules.specs.Objects.{Signed, SignedManifest, such, certificate_in, is_anchors, is_authoritys, crl_in, manifest_in, roa_in}
-use Rattle.rp_rules.specs.Authorities.{Authority, file_place, manifest_place}
-use Rattle.rp_rules.specs.Certificates.{Setting, Vouched, VouchesMore, vouching, File, anchor_tests, anchor_of, accepted_anchor, listed_bytes, authority_tests, authority_of, accepted_authority}
+use Rattle.rp_rules.specs.Authorities.{Authority, listed_uri, manifest_place}
+use Rattle.rp_rules.specs.Certificates.{WalkContext, Vouched, VouchesMore, vouching, File, anchor_tests, anchor_of, accepted_anchor, listed_bytes, authority_tests, authority_of, accepted_authority}
 use Rattle.rp_rules.specs.Points.{Point, is_signed, manifest_tests, accepted_manifest, crl_tests, accepted_crl, point_tests, accepted_point, roa_tests, accepted_roa, other_files, is_certificate_file, crl_file}
 use Rattle.rp_rules.specs.Walk.{Visit, Certificate, Published, Route, Below, visited, visit_file, visit_files, visit_below, walk}
 use Rattle.rp_rules.specs.Sound.{IsSoundBy}
@@ -61,27 +61,27 @@ read-follows {A = A} {B = B} m uri rule read ts us give all =
 
 -- ---- objects
 
-signed-follows : {Body : Type 0} (s : Setting) (more : Vouched) (issuer : Authority) (x : Signed Body) → VouchesMore s.vouched more → is_signed s issuer x ≡ true → is_signed (vouching s more) issuer x ≡ true
+signed-follows : {Body : Type 0} (s : WalkContext) (more : Vouched) (issuer : Authority) (x : Signed Body) → VouchesMore s.vouched more → is_signed s issuer x ≡ true → is_signed (vouching s more) issuer x ≡ true
 signed-follows s more issuer x v e =
     let both = and_parts (s.vouched issuer.cert.key x.certificate.digest x.certificate.signature) (s.vouched x.certificate.cert.key x.object.digest x.object.signature) e in
     and_from _ _ (v issuer.cert.key x.certificate.digest x.certificate.signature both.0) (v x.certificate.cert.key x.object.digest x.object.signature both.1)
 
-anchor-follows : (s : Setting) (more : Vouched) (held : Contents) → VouchesMore s.vouched more → Follows (accepted_anchor s held) (accepted_anchor (vouching s more) held)
+anchor-follows : (s : WalkContext) (more : Vouched) (held : Contents) → VouchesMore s.vouched more → Follows (accepted_anchor s held) (accepted_anchor (vouching s more) held)
 unfolding accepted_anchor
 anchor-follows s more held v =
     read-follows (found (anchor_uri s.bases) rule.Missing (held (anchor_uri s.bases))) (anchor_uri s.bases) rule.Shape (λ bytes. such is_anchors (certificate_in bytes))
     (anchor_tests s) (anchor_tests (vouching s more)) (anchor_of (anchor_uri s.bases))
     (λ c. ((refl, v s.anchor c.digest c.signature), ((refl, λ e. e), ((refl, λ e. e), ((refl, λ e. e), ((refl, λ e. e), tt))))))
 
-authority-follows : (s : Setting) (more : Vouched) (held : Contents) (issuer : Authority) (revoked : List CrlEntry) (seen : List (List ℕ)) (file : File) → VouchesMore s.vouched more → Follows (accepted_authority s held issuer revoked seen file) (accepted_authority (vouching s more) held issuer revoked seen file)
+authority-follows : (s : WalkContext) (more : Vouched) (held : Contents) (issuer : Authority) (revoked : List CrlEntry) (seen : List (List ℕ)) (file : File) → VouchesMore s.vouched more → Follows (accepted_authority s held issuer revoked seen file) (accepted_authority (vouching s more) held issuer revoked seen file)
 unfolding accepted_authority
 authority-follows s more held issuer revoked seen file v =
-    let uri = file_place issuer file.0 in
+    let uri = listed_uri issuer file.0 in
     read-follows (listed_bytes held uri file) uri rule.Shape (λ bytes. such is_authoritys (certificate_in bytes))
     (authority_tests s issuer revoked seen uri) (authority_tests (vouching s more) issuer revoked seen uri) (authority_of issuer uri)
     (λ c. ((refl, v issuer.cert.key c.digest c.signature), ((refl, λ e. e), ((refl, λ e. e), ((refl, λ e. e), ((refl, λ e. e), ((refl, λ e. e), ((refl, λ e. e), tt))))))))
 
-manifest-follows : (s : Setting) (more : Vouched) (held : Contents) (authority : Authority) (seen : List (List ℕ)) → VouchesMore s.vouched more → Follows (accepted_manifest s held authority seen) (accepted_manifest (vouching s more) held authority seen)
+manifest-follows : (s : WalkContext) (more : Vouched) (held : Contents) (authority : Authority) (seen : List (List ℕ)) → VouchesMore s.vouched more → Follows (accepted_manifest s held authority seen) (accepted_manifest (vouching s more) held authority seen)
 unfolding accepted_manifest
 manifest-follows s more held authority seen v =
     let uri = manifest_place authority in
@@ -89,24 +89,24 @@ manifest-follows s more held authority seen v =
     (manifest_tests s authority seen) (manifest_tests (vouching s more) authority seen) (λ m. m)
     (λ m. ((refl, signed-follows s more authority m v), ((refl, λ e. e), ((refl, λ e. e), ((refl, λ e. e), ((refl, λ e. e), ((refl, λ e. e), ((refl, λ e. e), tt))))))))
 
-crl-follows : (s : Setting) (more : Vouched) (held : Contents) (authority : Authority) (seen : List (List ℕ)) (file : File) → VouchesMore s.vouched more → Follows (accepted_crl s held authority seen file) (accepted_crl (vouching s more) held authority seen file)
+crl-follows : (s : WalkContext) (more : Vouched) (held : Contents) (authority : Authority) (seen : List (List ℕ)) (file : File) → VouchesMore s.vouched more → Follows (accepted_crl s held authority seen file) (accepted_crl (vouching s more) held authority seen file)
 unfolding accepted_crl
 crl-follows s more held authority seen file v =
-    let uri = file_place authority file.0 in
+    let uri = listed_uri authority file.0 in
     read-follows (listed_bytes held uri file) uri rule.Shape crl_in
     (crl_tests s authority seen uri) (crl_tests (vouching s more) authority seen uri) (λ c. c.crl)
     (λ c. ((refl, v authority.cert.key c.digest c.signature), ((refl, λ e. e), ((refl, λ e. e), ((refl, λ e. e), ((refl, λ e. e), tt))))))
 
-roa-follows : (s : Setting) (more : Vouched) (held : Contents) (p : Point) (seen : List (List ℕ)) (file : File) → VouchesMore s.vouched more → Follows (accepted_roa s held p seen file) (accepted_roa (vouching s more) held p seen file)
+roa-follows : (s : WalkContext) (more : Vouched) (held : Contents) (p : Point) (seen : List (List ℕ)) (file : File) → VouchesMore s.vouched more → Follows (accepted_roa s held p seen file) (accepted_roa (vouching s more) held p seen file)
 unfolding accepted_roa
 roa-follows s more held p seen file v =
-    let uri = file_place p.authority file.0 in
+    let uri = listed_uri p.authority file.0 in
     read-follows (listed_bytes held uri file) uri rule.Shape roa_in
     (roa_tests s p seen uri) (roa_tests (vouching s more) p seen uri) (λ r. r)
     (λ r. ((refl, signed-follows s more p.authority r v), ((refl, λ e. e), ((refl, λ e. e), ((refl, λ e. e), ((refl, λ e. e), ((refl, λ e. e), ((refl, λ e. e), tt))))))))
 
 -- The point of an authority, behind its manifest.
-abbrev behind_manifest : Setting → Contents → Authority → List (List ℕ) → SignedManifest → Checked Point
+abbrev behind_manifest : WalkContext → Contents → Authority → List (List ℕ) → SignedManifest → Checked Point
 behind_manifest s held authority seen m =
     found (manifest_place authority) rule.List (crl_file m.body) >>= (λ file.
     accepted_crl s held authority (seen ++ manifest_place authority ∷ []) file >>= (λ crl.
@@ -115,7 +115,7 @@ behind_manifest s held authority seen m =
 abbrev behind_crl : Authority → SignedManifest → CrlValue → Checked Point
 behind_crl authority m crl = tested (manifest_place authority) (point_tests m crl) (record { authority = authority; manifest = m; crl = crl })
 
-point-follows : (s : Setting) (more : Vouched) (held : Contents) (authority : Authority) (seen : List (List ℕ)) → VouchesMore s.vouched more → Follows (accepted_point s held authority seen) (accepted_point (vouching s more) held authority seen)
+point-follows : (s : WalkContext) (more : Vouched) (held : Contents) (authority : Authority) (seen : List (List ℕ)) → VouchesMore s.vouched more → Follows (accepted_point s held authority seen) (accepted_point (vouching s more) held authority seen)
 unfolding accepted_point
 point-follows s more held authority seen v =
     bind-follows (accepted_manifest s held authority seen) (accepted_manifest (vouching s more) held authority seen) (behind_manifest s held authority seen) (behind_manifest (vouching s more) held authority seen)
@@ -131,26 +131,26 @@ point-follows s more held authority seen v =
 -- ---- the walk
 
 -- The one goes on wherever the other does.
-abbrev GoesOn : Below → Below → Type 0
-GoesOn below other = (authority : Authority) (visits : List Visit) → Follows (below authority visits) (other authority visits)
+abbrev BelowFollows : Below → Below → Type 0
+BelowFollows below other = (authority : Authority) (visits : List Visit) → Follows (below authority visits) (other authority visits)
 
-file-follows : (s : Setting) (more : Vouched) (held : Contents) (below other : Below) (p : Point) (file : File) (visits : List Visit) → VouchesMore s.vouched more → GoesOn below other → Follows (visit_file s held below p file visits) (visit_file (vouching s more) held other p file visits)
+file-follows : (s : WalkContext) (more : Vouched) (held : Contents) (below other : Below) (p : Point) (file : File) (visits : List Visit) → VouchesMore s.vouched more → BelowFollows below other → Follows (visit_file s held below p file visits) (visit_file (vouching s more) held other p file visits)
 unfolding visit_file
 file-follows s more held below other p file visits v goes =
     either-follows (is_certificate_file file)
     (accepted_authority s held p.authority p.crl.entries (visited visits) file >>= (λ a. below a (visits ++ Certificate a ∷ [])))
     (accepted_authority (vouching s more) held p.authority p.crl.entries (visited visits) file >>= (λ a. other a (visits ++ Certificate a ∷ [])))
-    (accepted_roa s held p (visited visits) file >>= (λ roa. Ok (visits ++ Route p.authority (file_place p.authority file.0) roa ∷ [])))
-    (accepted_roa (vouching s more) held p (visited visits) file >>= (λ roa. Ok (visits ++ Route p.authority (file_place p.authority file.0) roa ∷ [])))
+    (accepted_roa s held p (visited visits) file >>= (λ roa. Ok (visits ++ Route p.authority (listed_uri p.authority file.0) roa ∷ [])))
+    (accepted_roa (vouching s more) held p (visited visits) file >>= (λ roa. Ok (visits ++ Route p.authority (listed_uri p.authority file.0) roa ∷ [])))
     (bind-follows (accepted_authority s held p.authority p.crl.entries (visited visits) file) (accepted_authority (vouching s more) held p.authority p.crl.entries (visited visits) file)
     (λ a. below a (visits ++ Certificate a ∷ [])) (λ a. other a (visits ++ Certificate a ∷ []))
     (authority-follows s more held p.authority p.crl.entries (visited visits) file v)
     (λ a. goes a (visits ++ Certificate a ∷ [])))
     (bind-follows (accepted_roa s held p (visited visits) file) (accepted_roa (vouching s more) held p (visited visits) file)
-    (λ roa. Ok (visits ++ Route p.authority (file_place p.authority file.0) roa ∷ [])) (λ roa. Ok (visits ++ Route p.authority (file_place p.authority file.0) roa ∷ []))
+    (λ roa. Ok (visits ++ Route p.authority (listed_uri p.authority file.0) roa ∷ [])) (λ roa. Ok (visits ++ Route p.authority (listed_uri p.authority file.0) roa ∷ []))
     (roa-follows s more held p (visited visits) file v) (λ roa x e. e))
 
-files-follows : (s : Setting) (more : Vouched) (held : Contents) (below other : Below) (p : Point) (files : List File) (visits : List Visit) → VouchesMore s.vouched more → GoesOn below other → Follows (visit_files s held below p files visits) (visit_files (vouching s more) held other p files visits)
+files-follows : (s : WalkContext) (more : Vouched) (held : Contents) (below other : Below) (p : Point) (files : List File) (visits : List Visit) → VouchesMore s.vouched more → BelowFollows below other → Follows (visit_files s held below p files visits) (visit_files (vouching s more) held other p files visits)
 unfolding visit_files
 files-follows s more held below other p [] visits v goes = λ x e. e
 files-follows s more held below other p (file ∷ files) visits v goes =
@@ -159,7 +159,7 @@ files-follows s more held below other p (file ∷ files) visits v goes =
     (file-follows s more held below other p file visits v goes)
     (λ next. files-follows s more held below other p files next v goes)
 
-below-follows : (levels : ℕ) (s : Setting) (more : Vouched) (held : Contents) → VouchesMore s.vouched more → GoesOn (visit_below levels s held) (visit_below levels (vouching s more) held)
+below-follows : (levels : ℕ) (s : WalkContext) (more : Vouched) (held : Contents) → VouchesMore s.vouched more → BelowFollows (visit_below levels s held) (visit_below levels (vouching s more) held)
 unfolding visit_below
 below-follows zero s more held v authority visits = λ x e. e
 below-follows (suc levels) s more held v authority visits =
@@ -170,7 +170,7 @@ below-follows (suc levels) s more held v authority visits =
     (λ p. files-follows s more held (visit_below levels s held) (visit_below levels (vouching s more) held) p (other_files p) (visits ++ Published p ∷ []) v
     (below-follows levels s more held v))
 
-walk-follows : (s : Setting) (more : Vouched) (held : Contents) → VouchesMore s.vouched more → Follows (walk s held) (walk (vouching s more) held)
+walk-follows : (s : WalkContext) (more : Vouched) (held : Contents) → VouchesMore s.vouched more → Follows (walk s held) (walk (vouching s more) held)
 unfolding walk
 walk-follows s more held v =
     bind-follows (accepted_anchor s held) (accepted_anchor (vouching s more) held)
@@ -178,7 +178,7 @@ walk-follows s more held v =
     (anchor-follows s more held v)
     (λ anchor. below-follows 65 s more held v anchor (Certificate anchor ∷ []))
 
-pub stays_sound : (s : Setting) (more : Vouched) (objects : List Object) (visits : List Visit) → VouchesMore s.vouched more → IsSoundBy s objects visits → IsSoundBy (vouching s more) objects visits
+pub stays_sound : (s : WalkContext) (more : Vouched) (objects : List Object) (visits : List Visit) → VouchesMore s.vouched more → IsSoundBy s objects visits → IsSoundBy (vouching s more) objects visits
 stays_sound s more objects visits v sound = record {
   walk = walk-follows s more (content_at objects) v visits sound.walk;
   all = sound.all;

@@ -5,18 +5,19 @@ use Rattle.std.specs.List.{Contains}
 use Rattle.sha2.specs.Sha256.{sha256}
 use Rattle.pub_set.specs.Changes.{Contents}
 use Rattle.rp_rules.specs.Objects.{SignedRoa}
-use Rattle.rp_rules.specs.Authorities.{Authority, file_place}
-use Rattle.rp_rules.specs.Certificates.{Setting, File, is_among, accepted_anchor, accepted_authority}
+use Rattle.rp_rules.specs.Authorities.{Authority, listed_uri}
+use Rattle.rp_rules.specs.Certificates.{WalkContext, File, is_among, accepted_anchor}
+use Rattle.rp_rules.specs.Certificates.{accepted_authority}
 use Rattle.rp_rules.specs.Points.{Point, is_certificate_file, other_files, accepted_point, accepted_roa}
 use Rattle.rp_rules.specs.Walk.{Visit, Certificate, Published, Route, visited}
 
 -- The certificate is the anchor's, and nothing is visited before.
-abbrev pub IsFirst : Setting → Contents → List Visit → Authority → Type 0
+abbrev pub IsFirst : WalkContext → Contents → List Visit → Authority → Type 0
 IsFirst s held before authority = (before ≡ []) × (accepted_anchor s held ≡ Ok authority)
 
 -- The certificate is a file of a point visited before: accepted under that point's authority and
 -- the entries of its CRL, once these were visited.
-pub record IsListed (s : Setting) (held : Contents) (before : List Visit) (child : Authority)
+pub record IsListed (s : WalkContext) (held : Contents) (before : List Visit) (child : Authority)
     : Type 0 where
   pub issuer : Point
   pub known : Contains before (Published issuer)
@@ -28,14 +29,15 @@ pub record IsListed (s : Setting) (held : Contents) (before : List Visit) (child
       ≡ Ok child
 
 -- The point is that of an authority whose certificate is visited before.
-pub record IsPublished (s : Setting) (held : Contents) (before : List Visit) (p : Point)
+pub record IsVisitedPoint (s : WalkContext) (held : Contents) (before : List Visit) (p : Point)
     : Type 0 where
   pub known : Contains before (Certificate p.authority)
   pub accepted : accepted_point s held p.authority (visited before) ≡ Ok p
 
 -- The ROA is a file, at that URI, of a point of the authority that is visited before: accepted
 -- under it and the entries of its CRL, once these were visited.
-pub record IsRoute (s : Setting) (held : Contents) (before : List Visit) (authority : Authority)
+pub record IsRoute (s : WalkContext) (held : Contents) (before : List Visit)
+    (authority : Authority)
     (place : List ℕ) (roa : SignedRoa) : Type 0 where
   pub issuer : Point
   pub known : Contains before (Published issuer)
@@ -43,17 +45,17 @@ pub record IsRoute (s : Setting) (held : Contents) (before : List Visit) (author
   pub file : File
   pub listed : Contains (other_files issuer) file
   pub kind : is_certificate_file file ≡ false
-  pub there : file_place authority file.0 ≡ place
+  pub there : listed_uri authority file.0 ≡ place
   pub accepted : accepted_roa s held issuer (visited before) file ≡ Ok roa
 
-abbrev pub IsAccepted : Setting → Contents → List Visit → Visit → Type 0
+abbrev pub IsAccepted : WalkContext → Contents → List Visit → Visit → Type 0
 IsAccepted s held before (Certificate authority) =
     IsFirst s held before authority ⊎ IsListed s held before authority
-IsAccepted s held before (Published p) = IsPublished s held before p
+IsAccepted s held before (Published p) = IsVisitedPoint s held before p
 IsAccepted s held before (Route authority uri roa) = IsRoute s held before authority uri roa
 
 -- Each visit is accepted, after those before it.
-abbrev pub AreAccepted : Setting → Contents → List Visit → Type 0
+abbrev pub AreAccepted : WalkContext → Contents → List Visit → Type 0
 AreAccepted s held visits = (before : List Visit) (visit : Visit) (after : List Visit)
     → visits ≡ before ++ visit ∷ after → IsAccepted s held before visit
 
@@ -64,6 +66,6 @@ AreAccepted s held visits = (before : List Visit) (visit : Visit) (after : List 
 pub record IsReached (held : Contents) (visits : List Visit) (p : Point) (file : File)
     : Type 0 where
   pub bytes : List ℕ
-  pub there : held (file_place p.authority file.0) ≡ Some bytes
+  pub there : held (listed_uri p.authority file.0) ≡ Some bytes
   pub hash : sha256 bytes ≡ file.1
-  pub reached : is_among (visited visits) (file_place p.authority file.0) ≡ true
+  pub reached : is_among (visited visits) (listed_uri p.authority file.0) ≡ true

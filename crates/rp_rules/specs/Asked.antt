@@ -1,12 +1,12 @@
 -- The signatures of a set that a walk may ask for, each under the key by which it is asked.
 use Rattle.std.specs.Prelude.{◌≡◌, ℕ, List, [], ◌∷◌, ◌++◌, Option, None, Some, map, ◌⊎◌}
 use Rattle.std.specs.List.{Contains, flat_map}
-use Rattle.key_ids.specs.Places.{anchor_uri}
+use Rattle.key_ids.specs.Uris.{anchor_uri}
 use Rattle.pub_set.specs.Changes.{Contents}
 use Rattle.cert_obj.specs.Values.{CertValue, SignedCert}
 use Rattle.crl_obj.specs.Values.{SignedCrl}
 use Rattle.rp_rules.specs.Objects.{Signed, SignedManifest, certificate_in, crl_in, manifest_in, roa_in}
-use Rattle.rp_rules.specs.Certificates.{Setting, Vouched, File}
+use Rattle.rp_rules.specs.Certificates.{WalkContext, Vouched, File}
 use Rattle.rp_rules.specs.Points.{files_of}
 
 -- A key, the digest of what is signed, and the signature.
@@ -77,12 +77,12 @@ pub record IsThere (held : Contents) (c : SignedCert) : Type 0 where
   pub says : certificate_in bytes ≡ Some c
 
 -- The anchor's under the key handed in, and what is published under each certificate of the set.
-abbrev pub IsAsked : Setting → Contents → Asked → Type 0
+abbrev pub IsAsked : WalkContext → Contents → Asked → Type 0
 IsAsked s held a =
     Contains (asked_at held s.anchor (anchor_uri s.bases)) a
     ⊎ ((c : SignedCert) × IsThere held c × Contains (asked_under held c.cert) a)
 
 -- Of these the other function says the same.
-abbrev pub SaysSame : Setting → Vouched → Contents → Type 0
+abbrev pub SaysSame : WalkContext → Vouched → Contents → Type 0
 SaysSame s other held = (a : Asked) → IsAsked s held a
     → other a.key a.digest a.signature ≡ s.vouched a.key a.digest a.signature

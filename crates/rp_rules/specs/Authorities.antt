@@ -5,7 +5,7 @@ use Rattle.std.specs.List.{list_all, starts_with, ends_with}
 use Rattle.sha1.specs.Sha1.{sha1}
 use Rattle.hex.specs.Hex.{encode_lower}
 use Rattle.names.specs.Name.{is_name_byte}
-use Rattle.key_ids.specs.Places.{Bases}
+use Rattle.key_ids.specs.Uris.{Bases}
 use Rattle.cert_obj.specs.Values.{Sets, CertValue}
 
 -- The URI of its certificate, what that says, and its resources: the certificate's, or where that
@@ -20,16 +20,16 @@ abbrev pub key_id : CertValue → List ℕ
 key_id cert = sha1 cert.key
 
 -- A file in its folder, of that name.
-abbrev pub file_place : Authority → List ℕ → List ℕ
-file_place authority name = authority.cert.uris.folder ++ name
+abbrev pub listed_uri : Authority → List ℕ → List ℕ
+listed_uri authority name = authority.cert.uris.folder ++ name
 
 -- Its CRL, and the certificate of a key that it issues.
-abbrev pub crl_place : Authority → List ℕ
-crl_place authority = file_place authority (encode_lower (key_id authority.cert) ++ codes ".crl")
+abbrev pub crl_uri_of : Authority → List ℕ
+crl_uri_of authority = listed_uri authority (encode_lower (key_id authority.cert) ++ codes ".crl")
 
-abbrev pub certificate_place : Authority → CertValue → List ℕ
-certificate_place authority cert =
-    file_place authority (encode_lower (key_id cert) ++ codes ".cer")
+abbrev pub certificate_uri_of : Authority → CertValue → List ℕ
+certificate_uri_of authority cert =
+    listed_uri authority (encode_lower (key_id cert) ++ codes ".cer")
 
 -- The manifest of a key, in that folder.
 abbrev pub manifest_in_folder : List ℕ → CertValue → List ℕ

@@ -1,6 +1,7 @@
--- What the bytes of an object say: the value whose spelling they are, if there is one.
+-- What the bytes of an object say: the value whose spelling they are, if there is one (RFC 6487
+-- section 4, RFC 6488 section 2).
 use Rattle.std.specs.Prelude.{ℕ, Bool, true, false, not, ◌&&◌, if◌then◌else◌, List, Option, None, Some, Result, Ok, Err}
-use Rattle.der_forms.specs.Object.{read_object}
+use Rattle.der.specs.Object.{read_object}
 use Rattle.cert_obj.specs.Values.{SignedCert, is_issued, is_authority, is_entity}
 use Rattle.cert_obj.specs.Formats.{signed_cert}
 use Rattle.crl_obj.specs.Values.{SignedCrl}

@@ -4,9 +4,9 @@ use Rattle.std.specs.List.{flat_map, fold}
 use Rattle.pub_set.specs.Changes.{Contents}
 use Rattle.cert_obj.specs.Values.{CertValue, SignedCert, is_issued}
 use Rattle.crl_obj.specs.declared.values.CrlEntry.{CrlEntry}
-use Rattle.payloads.specs.RoaFormats.{Entry}
+use Rattle.payloads.specs.RoaFormats.{Entry, roa_asn, roa_entries}
 use Rattle.rp_rules.specs.Objects.{SignedRoa, certificate_in, roa_in}
-use Rattle.rp_rules.specs.Authorities.{Authority, file_place}
+use Rattle.rp_rules.specs.Authorities.{Authority, listed_uri}
 use Rattle.rp_rules.specs.Certificates.{File}
 use Rattle.rp_rules.specs.Points.{Point, is_certificate_file, other_files}
 use Rattle.rp_rules.specs.Walk.{Visit, Certificate, Published, Route}
@@ -24,7 +24,7 @@ yielded_of folder asn entry = record { folder = folder; asn = asn; entry = entry
 
 abbrev pub yield_of : Authority → SignedRoa → List Yielded
 yield_of authority roa =
-    map (yielded_of authority.cert.uris.folder roa.body.0) roa.body.1
+    map (yielded_of authority.cert.uris.folder (roa_asn roa.body)) (roa_entries roa.body)
 
 abbrev pub yielded_by : Visit → List Yielded
 yielded_by (Certificate authority) = []
@@ -55,7 +55,7 @@ serial_in file (Some bytes) =
 
 -- The serial of the certificate that a listed file is, or that it holds.
 abbrev pub listed_serial : Contents → Point → File → ℕ
-listed_serial held p file = serial_in file (held (file_place p.authority file.0))
+listed_serial held p file = serial_in file (held (listed_uri p.authority file.0))
 
 -- That of a certificate that its own key signs.
 abbrev pub own_serial : CertValue → ℕ

@@ -1,24 +1,24 @@
-//! What an audit of a sound set gives.
+//! What an audit of a sound set gives (RFC 6487 section 7, RFC 9286 section 6).
 
 use crl_obj::CrlEntry;
 use origins::Origin;
 use signer_api::PublicKey;
 use std::marker::Model;
 
-/// An origin that a ROA authorizes, and the folder of the authority above it.
+/// An origin that a ROA authorizes, and the folder of the authority above it (RFC 9582 section 4).
 #[derive(Debug, Drop)]
 pub struct YieldedOrigin {
     pub folder: String,
     pub origin: Origin,
 }
 
-/// A publication point: the manifest and the CRL of a key.
+/// A publication point: the manifest and the CRL of a key (RFC 6481 section 2.2).
 #[derive(Debug, Drop)]
 pub struct AuditedPoint {
     pub key: PublicKey,
-    /// The number of both.
+    /// The number of both (RFC 5280 section 5.2.3, RFC 9286 section 4.2.1).
     pub number: u64,
-    /// When the CRL was made, in seconds since 1970.
+    /// When the CRL was made, in seconds since 1970 (RFC 5280 section 5.1.2.4).
     pub this_update: u64,
     /// The greatest serial of the certificates that the point lists or holds, and of the anchor's own.
     pub greatest_serial: u64,

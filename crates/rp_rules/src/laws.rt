@@ -7,7 +7,7 @@ ghost use Rattle.cert_obj.specs.Values.{IsListOf};
 ghost use Rattle.pub_set.specs.declared.objects.Object.{Object};
 ghost use Rattle.pub_set.specs.Objects.{content_at};
 ghost use Rattle.rp_rules.specs.Holdings.{Span, has_span, has_number, is_inside};
-ghost use Rattle.rp_rules.specs.Certificates.{Setting, Vouched, VouchesMore, vouching, File};
+ghost use Rattle.rp_rules.specs.Certificates.{WalkContext, Vouched, VouchesMore, vouching, File};
 ghost use Rattle.rp_rules.specs.Points.{Point, are_distinct, files_of};
 ghost use Rattle.rp_rules.specs.Walk.{Visit, Published, visited, walk};
 ghost use Rattle.rp_rules.specs.Accepted.{AreAccepted, IsReached};
@@ -16,7 +16,7 @@ ghost use Rattle.rp_rules.specs.Sound.{IsSoundBy};
 
 /// A sound set stays sound where more is vouched, and the walk is the same.
 pub fn more_vouched_stays_sound()
-    ensures { (s : Setting) (more : Vouched) (objects : List Object) (visits : List Visit)
+    ensures { (s : WalkContext) (more : Vouched) (objects : List Object) (visits : List Visit)
         → VouchesMore s.vouched more → IsSoundBy s objects visits
         → IsSoundBy (vouching s more) objects visits }
 {}
@@ -24,7 +24,7 @@ pub fn more_vouched_stays_sound()
 /// The walk depends on what is vouched only through the signatures of the set's objects, each under the key by which
 /// it is asked: where another function says the same of these, the walk is the same, refusals too.
 pub fn asked_signatures_decide()
-    ensures { (s : Setting) (other : Vouched) (objects : List Object)
+    ensures { (s : WalkContext) (other : Vouched) (objects : List Object)
         → SaysSame s other (content_at objects)
         → walk (vouching s other) (content_at objects) ≡ walk s (content_at objects) }
 {}
@@ -34,20 +34,20 @@ pub fn asked_signatures_decide()
 /// the authority above it. So the yield, which comes from the ROAs that are visited, comes from accepted ROAs
 /// alone.
 pub fn visits_are_accepted()
-    ensures { (s : Setting) (objects : List Object) (visits : List Visit)
+    ensures { (s : WalkContext) (objects : List Object) (visits : List Visit)
         → IsSoundBy s objects visits → AreAccepted s (content_at objects) visits }
 {}
 
 /// In a sound set no URI is visited twice.
 pub fn each_uri_is_visited_once()
-    ensures { (s : Setting) (objects : List Object) (visits : List Visit)
+    ensures { (s : WalkContext) (objects : List Object) (visits : List Visit)
         → IsSoundBy s objects visits → are_distinct (visited visits) ≡ true }
 {}
 
 /// Each file that a visited point's manifest lists, its CRL too, is in the sound set, has the listed hash, and is
 /// visited.
 pub fn listed_files_are_visited()
-    ensures { (s : Setting) (objects : List Object) (visits : List Visit) (p : Point) (file : File)
+    ensures { (s : WalkContext) (objects : List Object) (visits : List Visit) (p : Point) (file : File)
         → IsSoundBy s objects visits → Contains visits (Published p)
         → Contains (files_of p.manifest.body) file → IsReached (content_at objects) visits p file }
 {}

@@ -1,4 +1,4 @@
-//! The rules by which a relying party accepts an object.
+//! The rules by which a relying party accepts an object (RFC 6487 section 7, RFC 9286 section 6).
 
 ghost use Rattle.std.specs.Prelude.{◌≡◌};
 ghost use Rattle.rp_rules.specs.Rules.{code_of, name_of};
@@ -6,25 +6,30 @@ ghost use Rattle.rp_rules.specs.Rules.{code_of, name_of};
 /// A rule of the walk, in the order in which an object is tested.
 #[derive(Clone, Copy, Debug, PartialEq, Eq)]
 pub enum Rule {
-    /// A URI that is named is in the set.
+    /// A URI that is named is in the set (RFC 9286 sections 6.2 and 6.4).
     Missing,
-    /// The hash that a manifest lists is that of the file.
+    /// The hash that a manifest lists is that of the file (RFC 9286 section 6.5).
     Hash,
-    /// The bytes are in the grammar of the kind.
+    /// The bytes are in the grammar of the kind (RFC 6487 sections 4 and 5, RFC 6488 section 3, RFC
+    /// 9286 section 4, RFC 9582 section 4).
     Shape,
-    /// Each signature is vouched under its key.
+    /// Each signature is vouched under its key (RFC 6487 section 7.2, RFC 6488 section 3).
     Signature,
-    /// Names and identifiers of keys meet.
+    /// Names and identifiers of keys meet (RFC 6487 section 7.2, RFC 5280 section 6.1.3, RFC 8630
+    /// section 3).
     Identity,
-    /// The moment lies in the validity or between the updates.
+    /// The moment lies in the validity or between the updates (RFC 6487 section 7.2, RFC 9286
+    /// section 6.3).
     Time,
-    /// Resources lie inside those of the issuer.
+    /// Resources lie inside those of the issuer (RFC 6487 section 7.1, RFC 9582 section 5).
     Resources,
-    /// The serial isn't on the issuer's CRL.
+    /// The serial isn't on the issuer's CRL (RFC 6487 section 7.2).
     Revoked,
-    /// A URI is the one in use for the object.
+    /// A URI is the one in use for the object (RFC 6481 section 2, RFC 6487 sections 4.8.6 to
+    /// 4.8.8).
     Place,
-    /// A manifest lists one CRL and no other kind of file, and has the CRL's number.
+    /// A manifest lists one CRL and beside it certificates and ROAs alone, and has the CRL's number
+    /// (RFC 9286 sections 2 and 4.2.2).
     List,
     /// An authority is at most 64 below the anchor, and no URI is visited twice.
     Depth,

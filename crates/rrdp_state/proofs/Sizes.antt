@@ -2,13 +2,8 @@
 use Rattle.std.proofs.Common.{◌≡◌, ℕ, ◌+◌, ◌≤◌, true, false, cond, refl, sym, ◌∙◌, ap, arith, codes, decimal, length, List, [], ◌∷◌, Some, None, length-append}
 use Rattle.std.specs.Prelude.{Option, if◌then◌else◌}
 use Rattle.std.specs.List.{AllByRecursion, flat_map}
-use Rattle.std.specs.Ordering.{on, is_eq}
-use Rattle.std.specs.Cmp.{IsTotalOrder}
-use Rattle.std.specs.Cmp.Lexicographic.{nat_list_cmp_total}
-use Rattle.std.specs.FinMap.{slice_cmp-IsAntisymmetric, nat_cmp-IsAntisymmetric}
-use Rattle.std.specs.declared.cmp.Ordering.{Ordering}
-use Rattle.std.specs.declared.cmp.Ordering.TheVariants.{Less, Equal, Greater}
-use Rattle.std.proofs.lemmas.Cmp.{tied_itself}
+use Rattle.std.specs.Ordering.{on}
+use Rattle.std.specs.declared.cmp.Ordering.TheVariants.{Less}
 use Rattle.std.proofs.lemmas.Map.Keys.{sorted_head, sorted_tail}
 use Rattle.pub_set.specs.declared.objects.Object.{Object}
 use Rattle.pub_set.specs.declared.steps.Change.{Change}
@@ -17,25 +12,9 @@ use Rattle.pub_set.specs.Objects.{uri_cmp, uri_at, is_same, content_at, IsAscend
 use Rattle.pub_set.specs.Changes.{Contents, IsApplied, after, after_all}
 use Rattle.uuid.specs.Text.{hyphenated_text, lower}
 use Rattle.rrdp_text.specs.Texts.{head, opening, opening_behind, object_text, change_text, snapshot_text, delta_text}
+use Rattle.pub_set.specs.laws.UriLaws.{same_self, other_below, same_is}
 
 -- ---- URIs that tie are one and the same
-
-uri_total : IsTotalOrder uri_cmp
-uri_total = nat_list_cmp_total
-
-is_equal : (o : Ordering) → is_eq o ≡ true → o ≡ Equal
-is_equal Less h = cc
-is_equal Equal h = cc
-is_equal Greater h = cc
-
-same_is : (a b : List ℕ) → is_same a b ≡ true → a ≡ b
-same_is a b h = slice_cmp-IsAntisymmetric nat_cmp-IsAntisymmetric a b (is_equal (uri_cmp a b) h)
-
-same_self : (a : List ℕ) → is_same a a ≡ true
-same_self a = ap is_eq (tied_itself uri_total a)
-
-other_below : (a b : List ℕ) → uri_cmp a b ≡ Less → is_same a b ≡ false
-other_below a b h = ap is_eq h
 
 -- ---- sizes
 

@@ -1,4 +1,4 @@
-//! A delta that is kept.
+//! A delta that is kept (RFC 8182 section 3.5.3).
 
 use crate::text::FileText;
 

@@ -1,4 +1,4 @@
-//! What an export removes.
+//! What an export removes (RFC 8182 section 3.3.2).
 
 ghost use Rattle.std.specs.Prelude.{◌≡◌, [], ◌∷◌, ◌++◌, IfOk, OnOk, filter, map};
 ghost use Rattle.outlet_api.specs.Calls.{removal};

@@ -1,5 +1,5 @@
-//! The RRDP files of an edition (RFC 8182): its snapshot, its delta, the notification that names
-//! them, and what an export puts and removes.
+//! The RRDP files of an edition (RFC 8182 section 3.3.2): its snapshot, its delta, the notification
+//! that names them, and what an export puts and removes.
 #![tactic(auto)]
 
 mod delta;

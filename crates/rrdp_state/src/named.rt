@@ -1,4 +1,4 @@
-//! Which deltas are named.
+//! Which deltas are named (RFC 8182 section 3.3.2).
 
 ghost use Rattle.std.specs.Prelude.{◌≡◌, ◌≤◌, length, take};
 ghost use Rattle.rrdp_state.specs.Named.{fitting, most_named};

@@ -1,4 +1,4 @@
-//! The paths of files.
+//! The paths of files. `notification.xml`, and `SESSION/SERIAL/snapshot.xml` and `delta.xml`.
 
 ghost use Rattle.std.specs.Prelude.{◌≡◌, ◌++◌, IfOk, OnOk, decimal};
 ghost use Rattle.std.specs.String.{string_bytes};

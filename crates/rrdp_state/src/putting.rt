@@ -1,4 +1,4 @@
-//! What an export puts, and what it removes.
+//! What an export puts, and what it removes (RFC 8182 section 3.3.2).
 
 ghost use Rattle.std.specs.Prelude.{◌≡◌, [], ◌∷◌, ◌++◌, length, map, take, if◌then◌else◌, IfOk, OnOk};
 ghost use Rattle.std.specs.String.{string_bytes};

@@ -1,4 +1,4 @@
-//! What is kept of editions for the next one and for their export.
+//! What is kept of editions for the next one and for their export (RFC 8182 section 3.3).
 
 ghost use Rattle.std.specs.Prelude.{◌≡◌, ◌+◌, List, [], ◌∷◌, map, IfOk};
 ghost use Rattle.outlet_api.specs.Exports.{put_of, removal_of};
@@ -21,7 +21,7 @@ use std::alloc::{AllocError, Global};
 use std::marker::Model;
 use uuid::Uuid;
 
-/// The RRDP files of a session, after an edition.
+/// The RRDP files of a session, after an edition (RFC 8182 section 3.3).
 ///
 /// Of its deltas those that are named are kept, which have no more bytes than the snapshot.
 #[derive(Drop)]
@@ -57,7 +57,7 @@ impl Model for Rrdp {
 }
 
 impl Rrdp {
-    /// The session before its first edition.
+    /// The session before its first edition (RFC 8182 section 3.3.1).
     pub fn new(alloc: Global, session: Uuid, site: &Site) -> Result<Rrdp, AllocError>
         ensures { IfOk result (StandsFor (record { session = session; base = site.now.rrdp }) []) }
     {
@@ -79,7 +79,8 @@ impl Rrdp {
         self.serial
     }
 
-    /// The texts of the next edition: its set, and the changes that lead to it.
+    /// The texts of the next edition: its set, and the changes that lead to it (RFC 8182 section
+    /// 3.3.2).
     ///
     /// Linear in what they have.
     pub fn next(

@@ -16,7 +16,7 @@ use Rattle.std.proofs.lemmas.List.Sums.{prefix_len-drop_yes, prefix_len-drop_no,
 use Rattle.rrdp_text.specs.Fields.{is_below, uri_above, hash, serial, session, content, is_uri_byte, is_hex, is_digit, is_session_byte, is_base64_byte}
 use Rattle.rrdp_text.specs.declared.parts.Alphabet.TheVariants.{Uri, Hex, Digit, Session, Base64}
 use Rattle.rrdp_text.specs.Reading.{literal, field, closed, told, ◌>>=◌}
-use Rattle.rrdp_text.specs.Parts.{has, plain}
+use Rattle.rrdp_text.specs.inner.Parts.{has, plain}
 use Rattle.rrdp_text.specs.declared.parts.Alphabet.{Alphabet}
 
 pub literal_end : (cs s : List ℕ) (i : ℕ) → i < length cs → length s ≤ i → literal (drop i cs) (drop i s) ≡ Err 0

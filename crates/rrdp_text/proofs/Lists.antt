@@ -7,7 +7,7 @@ use Rattle.pub_set.specs.declared.objects.Object.{Object}
 use Rattle.pub_set.specs.Objects.{uri_cmp, IsBehind}
 use Rattle.rrdp_text.specs.Reading.{literal, begins, elements, ◌>>=◌}
 use Rattle.std.specs.Prelude.{IsErrAnd, OnOk, is_ok}
-use Rattle.rrdp_text.specs.Parts.{Gives}
+use Rattle.rrdp_text.specs.inner.Parts.{Gives}
 use Rattle.rrdp_text.specs.Template.{object_in}
 use Rattle.rrdp_text.specs.declared.fault.Stop.{Stop}
 use Rattle.rrdp_text.specs.declared.fault.Stop.TheVariants.{Here, Memory}

@@ -17,7 +17,7 @@ use Rattle.rrdp_text.specs.Texts.{head, opening, object_text, change_text, snaps
 use Rattle.rrdp_text.specs.Values.{IsOpening, IsUri, IsObject, IsChange, AreObjects, AreChanges}
 use Rattle.rrdp_text.specs.declared.fault.Stop.{Stop}
 use Rattle.rrdp_text.specs.declared.fault.Stop.TheVariants.{Here, Memory as OutOfMemory}
-use Rattle.rrdp_text.specs.Parts.{Gives}
+use Rattle.rrdp_text.specs.inner.Parts.{Gives}
 use Rattle.rrdp_text.specs.Outcome.{IsReadAs, IsTrueFault, IsOkOrMemory, fault_of}
 use Rattle.rrdp_text.proofs.Exact.{Exact, behind, done, same, cases_Result}
 use Rattle.rrdp_text.proofs.ElementLaws.{AllGood, IsElement, elements_exact}

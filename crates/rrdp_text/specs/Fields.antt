@@ -61,7 +61,7 @@ hash = record {
       else None;
 }
 
--- A serial number: decimal without leading zeros, below 2^64.
+-- A serial number: decimal without leading zeros, below 2^64 (RFC 8182 section 3.5.1.3).
 abbrev pub serial : Field ℕ
 serial = record {
   allowed = is_digit;
@@ -72,7 +72,7 @@ serial = record {
       then Some (digits_value 10 bytes) else None;
 }
 
--- A session identifier: a UUID, hyphenated and in lower case.
+-- A session identifier: a UUID, hyphenated and in lower case (RFC 8182 section 3.5.1.3).
 abbrev pub session : Field (List ℕ)
 session = record {
   allowed = is_session_byte;

@@ -2,8 +2,8 @@ pub mod Fields
 pub mod Files
 pub mod Locator
 pub mod Outcome
-pub mod Parts
 pub mod Reading
 pub mod Template
 pub mod Texts
 pub mod Values
+pub mod inner

@@ -1,4 +1,4 @@
--- What a reader answers.
+-- What a reader answers (RFC 8182 section 3.5).
 use Rattle.std.specs.Prelude.{◌≡◌, ℕ, ◌+◌, ◌-◌, ◌<◌, ◌≤◌, List, ◌++◌, length, take, Result, Ok, Err}
 use Rattle.rrdp_text.specs.declared.fault.Stop.{Stop}
 use Rattle.rrdp_text.specs.declared.fault.Stop.TheVariants.{Here, Memory as OutOfMemory}

@@ -1,5 +1,6 @@
 -- How a text is read from its front: what stands there and the bytes behind it, or how many bytes
--- are left at a fault. At the place of a fault stands a byte that can't, or the text ends there.
+-- are left at a fault. At the place of a fault stands a byte that can't, or the text ends there
+-- (RFC 8182 section 3.5).
 use Rattle.std.specs.Prelude.{ℕ, zero, suc, Bool, false, ◌==◌, List, [], ◌∷◌, length, take, drop, Option, Some, None, Result, Ok, Err, if◌then◌else◌}
 use Rattle.std.specs.List.{prefix_len}
 

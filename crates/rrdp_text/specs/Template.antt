@@ -1,5 +1,5 @@
 -- How snapshots and deltas are read, from the front: a session and a serial, and what the lines
--- between the first and the last say.
+-- between the first and the last say (RFC 8182 sections 3.5.2 and 3.5.3).
 use Rattle.std.specs.Prelude.{ℕ, List, [], length, codes, Option, Some, None, Result, Ok, if◌then◌else◌}
 use Rattle.pub_set.specs.declared.objects.Object.{Object}
 use Rattle.pub_set.specs.declared.steps.Change.{Change}

@@ -49,13 +49,13 @@ change_text (Put uri bytes (Some hash)) =
 change_text (Withdraw uri hash) =
     codes "  <withdraw uri=\"" ++ uri ++ codes "\"" ++ hash_text hash ++ codes "/>\n"
 
--- The snapshot of a session and a serial.
+-- The snapshot of a session and a serial (RFC 8182 section 3.5.2).
 unfoldable pub snapshot_text : List ℕ → ℕ → List Object → List ℕ
 snapshot_text session serial objects =
     opening (codes "snapshot") session serial ++ flat_map object_text objects
     ++ codes "</snapshot>\n"
 
--- The delta from the serial before to this one.
+-- The delta from the serial before to this one (RFC 8182 section 3.5.3).
 unfoldable pub delta_text : List ℕ → ℕ → List Change → List ℕ
 delta_text session serial changes =
     opening (codes "delta") session serial ++ flat_map change_text changes ++ codes "</delta>\n"
@@ -71,7 +71,7 @@ delta_line delta =
     codes "  <delta serial=\"" ++ decimal delta.serial ++ codes "\" uri=\"" ++ delta.file.uri
     ++ codes "\"" ++ hash_text delta.file.hash ++ codes "/>\n"
 
--- The notification: the snapshot, and then the deltas as they are given.
+-- The notification (RFC 8182 section 3.5.1): the snapshot, and then the deltas as they are given.
 unfoldable pub notification_text : List ℕ → ℕ → FileRef → List DeltaRef → List ℕ
 notification_text session serial snapshot deltas =
     opening (codes "notification") session serial ++ snapshot_line snapshot

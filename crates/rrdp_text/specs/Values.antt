@@ -1,4 +1,4 @@
--- What a text can say.
+-- What a text can say (RFC 8182 section 3.5).
 use Rattle.std.specs.Prelude.{◌≡◌, ℕ, ◌^◌, ◌<◌, true, List, length, All, slice_index, None, Some}
 use Rattle.std.specs.List.{list_all, AllByRecursion}
 use Rattle.std.specs.List.Sorted.{IsStrictlySortedBy}
@@ -19,7 +19,7 @@ pub record IsUuid (u : List ℕ) : Type 0 where
   pub size : length u ≡ 16
   pub bytes : All (λ b. b < 256) u
 
--- A SHA-256 hash.
+-- A SHA-256 hash (RFC 8182 section 3.5.1.3).
 pub record IsHash (h : List ℕ) : Type 0 where
   pub size : length h ≡ 32
   pub bytes : AreBytes h

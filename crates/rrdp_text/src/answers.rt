@@ -1,11 +1,11 @@
-//! What the readers answer.
+//! What the readers answer (RFC 8182 sections 3.5.2 and 3.5.3).
 
 ghost use Rattle.std.specs.Prelude.{◌≡◌, IfOk, IfErr};
 ghost use Rattle.pub_set.specs.declared.objects.Object.{Object};
 ghost use Rattle.pub_set.specs.declared.steps.Change.{Change};
 ghost use Rattle.rrdp_text.specs.Files.{File, IsSnapshot, snapshot_spelled, snapshot_of, IsDelta, delta_spelled, delta_of};
 ghost use Rattle.rrdp_text.specs.Outcome.{IsReadAs, IsTrueFault, IsOkOrMemory, fault_of};
-ghost use Rattle.rrdp_text.specs.Parts.{Gives};
+ghost use Rattle.rrdp_text.specs.inner.Parts.{Gives};
 ghost use Rattle.rrdp_text.specs.Template.{snapshot_in, delta_in};
 
 use crate::fault::{Stop, XmlFault};
@@ -69,7 +69,7 @@ fn fault(stop: Stop, len: usize) -> XmlFault
     }
 }
 
-/// What a snapshot says, exactly where the bytes are its text.
+/// What a snapshot says, exactly where the bytes are its text (RFC 8182 section 3.5.2).
 pub fn read_snapshot(alloc: Global, bytes: &[u8]) -> Result<SnapshotFile, XmlFault>
     // What is read can be said, and the bytes are its text.
     ensures found { IfOk result (λ f. IsSnapshot (snapshot_of f)
@@ -87,7 +87,7 @@ pub fn read_snapshot(alloc: Global, bytes: &[u8]) -> Result<SnapshotFile, XmlFau
     }
 }
 
-/// What a delta says, exactly where the bytes are its text.
+/// What a delta says, exactly where the bytes are its text (RFC 8182 section 3.5.3).
 pub fn read_delta(alloc: Global, bytes: &[u8]) -> Result<DeltaFile, XmlFault>
     // What is read can be said, and the bytes are its text.
     ensures found { IfOk result (λ f. IsDelta (delta_of f)

@@ -1,11 +1,11 @@
-//! Why a text could not be read.
+//! Why a text could not be read (RFC 8182 section 3.5).
 
 ghost use Rattle.std.specs.Prelude.{◌≡◌};
 
 use std::alloc::AllocError;
 use thiserror::Error;
 
-/// What is wrong with a text.
+/// What is wrong with a text. Places are offsets in bytes.
 #[derive(Clone, Copy, Debug, PartialEq, Eq, Error)]
 pub enum XmlFault {
     /// The bytes are no text of the template. Where `at` is below their length, no text begins with

@@ -1,9 +1,9 @@
-//! The values in a text, each read up to the byte that ends it.
+//! The values in a text, each read up to the byte that ends it (RFC 8182 section 3.5).
 
 ghost use Rattle.std.specs.Prelude.{IfOk, IfSome, ◌≡◌, ◌+◌, length, Some, Ok, true};
 ghost use Rattle.std.specs.List.{list_all};
 ghost use Rattle.std.specs.Str.{IsUtf8};
-ghost use Rattle.rrdp_text.specs.Parts.{Gives};
+ghost use Rattle.rrdp_text.specs.inner.Parts.{Gives};
 ghost use Rattle.rrdp_text.specs.Fields.{is_below, uri_above, hash, serial, session, content, is_digit};
 ghost use Rattle.rrdp_text.specs.Reading.{field};
 ghost use Rattle.rrdp_text.specs.Template.{quote, opens, hash_in, content_in, opening_in};

@@ -1,4 +1,4 @@
-//! What the files say.
+//! What the files say (RFC 8182 section 3.5).
 
 ghost use Rattle.std.specs.Prelude.{◌≡◌};
 
@@ -6,21 +6,22 @@ use pub_set::{Change, ObjectSet, Uri};
 use std::marker::Model;
 use uuid::Uuid;
 
-/// A file, and the SHA-256 hash of its bytes.
+/// A file, and the SHA-256 hash of its bytes (RFC 8182 section 3.5.1.3).
 #[derive(Debug, Drop)]
 pub struct FileRef {
     pub uri: Uri,
     pub hash: [u8; 32],
 }
 
-/// The delta that leads to a serial.
+/// The delta that leads to a serial (RFC 8182 section 3.5.1.3).
 #[derive(Debug, Drop)]
 pub struct DeltaRef {
+    /// The serial of the edition to which it leads.
     pub serial: u64,
     pub file: FileRef,
 }
 
-/// What a snapshot says.
+/// What a snapshot says (RFC 8182 section 3.5.2).
 #[derive(Debug, Drop)]
 pub struct SnapshotFile {
     pub session: Uuid,
@@ -28,7 +29,7 @@ pub struct SnapshotFile {
     pub set: ObjectSet,
 }
 
-/// What a delta says.
+/// What a delta says (RFC 8182 section 3.5.3).
 #[derive(Debug, Drop)]
 pub struct DeltaFile {
     pub session: Uuid,

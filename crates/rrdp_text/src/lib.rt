@@ -1,4 +1,5 @@
-//! The files of RRDP (RFC 8182) as texts, and the locator of a trust anchor (RFC 8630).
+//! The files of RRDP (RFC 8182 section 3.5) as texts, and the locator of a trust anchor (RFC 8630
+//! section 2).
 //!
 //! A text has one form for each value: fixed templates, one element a line.
 #![tactic(auto)]
@@ -7,6 +8,7 @@ mod answers;
 mod fault;
 mod fields;
 mod files;
+mod laws;
 mod lines;
 mod locator;
 mod parts;
@@ -17,6 +19,7 @@ mod writing;
 pub use answers::{read_delta, read_snapshot};
 pub use fault::XmlFault;
 pub use files::{Changes, DeltaFile, DeltaRef, FileRef, SnapshotFile};
+pub use laws::texts_are_read_back;
 pub use locator::locator_text;
 pub use writing::{delta_text, notification_text, snapshot_text};
 

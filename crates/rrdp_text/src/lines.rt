@@ -1,4 +1,4 @@
-//! The parts of a text, appended to what is written so far.
+//! The parts of a text, appended to what is written so far (RFC 8182 section 3.5).
 
 ghost use Rattle.std.specs.Prelude.{◌≡◌, ◌++◌, OnOk, codes, decimal, List, ℕ};
 ghost use Rattle.std.specs.String.{string_bytes};

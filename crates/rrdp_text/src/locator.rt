@@ -1,4 +1,4 @@
-//! The locator of a trust anchor (RFC 8630).
+//! The locator of a trust anchor (RFC 8630 section 2.2).
 
 ghost use Rattle.std.specs.Prelude.{◌≡◌, ◌++◌, OnOk, IfOk};
 ghost use Rattle.std.specs.String.{string_bytes};
@@ -49,7 +49,8 @@ fn push_uris(out: &mut String, uris: &[String]) -> Result<(), AllocError>
 }
 
 #[tactic(auto, using(std::proofs::Common::append_assoc), unfolding(crate::specs::Locator::locator_text))]
-/// The locator: the URIs of the anchor's certificate, one a line, an empty line, and its key.
+/// The locator: the URIs of the anchor's certificate, one a line, an empty line, and its key (RFC
+/// 8630 section 2.2).
 pub fn locator_text(alloc: Global, uris: &[String], key: &[u8]) -> Result<String, AllocError>
     ensures { IfOk result (λ text. string_bytes text ≡ locator_text uris.now key.now) }
 {

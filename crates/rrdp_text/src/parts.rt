@@ -1,9 +1,9 @@
-//! What stands at the front of a text, and the bytes behind it.
+//! What stands at the front of a text, and the bytes behind it (RFC 8182 section 3.5).
 
 ghost use Rattle.std.specs.Prelude.{◌≡◌, ◌||◌};
 ghost use Rattle.std.specs.List.{prefix_len};
 ghost use Rattle.rrdp_text.specs.Fields.{is_letter, is_digit};
-ghost use Rattle.rrdp_text.specs.Parts.{Gives, has, plain};
+ghost use Rattle.rrdp_text.specs.inner.Parts.{Gives, has, plain};
 ghost use Rattle.rrdp_text.specs.Reading.{literal, field};
 
 use crate::fault::Stop;

@@ -1,9 +1,9 @@
-//! Snapshots and deltas read from their texts.
+//! Snapshots and deltas read from their texts (RFC 8182 sections 3.5.2 and 3.5.3).
 
 ghost use Rattle.std.specs.Prelude.{◌≡◌, ◌++◌, ◌∷◌, [], IfOk, OnOk, if◌then◌else◌};
 ghost use Rattle.std.specs.Str.{IsUtf8};
 ghost use Rattle.pub_set.specs.Changes.{uri_of};
-ghost use Rattle.rrdp_text.specs.Parts.{Gives};
+ghost use Rattle.rrdp_text.specs.inner.Parts.{Gives};
 ghost use Rattle.rrdp_text.specs.Reading.{begins};
 ghost use Rattle.rrdp_text.specs.Template.{object_in, replaced_in, placed_in, put_in, withdraw_in, change_in, objects_in, changes_in};
 

@@ -1,4 +1,4 @@
-//! The texts of the three files.
+//! The texts of the three files (RFC 8182 section 3.5).
 
 ghost use Rattle.std.specs.Prelude.{◌≡◌, IfOk};
 ghost use Rattle.std.specs.String.{string_bytes};

@@ -10,7 +10,7 @@ key_header = 0x30 ∷ 0x82 ∷ 0x01 ∷ 0x0a ∷ 0x02 ∷ 0x82 ∷ 0x01 ∷ 0x01
 abbrev pub key_exponent : List ℕ
 key_exponent = 0x02 ∷ 0x03 ∷ 0x01 ∷ 0x00 ∷ 0x01 ∷ []
 
--- Header, modulus and exponent. The modulus has all its 2,048 bits.
+-- Header, modulus and exponent (RFC 7935 section 3.1). The modulus has all its 2,048 bits.
 pub record IsPublicKey (bytes : List ℕ) : Type 0 where
   pub whole : length bytes ≡ 270
   pub header : take 9 bytes ≡ key_header

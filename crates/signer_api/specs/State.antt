@@ -1,4 +1,5 @@
--- What a signer is to those who call it, and what a call does to it.
+-- What a signer is to those who call it, and what a call does to it. Keys and signatures are
+-- those of RFC 7935 sections 2 and 3.
 use Rattle.std.specs.Prelude.{◌≡◌, ◌⊎◌, ◌+◌, ◌-◌, ◌^◌, ℕ, List, [], ◌∷◌, ◌++◌, Bool, not, nat_eq, Option, option_map, Result, Ok, Err, Contains, filter, min, ⊤}
 use Rattle.std.specs.Cmp.Lexicographic.{pointwise}
 use Rattle.signer_api.specs.Hashed.{hashed_signature}

@@ -1,4 +1,5 @@
-//! What signs for the authorities, and the keys, digests and signatures that it deals in.
+//! What signs for the authorities, and the keys, digests and signatures that it deals in (RFC 7935
+//! sections 2 and 3).
 //!
 //! The signers here are for tests and rehearsals: their keys and signatures are made of hashes.
 #![tactic(auto)]

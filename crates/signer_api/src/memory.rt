@@ -6,7 +6,7 @@ ghost use Rattle.signer_api.specs.State.{SignerState, Answers, DropsKey, RisesBy
 
 use crate::hashed::{hashed_key, hashed_signature};
 use crate::{Digest, OneUse, PublicKey, Signature, Signer, SignerStop};
-use fault_count::raised;
+use host_calls::raised;
 use std::alloc::Global;
 
 /// What it once signed.

@@ -33,13 +33,13 @@ impl PublicKey {
     }
 }
 
-/// A signature by such a key.
+/// A signature by such a key (RSASSA-PKCS1-v1_5 over SHA-256, RFC 7935 section 2).
 #[derive(Clone, Copy, Debug, PartialEq, Eq)]
 pub struct Signature {
     pub bytes: [u8; 256],
 }
 
-/// The SHA-256 of what is signed.
+/// The SHA-256 of what is signed (RFC 7935 section 2).
 #[derive(Clone, Copy, Debug, PartialEq, Eq)]
 pub struct Digest {
     pub bytes: [u8; 32],

@@ -1,5 +1,5 @@
 -- The lines that go to a signer and come back, without their line feeds. Bytes stand in lower-case hex.
-use Rattle.std.specs.Prelude.{List, ◌++◌, ℕ, codes, Bool, true, false}
+use Rattle.std.specs.Prelude.{◌≢◌, List, ◌++◌, ℕ, codes, Bool, true, false, All}
 use Rattle.hex.specs.Hex.{encode_lower}
 use Rattle.signer_line.specs.declared.request.Request.{Request}
 use Rattle.signer_line.specs.declared.request.Request.TheVariants.{Make, Sign, Once, Check, Discard}
@@ -52,3 +52,11 @@ drop_line = codes "done"
 -- A line and its line feed.
 abbrev pub fed : List ℕ → List ℕ
 fed line = line ++ codes "\n"
+
+-- what opens a meeting, and answers it: a word of 16 bytes
+abbrev pub hello_line : List ℕ → List ℕ
+hello_line word = codes "hello" ++ spaced word
+
+-- no line feed stands in it
+abbrev pub NoFeed : List ℕ → Type 0
+NoFeed bytes = All (λ b. b ≢ 10) bytes

@@ -1,9 +1,11 @@
 // One line of an answer.
-ghost use Rattle.std.specs.Prelude.{◌≡◌, ◌≤◌, length, take, IfOk, ◌∷◌, []};
+ghost use Rattle.std.specs.Prelude.{◌≡◌, ◌≤◌, length, take, OnOk, IfOk, IfErr, ◌∷◌, []};
 ghost use Rattle.std.specs.Io.KnownBytes.{Consumes};
-ghost use Rattle.signer_line.specs.Lines.{fed};
+ghost use Rattle.signer_line.specs.Lines.{fed, NoFeed};
+ghost use Rattle.signer_line.specs.Streams.{inbox_left, inbox_from, NoLine};
 
-use std::io::{self, ErrorKind, Read};
+use crate::inbox::{Inbox, Stop};
+use line_loop::RawReader;
 use std::marker::Model;
 
 // The longest line that answers a request: `once`, a key and a signature.
@@ -34,41 +36,26 @@ impl Line {
     }
 }
 
-fn next_byte<R: Read>(from: &mut R) -> io::Result<u8>
-    ensures { IfOk result (λ byte. Consumes (R.remaining from.old) (R.remaining from.new) (byte ∷ [])) }
-{
-    let mut byte = [0u8];
-    from.read_exact(&mut byte)?;
-    Ok(byte[0])
-}
-
-// Goes on behind the next line feed.
-fn pass_line<R: Read>(from: &mut R) -> io::Result<()> {
-    for _ in 0..u64::MAX {
-        if next_byte(from)? == b'\n' {
-            break;
-        }
-    }
-    Ok(())
-}
-
-// The next line. A longer one than any answer is passed over and refused, and so is one that no
-// line feed ends.
-pub(crate) fn receive<R: Read>(from: &mut R) -> io::Result<Line>
-    ensures { IfOk result (λ line. Consumes (R.remaining from.old) (R.remaining from.new) (fed line)) }
+// The next line. A longer one than any answer is refused as soon as it is.
+#[tactic(auto, using(crate::proofs::LineLemmas::no_line, crate::proofs::LineLemmas::too_long, crate::proofs::LineLemmas::whole_kept))]
+pub(crate) fn receive<R: RawReader>(from: &mut Inbox<R>) -> Result<Line, Stop>
+    ensures heard { IfOk result (λ line. Consumes (inbox_left R.left from.old) (inbox_left R.left from.new) (fed line)) }
+    ensures whole { IfOk result (λ line. NoFeed line) }
+    ensures ok { OnOk result (R.fault_count (inbox_from from.new) ≡ R.fault_count (inbox_from from.old)) }
+    ensures stop { IfErr result (λ stop. NoLine stop (R.fault_count (inbox_from from.old)) (R.fault_count (inbox_from from.new))
+        (inbox_left R.left from.old) (inbox_left R.left from.new)) }
 {
     let mut bytes = [0u8; LONGEST];
     for len in 0..LONGEST {
-        let byte = next_byte(from)?;
+        let byte = from.next()?;
         if byte == b'\n' {
             return Ok(Line { bytes, len });
         }
         bytes[len] = byte;
     }
-    if next_byte(from)? == b'\n' {
+    if from.next()? == b'\n' {
         let len = LONGEST;
         return Ok(Line { bytes, len });
     }
-    pass_line(from)?;
-    Err(io::Error::from(ErrorKind::InvalidData))
+    Err(Stop::TooLong)
 }

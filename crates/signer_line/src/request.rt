@@ -1,11 +1,10 @@
 // What is asked of the signer at the other end.
-ghost use Rattle.std.specs.Prelude.{◌≡◌, ◌++◌, ◌*◌, ◌≤◌, length, codes, OnOk};
-ghost use Rattle.std.specs.Io.KnownBytes.{Appends};
+ghost use Rattle.std.specs.Prelude.{◌≡◌, ◌++◌, ◌+◌, ◌*◌, ◌≤◌, length, codes, []};
 ghost use Rattle.signer_line.specs.Lines.{request_line, spaced, fed};
 
 use hex::encode_to_slice;
 use signer_api::{Digest, PublicKey, Signature};
-use std::io::{self, ErrorKind, Write};
+use std::marker::Model;
 
 #[derive(Clone, Copy)]
 pub(crate) enum Request<'a> {
@@ -27,57 +26,99 @@ pub(crate) enum Request<'a> {
     },
 }
 
-// A blank and the bytes in lower-case hex.
-fn write_hex<W: Write>(to: &mut W, bytes: &[u8]) -> io::Result<()>
-    requires { length bytes.now ≤ 270 }
-    ensures { OnOk result (Appends (W.contents to.old) (W.contents to.new) (spaced bytes.now)) }
-{
-    let mut digits = [0u8; 540];
-    let text = &mut digits[..2 * bytes.len()];
-    if encode_to_slice(bytes, text).is_err() {
-        return Err(io::Error::from(ErrorKind::InvalidData));
-    }
-    to.write_all(b" ")?;
-    to.write_all(text)
+// The longest line that is sent, with its line feed: `check`, a key, a digest and a signature.
+const LONGEST: usize = 1125;
+
+/// A line that is to be sent. It is sent whole, so that none that was cut off stands before a later one.
+#[derive(Drop)]
+pub(crate) struct Outgoing {
+    bytes: [u8; LONGEST],
+    len: usize,
 }
 
-// Writes a request without its line feed.
-fn write_request<W: Write>(to: &mut W, request: &Request) -> io::Result<()>
-    ensures { OnOk result (Appends (W.contents to.old) (W.contents to.new) (request_line request.now)) }
+impl Model for Outgoing {
+    ghost use Rattle.std.specs.Prelude.{◌≤◌, List, ℕ, take};
+
+    ghost Value = { List ℕ };
+
+    ghost view = { λ line. take line.len line.bytes };
+
+    ghost invariant = { λ line. line.len ≤ 1125 };
+}
+
+impl Outgoing {
+    pub(crate) fn new() -> Self
+        ensures { result ≡ [] }
+    {
+        Outgoing {
+            bytes: [0; LONGEST],
+            len: 0,
+        }
+    }
+
+    pub(crate) fn as_bytes(&self) -> &[u8]
+        ensures { result.now ≡ self.now }
+    {
+        &self.bytes[..self.len]
+    }
+
+    pub(crate) fn put(&mut self, part: &[u8])
+        requires { length self.old + length part.now ≤ 1125 }
+        ensures line { self.new ≡ self.old ++ part.now }
+        ensures long { length self.new ≡ length self.old + length part.now }
+    {
+        let end = self.len + part.len();
+        self.bytes[self.len..end].copy_from_slice(part);
+        self.len = end;
+    }
+
+    // A blank and the bytes in lower-case hex.
+    pub(crate) fn put_hex(&mut self, bytes: &[u8])
+        requires short { length bytes.now ≤ 270 }
+        requires room { length self.old + 1 + 2 * length bytes.now ≤ 1125 }
+        ensures line { self.new ≡ self.old ++ spaced bytes.now }
+        ensures long { length self.new ≡ length self.old + 1 + 2 * length bytes.now }
+    {
+        let mut digits = [0u8; 540];
+        let text = &mut digits[..2 * bytes.len()];
+        // It fits.
+        let _written = encode_to_slice(bytes, text);
+        self.put(b" ");
+        self.put(text);
+    }
+}
+
+/// The line of a request.
+pub(crate) fn line_of(request: &Request) -> Outgoing
+    ensures { result ≡ fed (request_line request.now) }
 {
+    let mut line = Outgoing::new();
     match request {
-        Request::Make => to.write_all(b"make"),
+        Request::Make => line.put(b"make"),
         Request::Sign { key, digest } => {
-            to.write_all(b"sign")?;
-            write_hex(to, &key.bytes)?;
-            write_hex(to, &digest.bytes)
+            line.put(b"sign");
+            line.put_hex(&key.bytes);
+            line.put_hex(&digest.bytes);
         }
         Request::Once { digest } => {
-            to.write_all(b"once")?;
-            write_hex(to, &digest.bytes)
+            line.put(b"once");
+            line.put_hex(&digest.bytes);
         }
         Request::Check {
             key,
             digest,
             signature,
         } => {
-            to.write_all(b"check")?;
-            write_hex(to, &key.bytes)?;
-            write_hex(to, &digest.bytes)?;
-            write_hex(to, &signature.bytes)
+            line.put(b"check");
+            line.put_hex(&key.bytes);
+            line.put_hex(&digest.bytes);
+            line.put_hex(&signature.bytes);
         }
         Request::Discard { key } => {
-            to.write_all(b"drop")?;
-            write_hex(to, &key.bytes)
+            line.put(b"drop");
+            line.put_hex(&key.bytes);
         }
     }
-}
-
-// Sends the line of a request.
-pub(crate) fn send<W: Write>(to: &mut W, request: &Request) -> io::Result<()>
-    ensures { OnOk result (Appends (W.contents to.old) (W.contents to.new) (fed (request_line request.now))) }
-{
-    write_request(to, request)?;
-    to.write_all(b"\n")?;
-    to.flush()
+    line.put(b"\n");
+    line
 }

@@ -1,78 +1,215 @@
 // A signer over two streams.
-ghost use Rattle.std.specs.Prelude.{◌≡◌, None};
+ghost use Rattle.std.specs.Prelude.{◌≡◌, ℕ, List, Bool, Some, None, IsSome, IfSome};
+ghost use Rattle.signer_line.specs.Answers.{heard_of};
+ghost use Rattle.signer_line.specs.Answers.Answered.{Key, Signature as SignatureAnswer, Once, Checked, Dropped};
 ghost use Rattle.signer_api.specs.State.{SignerState, next_count};
 ghost use Rattle.signer_api.specs.State.Vouching.{NotTold};
 
-use crate::answer::{read_check, read_key, read_once, read_signature};
-use crate::line::{Line, receive};
-use crate::request::{Request, send};
-use fault_count::raised;
+use crate::answer::{Answer, read_answer};
+use crate::calls::{HandsOn, send};
+use crate::inbox::{Inbox, Stop};
+use crate::line::receive;
+use crate::meeting::{hello_line, pass_to};
+use crate::request::{Request, line_of};
+use host_calls::raised;
+use line_loop::{HostReader, HostWriter, RawReader};
 use signer_api::{Digest, OneUse, PublicKey, Signature, Signer, SignerStop};
 use std::alloc::Global;
-use std::io::{self, Read, Write};
+use std::io::{Read, Write};
 
 /// A signer at the other end of two streams. Each call writes one line and reads one line.
 ///
 /// Any other line than the call's answer is a fault, and so are the end of the stream and an error.
-/// It tells nothing of vouching or keys. No call takes memory: a line that is longer than any
-/// answer is passed over. It reads byte by byte, so a pipe is best read behind a buffer. A writer's
-/// buffer that keeps what could not be written would send it in front of the next request.
+/// Before its first request and after each fault it meets the other end: it sends `hello` and a word
+/// of 16 bytes, and passes over what comes, up to the line that says it again. So no answer to an
+/// earlier request, whoever made it, is taken for one to a later request.
+///
+/// It tells nothing of vouching or keys. No call takes memory. It reads in blocks and writes each
+/// line whole, so both streams are best handed in bare.
 #[derive(Drop)]
-pub struct LineSigner<R, W> {
-    from: R,
+pub struct SignerOver<R, W> {
+    from: Inbox<R>,
     to: W,
+    in_step: bool,
+    number: u128,
     signatures: u64,
     once: u64,
     faults: u64,
 }
 
-impl<R: Read, W: Write> LineSigner<R, W> {
-    ghost use Rattle.std.specs.Prelude.{◌≡◌, None, OnOk, IfOk};
+// What came is no answer, or nothing came.
+#[derive(Drop)]
+struct Unanswered;
+
+/// A signer over a reader and a writer of std. It is known what they hold where they tell.
+pub type LineSigner<R, W> = SignerOver<HostReader<R>, HostWriter<W>>;
+
+impl<R: Read + Drop, W: Write + Drop> SignerOver<HostReader<R>, HostWriter<W>> {
+    ghost use Rattle.std.specs.Prelude.{◌≡◌, false, None};
+    ghost use Rattle.line_loop.specs.Streams.{host_reader, host_writer};
+    ghost use Rattle.signer_line.specs.Streams.{line_state, line_from, line_to, in_step, number_of};
+    ghost use Rattle.signer_api.specs.State.{SignerState};
+    ghost use Rattle.signer_api.specs.State.Vouching.{NotTold};
+
+    /// A signer that has not failed, and that the other end hasn't met. The words of its meetings are
+    /// counted from this one on, which is best drawn at random.
+    pub fn new(from: R, to: W, first_word: u128) -> Self
+        ensures from { host_reader (line_from result) ≡ from }
+        ensures to { host_writer (line_to result) ≡ to }
+        ensures apart { in_step result ≡ false }
+        ensures number { number_of result ≡ first_word }
+        ensures new { line_state result ≡ record { vouching = NotTold; keys = None; signatures = 0; once = 0; faults = 0 } }
+    {
+        SignerOver::over(HostReader::new(from), HostWriter::new(to), first_word)
+    }
+}
+
+impl<R: RawReader, W: HandsOn> SignerOver<R, W> {
+    ghost use Rattle.std.specs.Prelude.{◌≡◌, ◌++◌, true, false, None, ℕ, List, Err, OnOk, OnErr, IfOk, IfErr, option_map};
     ghost use Rattle.std.specs.Io.KnownBytes.{Appends, Consumes};
-    ghost use Rattle.signer_line.specs.Streams.{line_state, line_from, line_to};
+    ghost use Rattle.signer_line.specs.Answers.{Answered, IsAnswer, answer_line, told};
+    ghost use Rattle.signer_line.specs.Streams.{line_state, line_from, line_to, line_left, in_step, number_of, RightOr, Breaks, NoMeeting};
+    ghost use Rattle.signer_line.specs.Meetings.{hello, next_number, number_after, asking, Hears, Comes};
     ghost use Rattle.signer_line.specs.Lines.{request_line, fed};
-    ghost use Rattle.signer_api.specs.State.{SignerState, CountsFault, next_count};
+    ghost use Rattle.signer_api.specs.State.{SignerState, CountsFault, Answers, next_count};
     ghost use Rattle.signer_api.specs.State.Vouching.{NotTold};
     ghost use Rattle.signer_api.specs.declared.signer.SignerStop.TheVariants.{Fault};
 
-    /// A signer that has not failed.
-    pub fn new(from: R, to: W) -> Self
+    /// The same over these calls.
+    pub fn over(from: R, to: W, first_word: u128) -> Self
         ensures from { line_from result ≡ from }
+        ensures left { line_left R.left result ≡ R.left from }
         ensures to { line_to result ≡ to }
+        ensures apart { in_step result ≡ false }
+        ensures number { number_of result ≡ first_word }
         ensures new { line_state result ≡ record { vouching = NotTold; keys = None; signatures = 0; once = 0; faults = 0 } }
     {
-        LineSigner {
-            from,
+        SignerOver {
+            from: Inbox::new(from),
             to,
+            in_step: false,
+            number: first_word,
             signatures: 0,
             once: 0,
             faults: 0,
         }
     }
 
-    // Asks, and hears the answer.
-    fn ask(&mut self, request: &Request) -> io::Result<Line>
-        ensures stays { line_state self.new ≡ line_state self.old }
-        ensures asked { OnOk result (Appends (W.contents (line_to self.old)) (W.contents (line_to self.new))
-            (fed (request_line request.now))) }
-        ensures heard { IfOk result (λ line. Consumes (R.remaining (line_from self.old)) (R.remaining (line_from self.new))
-            (fed line)) }
+    // Opens a meeting, and reads up to its end.
+    fn join(&mut self) -> Result<(), Stop>
+        ensures state { line_state self.new ≡ line_state self.old }
+        ensures number { number_of self.new ≡ next_number (number_of self.old) }
+        ensures met { OnOk result (in_step self.new ≡ true) }
+        ensures asked { OnOk result (Appends (W.taken (line_to self.old)) (W.taken (line_to self.new)) (hello (number_of self.old))) }
+        ensures heard { OnOk result ((passed : List ℕ)
+            × Consumes (line_left R.left self.old) (line_left R.left self.new) (passed ++ hello (number_of self.old))) }
+        ensures refused { IfErr result (λ stop. NoMeeting stop
+            (Breaks (R.fault_count (line_from self.old)) (R.fault_count (line_from self.new))
+            (W.fault_count (line_to self.old)) (W.fault_count (line_to self.new)))
+            (line_left R.left self.old) (line_left R.left self.new)) }
     {
-        send(&mut self.to, request)?;
-        receive(&mut self.from)
+        let line = hello_line(self.number);
+        self.number = self.number.wrapping_add(1);
+        if send(&mut self.to, line.as_bytes()).is_err() {
+            return Err(Stop::Broken);
+        }
+        pass_to(&mut self.from, line.as_bytes())?;
+        self.in_step = true;
+        Ok(())
+    }
+
+    /// Meets the other end anew. It is refused where a call of a stream fails, or no answer comes: before
+    /// the end, or within a mebibyte.
+    pub fn meet(&mut self) -> Result<(), SignerStop>
+        ensures fault { IfErr result (λ stop. stop ≡ Fault) }
+        ensures counted { Answers (λ _ signer. signer) result (line_state self.old) (line_state self.new) }
+        ensures number { number_of self.new ≡ next_number (number_of self.old) }
+        ensures met { OnOk result (in_step self.new ≡ true) }
+        ensures apart { OnErr result (in_step self.new ≡ false) }
+        ensures asked { OnOk result (Appends (W.taken (line_to self.old)) (W.taken (line_to self.new)) (hello (number_of self.old))) }
+        ensures heard { OnOk result ((passed : List ℕ)
+            × Consumes (line_left R.left self.old) (line_left R.left self.new) (passed ++ hello (number_of self.old))) }
+        ensures refused { OnErr result ((stop : Stop) × NoMeeting stop
+            (Breaks (R.fault_count (line_from self.old)) (R.fault_count (line_from self.new))
+            (W.fault_count (line_to self.old)) (W.fault_count (line_to self.new)))
+            (line_left R.left self.old) (line_left R.left self.new)) }
+    {
+        match self.join() {
+            Ok(()) => Ok(()),
+            Err(_) => Err(self.failed()),
+        }
+    }
+
+    // Asks and hears the answer, in step.
+    fn exchange(&mut self, request: &Request) -> Result<Answer, Unanswered>
+        ensures state { line_state self.new ≡ line_state self.old }
+        ensures number { number_of self.new ≡ number_of self.old }
+        ensures step { in_step self.new ≡ in_step self.old }
+        ensures asked { OnOk result (Appends (W.taken (line_to self.old)) (W.taken (line_to self.new)) (fed (request_line request.now))) }
+        ensures handed { OnOk result (W.handed (line_to self.new) ≡ W.taken (line_to self.new)) }
+        ensures heard { IfOk result (λ answer. Consumes (line_left R.left self.old) (line_left R.left self.new)
+            (fed (answer_line (told answer)))) }
+        ensures exact { (answer : Answered) → IsAnswer answer → Comes (line_left R.left self.old) (answer_line answer)
+            → RightOr (Breaks (R.fault_count (line_from self.old)) (R.fault_count (line_from self.new))
+            (W.fault_count (line_to self.old)) (W.fault_count (line_to self.new)))
+            (λ given. told given ≡ answer) result }
+    {
+        let sent = send(&mut self.to, line_of(request).as_bytes());
+        if sent.is_err() {
+            return Err(Unanswered);
+        }
+        match receive(&mut self.from) {
+            Ok(line) => match read_answer(line.as_bytes()) {
+                Some(answer) => Ok(answer),
+                None => Err(Unanswered),
+            },
+            Err(_) => Err(Unanswered),
+        }
+    }
+
+    // Asks and hears the answer. Out of step both ends meet first.
+    fn ask(&mut self, request: &Request) -> Result<Answer, Unanswered>
+        ensures state { line_state self.new ≡ line_state self.old }
+        ensures number { number_of self.new ≡ number_after (in_step self.old) (number_of self.old) }
+        ensures step { OnOk result (in_step self.new ≡ true) }
+        ensures asked { OnOk result (Appends (W.taken (line_to self.old)) (W.taken (line_to self.new))
+            (asking (in_step self.old) (number_of self.old) (request_line request.now))) }
+        ensures handed { OnOk result (W.handed (line_to self.new) ≡ W.taken (line_to self.new)) }
+        ensures heard { IfOk result (λ answer. Hears (in_step self.old) (number_of self.old)
+            (line_left R.left self.old) (line_left R.left self.new) (answer_line (told answer))) }
+        ensures exact { (answer : Answered) → IsAnswer answer → in_step self.old ≡ true
+            → Comes (line_left R.left self.old) (answer_line answer)
+            → RightOr (Breaks (R.fault_count (line_from self.old)) (R.fault_count (line_from self.new))
+            (W.fault_count (line_to self.old)) (W.fault_count (line_to self.new)))
+            (λ given. told given ≡ answer) result }
+    {
+        if self.in_step {
+            return self.exchange(request);
+        }
+        match self.join() {
+            Ok(()) => self.exchange(request),
+            Err(_) => Err(Unanswered),
+        }
     }
 
     fn failed(&mut self) -> SignerStop
         ensures stop { result ≡ Fault }
         ensures counted { CountsFault (line_state self.old) (line_state self.new) }
+        ensures apart { in_step self.new ≡ false }
+        ensures number { number_of self.new ≡ number_of self.old }
+        ensures inbox { self.new.from ≡ self.old.from }
+        ensures to { line_to self.new ≡ line_to self.old }
     {
+        self.in_step = false;
         self.faults = raised(self.faults);
         SignerStop::Fault
     }
 
     fn count_signature(&mut self)
         ensures counted { line_state self.new ≡ record (line_state self.old) { signatures = next_count self.old.signatures } }
-        ensures from { line_from self.new ≡ line_from self.old }
+        ensures step { in_step self.new ≡ in_step self.old }
+        ensures number { number_of self.new ≡ number_of self.old }
+        ensures inbox { self.new.from ≡ self.old.from }
         ensures to { line_to self.new ≡ line_to self.old }
     {
         self.signatures = self.signatures.saturating_add(1);
@@ -80,33 +217,121 @@ impl<R: Read, W: Write> LineSigner<R, W> {
 
     fn count_one_use(&mut self)
         ensures counted { line_state self.new ≡ record (line_state self.old) { once = next_count self.old.once } }
-        ensures from { line_from self.new ≡ line_from self.old }
+        ensures step { in_step self.new ≡ in_step self.old }
+        ensures number { number_of self.new ≡ number_of self.old }
+        ensures inbox { self.new.from ≡ self.old.from }
         ensures to { line_to self.new ≡ line_to self.old }
     {
         self.once = self.once.saturating_add(1);
     }
 }
 
-impl<R: Read + Drop, W: Write + Drop> Signer for LineSigner<R, W> {
-    ghost use Rattle.std.specs.Prelude.{◌≡◌, ◌↔◌, IsTrue, OnOk, IfOk, IfErr};
+// The key that was answered.
+fn key_in(answer: Result<Answer, Unanswered>) -> Option<PublicKey>
+    ensures told { IfSome result (λ key. heard_of answer ≡ Some (Key key.bytes)) }
+    ensures every { (key : List ℕ) → heard_of answer ≡ Some (Key key) → IsSome result }
+{
+    match answer {
+        Ok(Answer::Key(key)) => Some(key),
+        Ok(Answer::Signature(_)) => None,
+        Ok(Answer::Once(_)) => None,
+        Ok(Answer::Checked(_)) => None,
+        Ok(Answer::Dropped) => None,
+        Err(_) => None,
+    }
+}
+
+// The signature that was answered.
+fn signature_in(answer: Result<Answer, Unanswered>) -> Option<Signature>
+    ensures told { IfSome result (λ s. heard_of answer ≡ Some (SignatureAnswer s.bytes)) }
+    ensures every { (signature : List ℕ) → heard_of answer ≡ Some (SignatureAnswer signature) → IsSome result }
+{
+    match answer {
+        Ok(Answer::Key(_)) => None,
+        Ok(Answer::Signature(signature)) => Some(signature),
+        Ok(Answer::Once(_)) => None,
+        Ok(Answer::Checked(_)) => None,
+        Ok(Answer::Dropped) => None,
+        Err(_) => None,
+    }
+}
+
+// The key and the signature that were answered.
+fn once_in(answer: Result<Answer, Unanswered>) -> Option<OneUse>
+    ensures told { IfSome result (λ once. heard_of answer ≡ Some (Once once.key.bytes once.signature.bytes)) }
+    ensures every { (key signature : List ℕ) → heard_of answer ≡ Some (Once key signature) → IsSome result }
+{
+    match answer {
+        Ok(Answer::Key(_)) => None,
+        Ok(Answer::Signature(_)) => None,
+        Ok(Answer::Once(once)) => Some(once),
+        Ok(Answer::Checked(_)) => None,
+        Ok(Answer::Dropped) => None,
+        Err(_) => None,
+    }
+}
+
+// The yes or no that was answered.
+fn check_in(answer: Result<Answer, Unanswered>) -> Option<bool>
+    ensures told { IfSome result (λ yes. heard_of answer ≡ Some (Checked yes)) }
+    ensures every { (yes : Bool) → heard_of answer ≡ Some (Checked yes) → IsSome result }
+{
+    match answer {
+        Ok(Answer::Key(_)) => None,
+        Ok(Answer::Signature(_)) => None,
+        Ok(Answer::Once(_)) => None,
+        Ok(Answer::Checked(yes)) => Some(yes),
+        Ok(Answer::Dropped) => None,
+        Err(_) => None,
+    }
+}
+
+// That a key was dropped, if it was answered.
+fn drop_in(answer: Result<Answer, Unanswered>) -> Option<()>
+    ensures told { IfSome result (λ _. heard_of answer ≡ Some Dropped) }
+    ensures every { heard_of answer ≡ Some Dropped → IsSome result }
+{
+    match answer {
+        Ok(Answer::Key(_)) => None,
+        Ok(Answer::Signature(_)) => None,
+        Ok(Answer::Once(_)) => None,
+        Ok(Answer::Checked(_)) => None,
+        Ok(Answer::Dropped) => Some(()),
+        Err(_) => None,
+    }
+}
+
+impl<R: RawReader, W: HandsOn> Signer for SignerOver<R, W> {
+    ghost use Rattle.std.specs.Prelude.{◌≡◌, ◌↔◌, ◌⊎◌, ℕ, List, Bool, true, false, length, IsTrue, IsOk, IsErr, OnOk, OnErr, IfOk, IfErr};
     ghost use Rattle.signer_api.specs.declared.signer.SignerStop.TheVariants.{Fault};
     ghost use Rattle.std.specs.Io.KnownBytes.{Appends, Consumes};
+    ghost use Rattle.hex.specs.Hex.{IsBytes};
+    ghost use Rattle.signer_api.specs.PublicKey.{IsPublicKey};
     ghost use Rattle.signer_api.specs.State.{Signed, Answers, DropsKey, Tells, Vouches, with_key, with_signature, with_once};
-    ghost use Rattle.signer_line.specs.Streams.{line_state, line_from, line_to, Succeeds};
-    ghost use Rattle.signer_line.specs.Lines.{make_request, sign_request, once_request, check_request, drop_request, key_line, signature_line, once_line, check_line, drop_line, fed};
+    ghost use Rattle.signer_line.specs.Streams.{line_state, line_from, line_to, line_left, in_step, number_of, RightOr, Breaks, Succeeds};
+    ghost use Rattle.signer_line.specs.Meetings.{number_after, asking, Hears, Comes};
+    ghost use Rattle.signer_line.specs.Lines.{make_request, sign_request, once_request, check_request, drop_request, key_line, signature_line, once_line, check_line, drop_line};
 
     ghost state = { λ signer. line_state signer };
 
     fn make_key(&mut self, _alloc: Global) -> Result<PublicKey, SignerStop>
         ensures fault { IfErr result (λ stop. stop ≡ Fault) }
         ensures made { Answers (λ key. with_key key.bytes) result (line_state self.old) (line_state self.new) }
-        ensures asked { OnOk result (Appends (W.contents (line_to self.old)) (W.contents (line_to self.new))
-            (fed make_request)) }
-        ensures heard { IfOk result (λ key. Consumes (R.remaining (line_from self.old)) (R.remaining (line_from self.new))
-            (fed (key_line key.bytes))) }
+        ensures step { (IsOk result → in_step self.new ≡ true) × (IsErr result → in_step self.new ≡ false) }
+        ensures number { number_of self.new ≡ number_after (in_step self.old) (number_of self.old) }
+        ensures asked { OnOk result (Appends (W.taken (line_to self.old)) (W.taken (line_to self.new))
+            (asking (in_step self.old) (number_of self.old) (make_request))) }
+        ensures handed { OnOk result (W.handed (line_to self.new) ≡ W.taken (line_to self.new)) }
+        ensures heard { IfOk result (λ key. Hears (in_step self.old) (number_of self.old)
+            (line_left R.left self.old) (line_left R.left self.new) (key_line key.bytes)) }
+        ensures exact { (key : List ℕ) → IsPublicKey key → IsBytes key → in_step self.old ≡ true
+            → Comes (line_left R.left self.old) (key_line key)
+            → RightOr (Breaks (R.fault_count (line_from self.old)) (R.fault_count (line_from self.new))
+            (W.fault_count (line_to self.old)) (W.fault_count (line_to self.new)))
+            (λ given. given.bytes ≡ key) result }
     {
-        let line = self.ask(&Request::Make);
-        match line.ok().and_then(|line| read_key(line.as_bytes())) {
+        let answer = self.ask(&Request::Make);
+        match key_in(answer) {
             Some(key) => Ok(key),
             None => Err(self.failed()),
         }
@@ -124,13 +349,21 @@ impl<R: Read + Drop, W: Write + Drop> Signer for LineSigner<R, W> {
             result (line_state self.old) (line_state self.new) }
         ensures vouched { IfOk result (λ s. Tells (line_state self.old)
             → Vouches (line_state self.new) key.now.bytes digest.now.bytes s.bytes) }
-        ensures asked { OnOk result (Appends (W.contents (line_to self.old)) (W.contents (line_to self.new))
-            (fed (sign_request key.now.bytes digest.now.bytes))) }
-        ensures heard { IfOk result (λ s. Consumes (R.remaining (line_from self.old)) (R.remaining (line_from self.new))
-            (fed (signature_line s.bytes))) }
+        ensures step { (IsOk result → in_step self.new ≡ true) × (IsErr result → in_step self.new ≡ false) }
+        ensures number { number_of self.new ≡ number_after (in_step self.old) (number_of self.old) }
+        ensures asked { OnOk result (Appends (W.taken (line_to self.old)) (W.taken (line_to self.new))
+            (asking (in_step self.old) (number_of self.old) (sign_request key.now.bytes digest.now.bytes))) }
+        ensures handed { OnOk result (W.handed (line_to self.new) ≡ W.taken (line_to self.new)) }
+        ensures heard { IfOk result (λ s. Hears (in_step self.old) (number_of self.old)
+            (line_left R.left self.old) (line_left R.left self.new) (signature_line s.bytes)) }
+        ensures exact { (signature : List ℕ) → length signature ≡ 256 → IsBytes signature → in_step self.old ≡ true
+            → Comes (line_left R.left self.old) (signature_line signature)
+            → RightOr (Breaks (R.fault_count (line_from self.old)) (R.fault_count (line_from self.new))
+            (W.fault_count (line_to self.old)) (W.fault_count (line_to self.new)))
+            (λ given. given.bytes ≡ signature) result }
     {
-        let line = self.ask(&Request::Sign { key, digest });
-        match line.ok().and_then(|line| read_signature(line.as_bytes())) {
+        let answer = self.ask(&Request::Sign { key, digest });
+        match signature_in(answer) {
             Some(signature) => {
                 self.count_signature();
                 Ok(signature)
@@ -146,13 +379,22 @@ impl<R: Read + Drop, W: Write + Drop> Signer for LineSigner<R, W> {
             result (line_state self.old) (line_state self.new) }
         ensures vouched { IfOk result (λ once. Tells (line_state self.old)
             → Vouches (line_state self.new) once.key.bytes digest.now.bytes once.signature.bytes) }
-        ensures asked { OnOk result (Appends (W.contents (line_to self.old)) (W.contents (line_to self.new))
-            (fed (once_request digest.now.bytes))) }
-        ensures heard { IfOk result (λ once. Consumes (R.remaining (line_from self.old)) (R.remaining (line_from self.new))
-            (fed (once_line once.key.bytes once.signature.bytes))) }
+        ensures step { (IsOk result → in_step self.new ≡ true) × (IsErr result → in_step self.new ≡ false) }
+        ensures number { number_of self.new ≡ number_after (in_step self.old) (number_of self.old) }
+        ensures asked { OnOk result (Appends (W.taken (line_to self.old)) (W.taken (line_to self.new))
+            (asking (in_step self.old) (number_of self.old) (once_request digest.now.bytes))) }
+        ensures handed { OnOk result (W.handed (line_to self.new) ≡ W.taken (line_to self.new)) }
+        ensures heard { IfOk result (λ once. Hears (in_step self.old) (number_of self.old)
+            (line_left R.left self.old) (line_left R.left self.new) (once_line once.key.bytes once.signature.bytes)) }
+        ensures exact { (key signature : List ℕ) → IsPublicKey key → IsBytes key → length signature ≡ 256 → IsBytes signature
+            → in_step self.old ≡ true
+            → Comes (line_left R.left self.old) (once_line key signature)
+            → RightOr (Breaks (R.fault_count (line_from self.old)) (R.fault_count (line_from self.new))
+            (W.fault_count (line_to self.old)) (W.fault_count (line_to self.new)))
+            (λ given. (given.key.bytes ≡ key) × (given.signature.bytes ≡ signature)) result }
     {
-        let line = self.ask(&Request::Once { digest });
-        match line.ok().and_then(|line| read_once(line.as_bytes())) {
+        let answer = self.ask(&Request::Once { digest });
+        match once_in(answer) {
             Some(once) => {
                 self.count_signature();
                 self.count_one_use();
@@ -173,17 +415,25 @@ impl<R: Read + Drop, W: Write + Drop> Signer for LineSigner<R, W> {
             → (IsTrue yes ↔ Vouches (line_state self.new) key.now.bytes digest.now.bytes signature.now.bytes)) }
         ensures fault { IfErr result (λ stop. stop ≡ Fault) }
         ensures stays { Answers (λ _ signer. signer) result (line_state self.old) (line_state self.new) }
-        ensures asked { OnOk result (Appends (W.contents (line_to self.old)) (W.contents (line_to self.new))
-            (fed (check_request key.now.bytes digest.now.bytes signature.now.bytes))) }
-        ensures heard { IfOk result (λ yes. Consumes (R.remaining (line_from self.old)) (R.remaining (line_from self.new))
-            (fed (check_line yes))) }
+        ensures step { (IsOk result → in_step self.new ≡ true) × (IsErr result → in_step self.new ≡ false) }
+        ensures number { number_of self.new ≡ number_after (in_step self.old) (number_of self.old) }
+        ensures asked { OnOk result (Appends (W.taken (line_to self.old)) (W.taken (line_to self.new))
+            (asking (in_step self.old) (number_of self.old) (check_request key.now.bytes digest.now.bytes signature.now.bytes))) }
+        ensures handed { OnOk result (W.handed (line_to self.new) ≡ W.taken (line_to self.new)) }
+        ensures heard { IfOk result (λ yes. Hears (in_step self.old) (number_of self.old)
+            (line_left R.left self.old) (line_left R.left self.new) (check_line yes)) }
+        ensures exact { (yes : Bool) → in_step self.old ≡ true
+            → Comes (line_left R.left self.old) (check_line yes)
+            → RightOr (Breaks (R.fault_count (line_from self.old)) (R.fault_count (line_from self.new))
+            (W.fault_count (line_to self.old)) (W.fault_count (line_to self.new)))
+            (λ given. given ≡ yes) result }
     {
-        let line = self.ask(&Request::Check {
+        let answer = self.ask(&Request::Check {
             key,
             digest,
             signature,
         });
-        match line.ok().and_then(|line| read_check(line.as_bytes())) {
+        match check_in(answer) {
             Some(yes) => Ok(yes),
             None => Err(self.failed()),
         }
@@ -191,15 +441,21 @@ impl<R: Read + Drop, W: Write + Drop> Signer for LineSigner<R, W> {
 
     fn drop_key(&mut self, key: &PublicKey)
         ensures dropped { DropsKey key.now.bytes (line_state self.old) (line_state self.new) }
+        ensures number { number_of self.new ≡ number_after (in_step self.old) (number_of self.old) }
         // A call that failed is known by the count, which rises but at the last value of a u64.
-        ensures asked { Succeeds self.old.faults self.new.faults → Appends (W.contents (line_to self.old))
-            (W.contents (line_to self.new)) (fed (drop_request key.now.bytes)) }
-        ensures heard { Succeeds self.old.faults self.new.faults → Consumes (R.remaining (line_from self.old))
-            (R.remaining (line_from self.new)) (fed drop_line) }
+        ensures asked { Succeeds self.old.faults self.new.faults → Appends (W.taken (line_to self.old))
+            (W.taken (line_to self.new)) (asking (in_step self.old) (number_of self.old) (drop_request key.now.bytes)) }
+        ensures handed { Succeeds self.old.faults self.new.faults → W.handed (line_to self.new) ≡ W.taken (line_to self.new) }
+        ensures heard { Succeeds self.old.faults self.new.faults → Hears (in_step self.old) (number_of self.old)
+            (line_left R.left self.old) (line_left R.left self.new) drop_line }
+        ensures exact { in_step self.old ≡ true → Comes (line_left R.left self.old) drop_line
+            → (self.new.faults ≡ self.old.faults) ⊎ Breaks (R.fault_count (line_from self.old)) (R.fault_count (line_from self.new))
+            (W.fault_count (line_to self.old)) (W.fault_count (line_to self.new)) }
     {
-        match self.ask(&Request::Discard { key }) {
-            Ok(line) if line.as_bytes() == b"done".as_slice() => {}
-            _ => {
+        let answer = self.ask(&Request::Discard { key });
+        match drop_in(answer) {
+            Some(()) => {}
+            None => {
                 let _ = self.failed();
             }
         }

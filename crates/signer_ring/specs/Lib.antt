@@ -1,1 +1,3 @@
+pub mod Calls
 pub mod Ring
+pub mod laws

@@ -62,7 +62,7 @@ impl<S: Signer> Ring<S> {
         answered(signer, self.signers[signer as usize].make_key(alloc))
     }
 
-    /// Signs a digest with a key that one signer holds.
+    /// Signs a digest with a key that one signer holds. RSASSA-PKCS1-v1_5 (RFC 7935 section 2).
     pub fn sign(
         &mut self,
         alloc: Global,

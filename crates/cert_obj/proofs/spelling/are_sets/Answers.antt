@@ -1,5 +1,5 @@
 use Rattle.res_sets.specs.declared.numbers.Family.TheVariants.{Asn, V4, V6}
-use Rattle.cert_obj.proofs.Written.{listed}
+use Rattle.cert_obj.specs.laws.HoldingLaws.{listed}
 use Rattle.cert_obj.proofs.spelling.are_sets.Goals as goal
 
 pub returns : goal.returns

@@ -1,5 +1,5 @@
 use Rattle.std.proofs.Common.{length}
-use Rattle.der_forms.specs.Forms.{AreAll}
+use Rattle.der.specs.Forms.{AreAll}
 use Rattle.crl_obj.specs.Values.{IsEntry}
 use Rattle.crl_obj.proofs.entries.are_entries.Given as goal
 

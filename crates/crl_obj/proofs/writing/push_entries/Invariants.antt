@@ -1,5 +1,5 @@
 use Rattle.std.proofs.Common.{◌≡◌, ◌++◌, length}
-use Rattle.der_forms.specs.Forms.{AreAll, many}
+use Rattle.der.specs.Forms.{AreAll, many}
 use Rattle.crl_obj.specs.Values.{IsEntry}
 use Rattle.crl_obj.specs.Formats.{entry}
 use Rattle.crl_obj.proofs.writing.push_entries.Given as goal

@@ -1,7 +1,7 @@
 use Rattle.std.proofs.Common.{◌∷◌, arith}
 use Rattle.der.specs.Spelling.{bits_spelling, unsigned_spelling, unsigned_content}
-use Rattle.der.specs.ElementLaws.{longer}
-use Rattle.der.specs.ContentLaws.{some-content}
+use Rattle.der.specs.laws.ElementLaws.{longer}
+use Rattle.der.specs.laws.ContentLaws.{some-content}
 use Rattle.der.proofs.laws.longer_than_content.Goals as goal
 
 pub returns-clause-element : goal.returns-clause-element

@@ -1,4 +1,4 @@
-use Rattle.der.specs.ContentLaws.{one_bits}
+use Rattle.der.specs.laws.ContentLaws.{one_bits}
 use Rattle.der.proofs.laws.one_bits.Goals as goal
 
 pub returns : goal.returns

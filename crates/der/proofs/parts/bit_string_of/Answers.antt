@@ -1,6 +1,6 @@
 use Rattle.std.proofs.Common.{◌∙◌, ap}
 use Rattle.der.specs.Spelling.{spelled, bits_spelling}
-use Rattle.der.specs.ContentLaws.{content-bits}
+use Rattle.der.specs.laws.ContentLaws.{content-bits}
 use Rattle.der.proofs.parts.bit_string_of.Goals as goal
 
 pub returns-clause-whole : goal.returns-clause-whole

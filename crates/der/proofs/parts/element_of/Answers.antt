@@ -1,5 +1,5 @@
 use Rattle.std.proofs.Common.{◌++◌, ◌∙◌, sym, ap, List, ℕ, arith}
-use Rattle.der.specs.ElementLaws.{element-taken, front-taken, longer}
+use Rattle.der.specs.laws.ElementLaws.{element-taken, front-taken, longer}
 use Rattle.der.proofs.parts.element_of.Goals as goal
 
 pub slice_bounds-whole-count : goal.slice_bounds-whole-count

@@ -3,7 +3,7 @@ use Rattle.std.proofs.Math.Nat.{pow-le-pow_right}
 use Rattle.std.proofs.lemmas.Int.Digits.{number_lt}
 use Rattle.der.specs.Reading.{number}
 use Rattle.der.specs.Grammar.{AreBytes}
-use Rattle.der.specs.NumberLaws.{AreBytes-take, AreBytes-drop, below, some_number}
+use Rattle.der.specs.laws.NumberLaws.{AreBytes-take, AreBytes-drop, below, some_number}
 use Rattle.der.proofs.parts.length.Goals as goal
 
 -- Four bytes fit.

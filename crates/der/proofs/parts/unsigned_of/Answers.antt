@@ -1,7 +1,7 @@
 use Rattle.std.proofs.Common.{◌++◌, ◌∙◌, sym, ap, List, ℕ, arith}
 use Rattle.der.specs.Spelling.{spelled, unsigned_spelling}
 use Rattle.der.specs.Grammar.{AreBytes}
-use Rattle.der.specs.ContentLaws.{part-fits, content-read}
+use Rattle.der.specs.laws.ContentLaws.{part-fits, content-read}
 use Rattle.der.proofs.parts.unsigned_of.Goals as goal
 
 pub returns-clause-whole : goal.returns-clause-whole

@@ -1,8 +1,8 @@
 use Rattle.std.proofs.Common.{◌≡◌, ◌∙◌, ◌-◌, ◌∷◌, ℕ, length, drop, take, ap, sym, refl, arith, true}
 use Rattle.std.proofs.lemmas.List.{take_all, length-drop}
-use Rattle.der.specs.Digits.{without_zeros}
+use Rattle.der.specs.inner.Digits.{without_zeros}
 use Rattle.der.specs.Spelling.{needs_zero, nonnegative}
-use Rattle.der.specs.NumberLaws.{length-without_zeros-lt, nonnegative-drop}
+use Rattle.der.specs.laws.NumberLaws.{length-without_zeros-lt, nonnegative-drop}
 use Rattle.der.proofs.writer.nonnegative.Goals as goal
 
 pub overflow_sub-result : goal.overflow_sub-result

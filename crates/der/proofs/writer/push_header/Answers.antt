@@ -1,9 +1,9 @@
 use Rattle.std.proofs.Common.{◌≡◌, ◌∙◌, ◌+◌, ◌++◌, ◌∷◌, [], ℕ, List, ap, refl, append_assoc, length}
 use Rattle.std.specs.Int.Digits.{digits_of}
 use Rattle.std.proofs.lemmas.Bool.{lt-ltb, le-ltb}
-use Rattle.der.specs.Digits.{without_zeros}
+use Rattle.der.specs.inner.Digits.{without_zeros}
 use Rattle.der.specs.Spelling.{length_bytes}
-use Rattle.der.specs.NumberLaws.{digits-be_bytes}
+use Rattle.der.specs.laws.NumberLaws.{digits-be_bytes}
 use Rattle.der.proofs.Appends.{appended}
 use Rattle.der.proofs.writer.push_header.Goals as goal
 

@@ -2,9 +2,9 @@ use Rattle.std.proofs.Common.{◌≡◌, ◌∙◌, ◌++◌, List, ℕ, ap}
 use Rattle.std.specs.Int.Digits.{digits_of}
 use Rattle.std.proofs.lemmas.List.{append-nil}
 use Rattle.std.proofs.lemmas.Result.{IfOk-equal}
-use Rattle.der.specs.Digits.{without_zeros}
+use Rattle.der.specs.inner.Digits.{without_zeros}
 use Rattle.der.specs.Spelling.{spelled, unsigned_content, unsigned_spelling, nonnegative}
-use Rattle.der.specs.NumberLaws.{digits-be_bytes}
+use Rattle.der.specs.laws.NumberLaws.{digits-be_bytes}
 use Rattle.der.proofs.writer.unsigned.Goals as goal
 
 pub returns-clause-ok : goal.returns-clause-ok

@@ -1,5 +1,5 @@
 use Rattle.std.proofs.Common.{◌≡◌, drop}
-use Rattle.der.specs.Digits.{without_zeros}
+use Rattle.der.specs.inner.Digits.{without_zeros}
 use Rattle.der.proofs.writer.without_zeros.Given as goal
 
 abbrev pub invariant-loop-i : goal.invariant-loop-i

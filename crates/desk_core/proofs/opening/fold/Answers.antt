@@ -1,7 +1,7 @@
 use Rattle.std.proofs.Common.{◌≡◌, ℕ, List, true, false, take, subst, arith, rules}
 use Rattle.std.proofs.lemmas.List.{take_all}
 use Rattle.gate_journal.specs.Format.{payloads}
-use Rattle.desk_core.specs.Kept.{IsLoaded}
+use Rattle.desk_core.specs.inner.Kept.{IsLoaded}
 use Rattle.desk_core.specs.Commands.{IsFirstBad}
 use Rattle.desk_core.proofs.Loading.{first_bad, one_more}
 use Rattle.desk_core.proofs.Committed.{length-payloads}

@@ -1,6 +1,6 @@
 use Rattle.std.proofs.Common.{take}
 use Rattle.gate_journal.specs.Format.{payloads}
-use Rattle.desk_core.specs.Kept.{IsLoaded}
+use Rattle.desk_core.specs.inner.Kept.{IsLoaded}
 use Rattle.desk_core.proofs.opening.fold.Given as goal
 
 abbrev pub invariant-loop-index : goal.invariant-loop-index

@@ -2,7 +2,7 @@ use Rattle.std.proofs.Common.{◌≡◌, Err, Result, ℕ, List, IfErr, IfSome, 
 use Rattle.gate_journal.specs.Format.{payloads}
 use Rattle.gate_journal.specs.View.{View}
 use Rattle.desk_core.specs.Commands.{IsFirstBad}
-use Rattle.desk_core.specs.Kept.{IsLoaded}
+use Rattle.desk_core.specs.inner.Kept.{IsLoaded}
 use Rattle.desk_core.specs.declared.opening.Loaded.{Loaded}
 use Rattle.desk_core.specs.declared.faults.DeskOpenFault.{DeskOpenFault}
 use Rattle.desk_core.specs.declared.faults.DeskOpenFault.TheVariants.{BadRecord}

@@ -1,5 +1,5 @@
 use Rattle.std.proofs.Common.{◌≡◌, arith, ap, sym, subst, ◌∙◌, ℕ, Ok, Err}
-use Rattle.fault_count.specs.Rise.{HasRisen}
+use Rattle.host_calls.specs.Rise.{HasRisen}
 use Rattle.disk_api.proofs.Pieces.{untouched_start, untouched_more, stays_more, stays_time, gives_again, count_at_ok, count_at_interrupted, count_at_memory, count_at_failed, fault_counted}
 use Rattle.disk_api.proofs.file.read_once.Goals as goal
 

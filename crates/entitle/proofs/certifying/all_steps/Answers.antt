@@ -4,7 +4,7 @@ use Rattle.std.proofs.lemmas.Bool.{cases_eq}
 use Rattle.std.proofs.lemmas.List.{get_or_push, get_or_append_left, get_or_default, length_push}
 use Rattle.authority_book.specs.declared.rows.NameRow.{NameRow}
 use Rattle.entitle.specs.Certified.{settings_of}
-use Rattle.entitle.specs.Steps.{IsSteps}
+use Rattle.entitle.specs.inner.Steps.{IsSteps}
 use Rattle.entitle.proofs.certifying.all_steps.Goals as goal
 
 pub loop-row-preserved : goal.loop-row-preserved

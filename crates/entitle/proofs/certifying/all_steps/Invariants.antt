@@ -2,7 +2,7 @@ use Rattle.std.proofs.Common.{◌≡◌, ℕ, ◌<◌, length, get_or}
 use Rattle.std.specs.Prelude.{None}
 use Rattle.authority_book.specs.declared.rows.NameRow.{NameRow}
 use Rattle.entitle.specs.Certified.{settings_of}
-use Rattle.entitle.specs.Steps.{IsSteps}
+use Rattle.entitle.specs.inner.Steps.{IsSteps}
 use Rattle.entitle.proofs.certifying.all_steps.Given as goal
 
 abbrev pub invariant-loop-row : goal.invariant-loop-row

@@ -1,7 +1,7 @@
 use Rattle.std.proofs.Common.{◌≡◌, ◌-◌, subst, arith, List}
 use Rattle.authority_book.specs.declared.rows.NameRow.{NameRow}
 use Rattle.entitle.specs.Certified.{settings_of, names_of, most_parents}
-use Rattle.entitle.specs.Steps.{AreAfter}
+use Rattle.entitle.specs.inner.Steps.{AreAfter}
 use Rattle.entitle.proofs.certifying.certified.Goals as goal
 
 pub loop-parents-init : goal.loop-parents-init

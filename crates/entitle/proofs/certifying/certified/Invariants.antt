@@ -1,6 +1,6 @@
 use Rattle.std.proofs.Common.{◌-◌}
 use Rattle.entitle.specs.Certified.{settings_of, names_of}
-use Rattle.entitle.specs.Steps.{AreAfter}
+use Rattle.entitle.specs.inner.Steps.{AreAfter}
 use Rattle.entitle.proofs.certifying.certified.Given as goal
 
 abbrev pub invariant-loop-parents : goal.invariant-loop-parents

@@ -3,7 +3,7 @@ use Rattle.std.specs.Prelude.{Option, None, Some}
 use Rattle.std.proofs.lemmas.List.{get_or_default}
 use Rattle.authority_book.specs.declared.rows.NameRow.{NameRow}
 use Rattle.entitle.specs.Certified.{settings_of, names_of}
-use Rattle.entitle.specs.Steps.{IsSteps}
+use Rattle.entitle.specs.inner.Steps.{IsSteps}
 use Rattle.entitle.proofs.Arriving.{AreUpTo, upto_same, upto_next}
 use Rattle.entitle.proofs.certifying.pass_on.Goals as goal
 use Rattle.entitle.proofs.certifying.pass_on.Goals.{then-eq+in_ok-sets, else-eq}

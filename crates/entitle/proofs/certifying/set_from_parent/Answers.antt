@@ -1,7 +1,7 @@
 use Rattle.std.proofs.Common.{◌≡◌, rules}
 use Rattle.std.specs.Prelude.{Some}
 use Rattle.entitle.specs.Certified.{Grant, settings_of, names_of, grant_of, passed_on}
-use Rattle.entitle.specs.Steps.{has_at}
+use Rattle.entitle.specs.inner.Steps.{has_at}
 use Rattle.entitle.proofs.Arriving.{from_meet, from_parent_at}
 use Rattle.entitle.proofs.certifying.set_from_parent.Goals as goal
 

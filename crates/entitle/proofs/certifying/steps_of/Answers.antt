@@ -2,7 +2,7 @@ use Rattle.std.proofs.Common.{◌≡◌, ℕ, ◌+◌, ◌-◌, suc, false, sym,
 use Rattle.std.specs.Prelude.{None, Some, option_map}
 use Rattle.std.proofs.lemmas.Bool.{cases_lt}
 use Rattle.entitle.specs.Certified.{Grant, is_anchor, settings_of, grant_of}
-use Rattle.entitle.specs.Steps.{reaches}
+use Rattle.entitle.specs.inner.Steps.{reaches}
 use Rattle.entitle.proofs.Reaching.{reaches_last, reaches_next, without_grant, with_grant}
 use Rattle.entitle.proofs.certifying.steps_of.Goals as goal
 

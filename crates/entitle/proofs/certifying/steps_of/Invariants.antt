@@ -1,6 +1,6 @@
 use Rattle.std.proofs.Common.{◌≡◌, ℕ, ◌+◌, ◌<◌, false}
 use Rattle.entitle.specs.Certified.{settings_of}
-use Rattle.entitle.specs.Steps.{reaches}
+use Rattle.entitle.specs.inner.Steps.{reaches}
 use Rattle.entitle.proofs.certifying.steps_of.Given as goal
 
 -- What is behind the names that were passed is what is behind the one to be looked at.

@@ -1,6 +1,6 @@
 use Rattle.std.proofs.Common.{◌≡◌, ℕ, ◌-◌, ◌≤◌, length, take, drop, arith, length-drop, length-append}
 use Rattle.std.proofs.lemmas.List.{length-take}
-use Rattle.disk_api.specs.RunLaws.{rests_on}
+use Rattle.disk_api.specs.laws.RunLaws.{rests_on}
 use Rattle.gate_journal.proofs.Filled.{got_more}
 use Rattle.gate_journal.proofs.open.fill.Goals as goal
 

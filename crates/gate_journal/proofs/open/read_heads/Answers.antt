@@ -1,13 +1,13 @@
 use Rattle.std.proofs.Common.{◌≡◌, Err, Some, Result, Option, ℕ, IfErr, IfSome, sym, subst, refl, arith, rules, List, ◌-◌, drop}
 use Rattle.gate_journal.specs.Format.{damaged_at}
-use Rattle.gate_journal.specs.Reading.{IsHead, StandsAt, IsWindow}
+use Rattle.gate_journal.specs.inner.Reading.{IsHead, StandsAt, IsWindow}
 use Rattle.gate_journal.proofs.Windows.{empty_window}
 use Rattle.gate_journal.specs.declared.open.Head.{Head}
 use Rattle.gate_journal.specs.declared.open.Head.TheVariants.{Closed, Record}
 use Rattle.gate_journal.specs.declared.open.Layout.{Layout}
 use Rattle.gate_journal.specs.declared.fault.JournalFault.{JournalFault}
 use Rattle.gate_journal.specs.declared.fault.JournalFault.TheVariants.{Damaged}
-use Rattle.disk_api.specs.RunLaws.{rests_started, rests_far}
+use Rattle.disk_api.specs.laws.RunLaws.{rests_started, rests_far}
 use Rattle.gate_journal.proofs.Opened.{read_none_known, read_more_known, read_all_known, closed_only}
 use Rattle.gate_journal.proofs.Damage.{damaged_known}
 use Rattle.gate_journal.proofs.Sizes.{none_in_turn, more_in_turn, all_measured}

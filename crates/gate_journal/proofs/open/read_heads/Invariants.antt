@@ -1,5 +1,5 @@
 use Rattle.std.proofs.Common.{◌≤◌, ◌-◌, IfSome}
-use Rattle.gate_journal.specs.Reading.{IsWindow}
+use Rattle.gate_journal.specs.inner.Reading.{IsWindow}
 use Rattle.disk_api.specs.Runs.{Rests}
 use Rattle.gate_journal.proofs.Opened.{HasRead}
 use Rattle.gate_journal.proofs.Sizes.{AreInTurn}

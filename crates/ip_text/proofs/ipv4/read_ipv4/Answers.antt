@@ -1,6 +1,6 @@
 use Rattle.std.proofs.Common.{sym, ◌∙◌}
 use Rattle.ip_text.specs.Ipv4.{IsIpv4Text}
-use Rattle.ip_text.specs.Ipv4Laws.{addr_of, to_dotted}
+use Rattle.ip_text.specs.laws.Ipv4Laws.{addr_of, to_dotted}
 use Rattle.ip_text.proofs.Answers.{reads_none, err_side, ok_side}
 use Rattle.ip_text.proofs.Dotted.{bits_of_dotted}
 use Rattle.ip_text.proofs.ipv4.read_ipv4.Goals as goal

@@ -1,4 +1,4 @@
-use Rattle.ip_text.specs.Ipv4Laws.{one_ipv4}
+use Rattle.ip_text.specs.laws.Ipv4Laws.{one_ipv4}
 use Rattle.ip_text.proofs.ipv4.reads_ipv4_once.Goals as goal
 
 pub returns : goal.returns

@@ -1,7 +1,7 @@
 use Rattle.std.proofs.Common.{sym, ◌∙◌}
 use Rattle.std.specs.Net.Addr.{ipv6_bits, ipv6_segments}
 use Rattle.ip_text.specs.Ipv6.{IsIpv6Text}
-use Rattle.ip_text.specs.Ipv6Laws.{to_colon_hex, from_colon_hex, eight_has_no_dot}
+use Rattle.ip_text.specs.laws.Ipv6Laws.{to_colon_hex, from_colon_hex, eight_has_no_dot}
 use Rattle.ip_text.proofs.Answers.{reads_none, err_side, ok_side}
 use Rattle.ip_text.proofs.Dots.{no_dot_found, dot_found}
 use Rattle.ip_text.proofs.ipv6.read_ipv6.Goals as goal

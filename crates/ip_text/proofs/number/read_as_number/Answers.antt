@@ -1,5 +1,5 @@
-use Rattle.ip_text.specs.NumberLaws.{saturated_text}
-use Rattle.ip_text.specs.AsNumberLaws.{number_follows}
+use Rattle.ip_text.specs.laws.NumberLaws.{saturated_text}
+use Rattle.ip_text.specs.laws.AsNumberLaws.{number_follows}
 use Rattle.ip_text.proofs.AsNumbers.{reads_as_number}
 use Rattle.ip_text.proofs.number.read_as_number.Goals as goal
 

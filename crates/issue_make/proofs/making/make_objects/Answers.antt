@@ -2,10 +2,10 @@ use Rattle.std.proofs.Common.{◌≤◌, List, [], map, drop, length, refl, sym,
 use Rattle.std.specs.List.Sorted.{IsNonDecreasing}
 use Rattle.std.proofs.lemmas.Result.{IfOk-weaker, err_from_is_err_and}
 use Rattle.key_roll.specs.declared.rows.KeyRow.{KeyRow}
-use Rattle.edition_publishers.specs.Finding.{keys_at}
-use Rattle.edition_publishers.specs.Certificates.{setting_of}
-use Rattle.issue_make.specs.Finished.{IsFinished}
-use Rattle.issue_make.proofs.Premises.{desks-of}
+use Rattle.issue_drafts.specs.Finding.{keys_at}
+use Rattle.issue_drafts.specs.Certificates.{input_of}
+use Rattle.issue_make.specs.inner.Finished.{IsFinished}
+use Rattle.issue_make.proofs.Conditions.{desks-of}
 use Rattle.issue_make.proofs.Found.{can-plan-at, ready-at}
 use Rattle.issue_make.proofs.making.make_objects.Goals as goal
 
@@ -17,12 +17,12 @@ pub new-requires-clause-rising : goal.new-requires-clause-rising
 new-requires-clause-rising g c =
     let keys = c.args.keys.now in
     subst (λ (l : List KeyRow). IsNonDecreasing (map (λ row. row.desk) (drop keys.first_fresh l))) (sym c.deref.ensures.value)
-    (desks-of (setting_of c.args.setting.now) c.requires.live keys.rows.items keys.first_fresh c.requires.ready.are)
+    (desks-of (input_of c.args.input.now) c.requires.live keys.rows.items keys.first_fresh c.requires.ready.are)
 
 pub plan_objects-requires : goal.plan_objects-requires
 plan_objects-requires g c =
     let keys = c.args.keys.now in
-    can-plan-at (setting_of c.args.setting.now) c.requires.live keys.rows.items c.deref.result.now c.deref-2.result.now keys.first_fresh
+    can-plan-at (input_of c.args.input.now) c.requires.live keys.rows.items c.deref.result.now c.deref-2.result.now keys.first_fresh
     (length c.args.ring.now) c.in_ok-finder.finder c.requires.ready c.deref.ensures.value c.deref-2.ensures.value c.in_ok-finder.ensures
 
 pub finish-requires : goal.finish-requires
@@ -30,14 +30,14 @@ finish-requires g c =
     let keys = c.args.keys.now in record {
       live = c.requires.live;
       n = keys.first_fresh;
-      ready = ready-at (setting_of c.args.setting.now) c.requires.live keys.rows.items c.deref.result.now c.deref-2.result.now c.deref-3.result.now
+      ready = ready-at (input_of c.args.input.now) c.requires.live keys.rows.items c.deref.result.now c.deref-2.result.now c.deref-3.result.now
           keys.first_fresh (length c.args.ring.now) c.in_ok-finder.finder c.in_ok-plan.plan c.requires.ready
           c.deref.ensures.value c.deref-2.ensures.value c.deref-3.ensures.value c.in_ok-finder.ensures c.in_ok-plan.ensures;
     }
 
 pub returns-clause-made : goal.returns-clause-made
 returns-clause-made g c =
-    let s = setting_of c.args.setting.now in
+    let s = input_of c.args.input.now in
     let keys = c.args.keys.now in
     IfOk-weaker c.finish.result _ _
     (λ made h. λ live ready.

@@ -2,7 +2,7 @@ use Rattle.std.proofs.Common.{◌≡◌, ℕ, ◌+◌, ◌<◌, ◌≤◌, ◌�
 use Rattle.std.proofs.lemmas.Bool.{cases_lt}
 use Rattle.std.proofs.lemmas.List.{get_or_read}
 use Rattle.authority_book.specs.declared.rows.NameRow.{NameRow}
-use Rattle.issue_make.specs.Naming.{CanName}
+use Rattle.issue_make.specs.inner.Naming.{CanName}
 use Rattle.issue_make.proofs.naming.can_all_be_named.Goals as goal
 
 more : (P : NameRow → Type 0) (names : List NameRow) (i : ℕ) (row : NameRow) → i < length names → row ≡ get_or names i row

@@ -2,16 +2,16 @@ use Rattle.std.proofs.Common.{List, [], ◌++◌, length, map, refl, sym, ap, su
 use Rattle.std.specs.List.{All}
 use Rattle.std.proofs.lemmas.List.{length-map}
 use Rattle.std.proofs.lemmas.Result.{err_from_is_err_and}
-use Rattle.edition_publishers.specs.Certificates.{setting_of}
-use Rattle.edition_drafts.specs.declared.draft.Draft as code
-use Rattle.edition_drafts.specs.declared.draft.ManifestDraft as manifests
-use Rattle.edition_drafts.specs.Views.{draft_of, manifest_of}
-use Rattle.point_lists.specs.Files.{AreListable}
-use Rattle.point_lists.specs.Touching.{AreTouched}
-use Rattle.edition_signing.specs.Made.{signed, answers_of, of_drafts, of_manifests, AreMade}
-use Rattle.edition_signing.specs.declared.object.Object.{Object}
+use Rattle.issue_drafts.specs.Certificates.{input_of}
+use Rattle.issue_drafts.specs.declared.draft.Draft as code
+use Rattle.issue_drafts.specs.declared.draft.ManifestDraft as manifests
+use Rattle.issue_drafts.specs.Views.{draft_of, manifest_of}
+use Rattle.issue_drafts.specs.Files.{AreListable}
+use Rattle.issue_drafts.specs.Touching.{AreTouched}
+use Rattle.issue_sign.specs.Made.{signed, answers_of, of_drafts, of_manifests, AreMade}
+use Rattle.issue_sign.specs.declared.object.Object.{Object}
 use Rattle.issue_make.specs.Plans.{puts}
-use Rattle.issue_make.specs.Signing.{basis_of}
+use Rattle.issue_make.specs.inner.Signing.{basis_of}
 use Rattle.issue_make.proofs.Stops.{drafts-sign, manifests-sign, stop-behind, short-behind}
 use Rattle.issue_make.proofs.Signed.{is-basis, are-drafts, are-manifests, as-many, as-many-made, lists-of}
 use Rattle.issue_make.proofs.objects.sign.Goals as goal
@@ -21,7 +21,7 @@ returns-in_err-drafted-clause-stopped g c =
     let p = err_from_is_err_and c.from_residual.result c.from_residual.ensures.1 in
     rw (p.1, p.2)
     (λ keys rows entries plan is.
-    let s = setting_of c.args.setting.now in
+    let s = input_of c.args.input.now in
     let b = basis_of s keys rows entries (λ key. []) in
     stop-behind (of_drafts s b) (map draft_of c.deref-3.result.now) [] c.args.ring.now c.args.ring.now c.sign_drafts.new.ring c.in_err-drafted.field-0.0
     (drafts-sign s b) (λ k d lt. absurd (omega arith)) refl
@@ -34,7 +34,7 @@ returns-in_err-hashes-clause-stopped g c =
     let p = err_from_is_err_and c.from_residual-in_err-hashes.result c.from_residual-in_err-hashes.ensures.1 in
     rw (p.1, p.2)
     (λ keys rows entries plan is.
-    let s = setting_of c.args.setting.now in
+    let s = input_of c.args.input.now in
     let b = basis_of s keys rows entries (λ key. []) in
     short-behind (of_drafts s b) (signed (map draft_of c.deref-3.result.now) (map answers_of c.in_ok-drafted.drafted.items))
     c.args.ring.now c.sign_drafts.new.ring (drafts-sign s b)
@@ -44,7 +44,7 @@ returns-in_err-hashes-clause-stopped g c =
 
 pub files-requires-clause-each : goal.files-requires-clause-each
 files-requires-clause-each g c =
-    let s = setting_of c.args.setting.now in
+    let s = input_of c.args.input.now in
     let r = c.requires in
     let b = basis_of s r.keys r.rows r.entries (λ key. []) in
     let made = as-many-made s b (of_drafts s b) (map draft_of c.deref-3.result.now) c.args.ring.now c.sign_drafts.new.ring
@@ -59,14 +59,14 @@ files-requires-clause-each g c =
 
 pub files-requires-clause-touched : goal.files-requires-clause-touched
 files-requires-clause-touched g c =
-    let s = setting_of c.args.setting.now in
+    let s = input_of c.args.input.now in
     subst (λ (l : List code.Draft). AreTouched s (map draft_of l ++ map manifest_of c.deref-8.result.now) c.args.plan.now.touched) (sym c.deref-6.ensures.value)
     (subst (λ (l : List manifests.ManifestDraft). AreTouched s (map draft_of c.args.plan.now.drafts.items ++ map manifest_of l) c.args.plan.now.touched) (sym c.deref-8.ensures.value)
     c.requires.touched)
 
 pub files-requires-clause-listable : goal.files-requires-clause-listable
 files-requires-clause-listable g c =
-    let s = setting_of c.args.setting.now in
+    let s = input_of c.args.input.now in
     let ds = c.args.plan.now.drafts.items in
     subst (λ (l : List code.Draft). All (λ m. AreListable s (map draft_of l ++ map manifest_of c.deref-8.result.now) (map draft_of l) m.issuer.row.now) c.deref-8.result.now)
     (sym c.deref-6.ensures.value)
@@ -78,7 +78,7 @@ returns-in_err-files-clause-stopped g c =
     let p = err_from_is_err_and c.from_residual-in_err-files.result c.from_residual-in_err-files.ensures.1 in
     rw (p.1, p.2)
     (λ keys rows entries plan is.
-    let s = setting_of c.args.setting.now in
+    let s = input_of c.args.input.now in
     let b = basis_of s keys rows entries (λ key. []) in
     short-behind (of_drafts s b) (signed (map draft_of c.deref-3.result.now) (map answers_of c.in_ok-drafted.drafted.items))
     c.args.ring.now c.sign_drafts.new.ring (drafts-sign s b)
@@ -88,7 +88,7 @@ returns-in_err-files-clause-stopped g c =
 
 pub sign_manifests-requires-clause-each : goal.sign_manifests-requires-clause-each
 sign_manifests-requires-clause-each g c =
-    let s = setting_of c.args.setting.now in
+    let s = input_of c.args.input.now in
     let r = c.requires in
     let table = c.in_ok-files.ensures.lists (puts s r.keys) r.is_plan.touched in
     as-many table.of c.deref-8.result.now c.in_ok-files.files.items table.is
@@ -99,7 +99,7 @@ returns-in_err-listed-clause-stopped g c =
     let p = err_from_is_err_and c.from_residual-in_err-listed.result c.from_residual-in_err-listed.ensures.1 in
     rw (p.1, p.2)
     (λ keys rows entries plan is.
-    let s = setting_of c.args.setting.now in
+    let s = input_of c.args.input.now in
     let table = c.in_ok-files.ensures.lists (puts s keys) plan.touched in
     let b = basis_of s keys rows entries table.of in
     let made = signed (map draft_of c.deref-3.result.now) (map answers_of c.in_ok-drafted.drafted.items) in
@@ -116,7 +116,7 @@ returns-in_err-listed-clause-stopped g c =
 
 pub returns-clause-made : goal.returns-clause-made
 returns-clause-made g c = λ keys rows entries plan is.
-    let s = setting_of c.args.setting.now in
+    let s = input_of c.args.input.now in
     let table = c.in_ok-files.ensures.lists (puts s keys) plan.touched in
     let b = basis_of s keys rows entries table.of in
     let objects = c.in_ok-drafted.drafted.items in

@@ -1,16 +1,16 @@
 use Rattle.std.proofs.Common.{map, refl, sym, ap, ◌∙◌}
-use Rattle.edition_publishers.specs.Certificates.{setting_of}
-use Rattle.edition_drafts.specs.Views.{draft_of, manifest_of}
+use Rattle.issue_drafts.specs.Certificates.{input_of}
+use Rattle.issue_drafts.specs.Views.{draft_of, manifest_of}
 use Rattle.issue_make.proofs.outcomes.outcome.Goals as goal
 
 pub returns : goal.returns
-returns c = λ course is keys. record {
-  rising = (c.in_ok-published.ensures course is).rising;
-  changes = (c.in_ok-published.ensures course is).changes;
-  listed = (c.in_ok-published.ensures course is).listed;
-  count = (c.in_ok-published.ensures course is).count;
-  issued = (c.in_ok-published.ensures course is).issued;
-  after = c.in_ok-rows.ensures.rows (setting_of c.args.setting.now) course
+returns c = λ trace is keys. record {
+  rising = (c.in_ok-published.ensures trace is).rising;
+  changes = (c.in_ok-published.ensures trace is).changes;
+  listed = (c.in_ok-published.ensures trace is).listed;
+  count = (c.in_ok-published.ensures trace is).count;
+  issued = (c.in_ok-published.ensures trace is).issued;
+  after = c.in_ok-rows.ensures.rows (input_of c.args.input.now) trace
       (record {
         at = refl;
         pointed = c.deref-3.ensures.value ∙ keys.points;
@@ -18,6 +18,6 @@ returns c = λ course is keys. record {
         entries = keys.entries;
       });
   sorted = c.in_ok-rows.ensures.sorted;
-  signatures = c.signatures-signatures.ensures course (is.drafts ∙ ap (map draft_of) (sym c.deref.ensures.value))
+  signatures = c.signatures-signatures.ensures trace (is.drafts ∙ ap (map draft_of) (sym c.deref.ensures.value))
       (is.manifests ∙ ap (map manifest_of) (sym c.deref-2.ensures.value));
 }

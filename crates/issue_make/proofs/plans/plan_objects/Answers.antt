@@ -1,35 +1,35 @@
 use Rattle.std.proofs.Common.{◌≡◌, List, ◌++◌, map, length, ap, sym, subst, ◌∙◌}
 use Rattle.std.proofs.lemmas.List.{length-map}
 use Rattle.pub_set.specs.Objects.{Rise}
-use Rattle.edition_drafts.specs.declared.draft.Draft.{Draft}
+use Rattle.issue_drafts.specs.declared.draft.Draft.{Draft}
 use Rattle.std.specs.List.Sorted.{IsPermutation}
 use Rattle.std.proofs.lemmas.List.Sorted.{IsPermutation-append, IsPermutation-sym, IsPermutation-refl}
-use Rattle.edition_publishers.specs.Finding.{keys_at}
-use Rattle.edition_publishers.specs.Certificates.{setting_of}
-use Rattle.edition_drafts.specs.declared.draft.ManifestDraft.{ManifestDraft}
-use Rattle.edition_drafts.specs.Drafts as words
-use Rattle.edition_drafts.specs.Views.{draft_of, manifest_of}
-use Rattle.point_lists.specs.Revoking.{has_point}
-use Rattle.point_lists.specs.Touching.{AreTouched}
+use Rattle.issue_drafts.specs.Finding.{keys_at}
+use Rattle.issue_drafts.specs.Certificates.{input_of}
+use Rattle.issue_drafts.specs.declared.draft.ManifestDraft.{ManifestDraft}
+use Rattle.issue_drafts.specs.Drafts as words
+use Rattle.issue_drafts.specs.Views.{draft_of, manifest_of}
+use Rattle.issue_drafts.specs.Revoking.{has_point}
+use Rattle.issue_drafts.specs.Touching.{AreTouched}
 use Rattle.issue_make.specs.Plans.{puts}
 use Rattle.issue_make.proofs.Planned.{front-once, behind-once, rise-back, touched-by, given-over, next-over}
 use Rattle.issue_make.proofs.plans.plan_objects.Goals as goal
 
 pub drafts-requires-clause-once : goal.drafts-requires-clause-once
 drafts-requires-clause-once c =
-    let s = setting_of c.args.setting.now in
+    let s = input_of c.args.input.now in
     let keys = keys_at c.args.rows.now c.args.finder.now.first_fresh in
     front-once (words.drafts s keys) (words.manifests s keys) c.requires.once
 
 pub manifest_drafts-requires-clause-once : goal.manifest_drafts-requires-clause-once
 manifest_drafts-requires-clause-once c =
-    let s = setting_of c.args.setting.now in
+    let s = input_of c.args.input.now in
     let keys = keys_at c.args.rows.now c.args.finder.now.first_fresh in
     behind-once (words.drafts s keys) (words.manifests s keys) c.requires.once
 
 pub entries-requires : goal.entries-requires
 entries-requires c =
-    let s = setting_of c.args.setting.now in
+    let s = input_of c.args.input.now in
     let rows = c.args.rows.now in
     let keys = keys_at rows c.args.finder.now.first_fresh in
     let two : IsPermutation (words.manifests s keys) (map manifest_of c.in_ok-manifests.manifests.items) =
@@ -46,7 +46,7 @@ give_serials-requires-clause-rising c =
 
 pub returns : goal.returns
 returns c =
-    let s = setting_of c.args.setting.now in
+    let s = input_of c.args.input.now in
     let rows = c.args.rows.now in
     let keys = keys_at rows c.args.finder.now.first_fresh in
     let ds = c.in_ok-drafts.drafts.items in

@@ -5,7 +5,7 @@ use Rattle.std.proofs.lemmas.List.{take_more, flat_map_more}
 use Rattle.authority_book.specs.declared.rows.NameRow.{NameRow}
 use Rattle.entitle.specs.Certified.{settings_of}
 use Rattle.entitle.specs.declared.trees.Owed.{Owed}
-use Rattle.issue_plan.specs.Places.{owed_uris, roa_uris}
+use Rattle.issue_plan.specs.Uris.{owed_uris, roa_uris}
 use Rattle.issue_plan.proofs.places.push_all_roa_uris.Goals as goal
 
 pub loop-each-preserved : goal.loop-each-preserved

@@ -4,7 +4,7 @@ use Rattle.std.specs.String.{string_bytes}
 use Rattle.std.specs.BTreeSet.{contains_text}
 use Rattle.std.proofs.lemmas.List.{take_more}
 use Rattle.std.proofs.lemmas.Map.Text.{btree_set_updates_text}
-use Rattle.issue_plan.specs.Places.{is_among}
+use Rattle.issue_plan.specs.Uris.{is_among}
 use Rattle.issue_plan.proofs.PlaceLemmas.{among_more}
 use Rattle.issue_plan.proofs.places.sorted.Goals as goal
 

@@ -1,6 +1,6 @@
 use Rattle.std.proofs.Common.{◌≡◌, ℕ, List, take}
 use Rattle.std.specs.BTreeSet.{contains_text}
-use Rattle.issue_plan.specs.Places.{is_among}
+use Rattle.issue_plan.specs.Uris.{is_among}
 use Rattle.issue_plan.proofs.places.sorted.Given as goal
 
 abbrev pub invariant-loop-uri : goal.invariant-loop-uri

@@ -2,7 +2,7 @@ use Rattle.std.proofs.Common.{◌≡◌, ℕ, ◌+◌, List, [], ◌∷◌, ◌+
 use Rattle.std.specs.BTreeSet.{contains_text}
 use Rattle.std.proofs.lemmas.List.{take_more}
 use Rattle.key_roll.specs.declared.issued.IssuedRow.{IssuedRow}
-use Rattle.issue_plan.specs.Places.{is_among, withdrawn}
+use Rattle.issue_plan.specs.Uris.{is_among, withdrawn}
 use Rattle.issue_plan.proofs.PlaceLemmas.{withdrawn-stays, withdrawn-goes}
 use Rattle.issue_plan.proofs.places.withdrawn.Goals as goal
 use Rattle.issue_plan.proofs.places.withdrawn.Goals.{then-not-contains+in_ok-copy+in_ok-push, else-not-contains}

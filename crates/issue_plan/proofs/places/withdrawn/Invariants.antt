@@ -1,5 +1,5 @@
 use Rattle.std.proofs.Common.{◌≡◌, take}
-use Rattle.issue_plan.specs.Places.{withdrawn}
+use Rattle.issue_plan.specs.Uris.{withdrawn}
 use Rattle.issue_plan.proofs.places.withdrawn.Given as goal
 
 abbrev pub invariant-loop-row : goal.invariant-loop-row

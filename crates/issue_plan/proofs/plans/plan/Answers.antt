@@ -2,8 +2,8 @@ use Rattle.std.proofs.Common.{◌≡◌, refl, ap, ap₂, ◌∙◌}
 use Rattle.std.specs.List.{filter_map}
 use Rattle.entitle.specs.Certified.{settings_of}
 use Rattle.issue_plan.specs.Keys.{Basis, next_keys}
-use Rattle.issue_plan.specs.Wanted.{Standing, Certificate, Roa, Point, wanted_certificates, wanted_roas, wanted_points}
-use Rattle.issue_plan.specs.Places.{wanted_uris, withdrawn}
+use Rattle.issue_plan.specs.Wanted.{PlanInput, Certificate, Roa, Point, wanted_certificates, wanted_roas, wanted_points}
+use Rattle.issue_plan.specs.Uris.{wanted_uris, withdrawn}
 use Rattle.issue_plan.specs.Work.{new_key_of, role_of, dropped}
 use Rattle.issue_plan.proofs.Filters.{all_unfit}
 use Rattle.issue_plan.proofs.plans.plan.Goals as goal
@@ -17,8 +17,8 @@ returns c =
       sets = c.args.tree.now.sets.items;
       moment = c.args.moment;
     } in
-    let owed = c.in_ok-owed.owed.items in
-    let standing : Standing = record {
+    let owed = c.args.owed.now in
+    let plan_input : PlanInput = record {
       basis = basis;
       owed = owed;
       issued = c.args.issued.now.rows;
@@ -27,27 +27,27 @@ returns c =
     let keys = next_keys basis in
     let made : c.in_ok-keys.keys.items ≡ keys = c.in_ok-keys.ensures in
     let certificates = wanted_certificates configs basis.sets in
-    let places = wanted_uris standing.site configs in (
+    let places = wanted_uris plan_input.site configs in (
       owed,
-      c.in_ok-owed.ensures,
+      c.requires,
       record {
         moment = refl;
         new_keys = c.new.ensures ∙ (c.in_ok-new_keys.ensures
-            ∙ ap (filter_map new_key_of) (c.deref-3.ensures.value ∙ made));
+            ∙ ap (filter_map new_key_of) (c.deref-2.ensures.value ∙ made));
         roles = c.new-2.ensures ∙ (c.in_ok-roles.ensures
-            ∙ ap (filter_map role_of) (c.deref-4.ensures.value ∙ made));
+            ∙ ap (filter_map role_of) (c.deref-3.ensures.value ∙ made));
         certs = c.new-3.ensures ∙ (c.in_ok-certificates.ensures
-            ∙ (ap certificates (c.deref-5.ensures.value ∙ made) ∙ all_unfit standing Certificate (certificates keys)));
+            ∙ (ap certificates (c.deref-4.ensures.value ∙ made) ∙ all_unfit plan_input Certificate (certificates keys)));
         roas = c.new-4.ensures ∙ (c.in_ok-roas.ensures
-            ∙ (ap₂ wanted_roas (c.deref-6.ensures.value ∙ made) c.deref-7.ensures.value
-            ∙ all_unfit standing Roa (wanted_roas keys owed)));
+            ∙ (ap (λ l. wanted_roas l owed) (c.deref-5.ensures.value ∙ made)
+            ∙ all_unfit plan_input Roa (wanted_roas keys owed)));
         points = c.new-5.ensures ∙ (c.in_ok-points.ensures
-            ∙ (ap wanted_points (c.deref-8.ensures.value ∙ made) ∙ all_unfit standing Point (wanted_points keys)));
+            ∙ (ap wanted_points (c.deref-6.ensures.value ∙ made) ∙ all_unfit plan_input Point (wanted_points keys)));
         withdrawn = c.new-6.ensures ∙ (c.in_ok-withdrawn.ensures
             ∙ ap₂ withdrawn
-            (c.deref-9.ensures.value ∙ (c.in_ok-wanted.ensures ∙ ap₂ places (c.deref.ensures.value ∙ made) c.deref-2.ensures.value))
+            (c.deref-7.ensures.value ∙ (c.in_ok-wanted.ensures ∙ ap (λ l. places l owed) (c.deref.ensures.value ∙ made)))
             c.as_slice.ensures);
         dropped = c.new-7.ensures ∙ (c.in_ok-dropped.ensures
-            ∙ ap (λ l. dropped l basis.rows) (c.deref-10.ensures.value ∙ made));
+            ∙ ap (λ l. dropped l basis.rows) (c.deref-8.ensures.value ∙ made));
       },
     )

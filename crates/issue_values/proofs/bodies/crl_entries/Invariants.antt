@@ -1,5 +1,5 @@
 use Rattle.std.proofs.Common.{◌≡◌, ◌<◌, ◌^◌, map, take}
-use Rattle.der_forms.specs.Forms.{AreAll}
+use Rattle.der.specs.Forms.{AreAll}
 use Rattle.issue_values.specs.Bodies.{crl_entry}
 use Rattle.issue_values.proofs.bodies.crl_entries.Given as goal
 

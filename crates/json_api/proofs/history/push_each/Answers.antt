@@ -1,7 +1,7 @@
 use Rattle.std.proofs.Common.{◌≡◌, ◌+◌, ◌∷◌, [], ◌++◌, take, ap, sym, ◌∙◌, arith}
 use Rattle.std.proofs.lemmas.List.{take_more}
 use Rattle.json_api.specs.declared.history.Member.{Member}
-use Rattle.json_api.specs.Members.{member_line}
+use Rattle.json_api.specs.inner.Members.{member_line}
 use Rattle.json_api.proofs.Commas.{turn}
 use Rattle.json_api.proofs.history.push_each.Goals as goal
 

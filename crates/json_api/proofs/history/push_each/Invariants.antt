@@ -1,5 +1,5 @@
 use Rattle.std.proofs.Common.{◌≡◌, ◌++◌, take, map}
-use Rattle.json_api.specs.Members.{member_line}
+use Rattle.json_api.specs.inner.Members.{member_line}
 use Rattle.json_api.specs.Texts.{commas}
 use Rattle.json_api.proofs.Commas.{between}
 use Rattle.json_api.proofs.history.push_each.Given as goal

@@ -5,7 +5,7 @@ use Rattle.serde_json.specs.View.{view, members_view}
 use Rattle.json_api.specs.declared.line.Line.{Line}
 use Rattle.json_api.specs.declared.line.LineFault.{LineFault}
 use Rattle.json_api.specs.Table.{fields_of, line_at, only}
-use Rattle.json_api.specs.Slots.{slot_at, left_of}
+use Rattle.json_api.specs.inner.Slots.{slot_at, left_of}
 use Rattle.json_api.proofs.Answered.{no_object, no_row, value_answers}
 use Rattle.json_api.proofs.line.line_in.Goals as goal
 

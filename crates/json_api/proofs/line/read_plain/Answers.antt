@@ -4,7 +4,7 @@ use Rattle.serde_json.specs.Data.{object}
 use Rattle.json_api.specs.declared.fields.Field.TheVariants.{Command}
 use Rattle.json_api.specs.Rows.{as_row}
 use Rattle.json_api.specs.Table.{fields_of, line_at}
-use Rattle.json_api.specs.Slots.{slot_at, left_of, are_taken}
+use Rattle.json_api.specs.inner.Slots.{slot_at, left_of, are_taken}
 use Rattle.json_api.proofs.Answered.{row_answers, row_refuses}
 use Rattle.json_api.proofs.line.read_plain.Goals as goal
 

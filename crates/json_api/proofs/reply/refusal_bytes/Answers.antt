@@ -2,7 +2,7 @@ use Rattle.std.proofs.Common.{◌≡◌, ℕ, List, [], ◌++◌, ◌∙◌, ap}
 use Rattle.json.specs.Token.{Token}
 use Rattle.json.specs.Print.{print}
 use Rattle.json_api.specs.Reply.{refusal_spelling}
-use Rattle.json_api.specs.Tokens.{refusal_tokens}
+use Rattle.json_api.specs.inner.Tokens.{refusal_tokens}
 use Rattle.json_api.proofs.Written.{print-refusal}
 use Rattle.json_api.proofs.reply.refusal_bytes.Goals as goal
 

@@ -1,6 +1,6 @@
 use Rattle.std.proofs.Common.{ℕ, List, [], ◌∷◌, ◌++◌, ◌∙◌, ap, codes}
 use Rattle.json.specs.Token.{Token, begin_object, end_object}
-use Rattle.json_api.specs.Tokens.{text_member, number_member}
+use Rattle.json_api.specs.inner.Tokens.{text_member, number_member}
 use Rattle.json_api.proofs.Written.{appended-members}
 use Rattle.json_api.proofs.reply.write_refusal.Goals as goal
 

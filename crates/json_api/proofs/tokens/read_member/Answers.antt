@@ -3,9 +3,9 @@ use Rattle.serde_json.specs.Data.{Data, put}
 use Rattle.json_api.specs.declared.fields.Kind.{Kind}
 use Rattle.json_api.specs.declared.slots.Slot.{Slot}
 use Rattle.json_api.specs.Names.{name_of, place_of, fields}
-use Rattle.json_api.specs.Slots.{slot_at}
+use Rattle.json_api.specs.inner.Slots.{slot_at}
 use Rattle.json_api.specs.Line.{Says}
-use Rattle.json_api.specs.Passes.{ReadsValue, AreMembers}
+use Rattle.json_api.specs.inner.Passes.{ReadsValue, AreMembers}
 use Rattle.json_api.proofs.Named.{first_named-is}
 use Rattle.json_api.proofs.Members.{AreMembers-put}
 use Rattle.json_api.proofs.tokens.read_member.Goals as goal

@@ -1,6 +1,6 @@
 use Rattle.std.proofs.Common.{◌≡◌, List, [], ◌∷◌, sym, subst, ◌∙◌, arith}
 use Rattle.json.specs.Token.{Token}
-use Rattle.json_api.specs.Passes.{ReadsMembers}
+use Rattle.json_api.specs.inner.Passes.{ReadsMembers}
 use Rattle.json_api.proofs.Passes.{object_read}
 use Rattle.json_api.proofs.tokens.read_slots.Goals as goal
 

@@ -3,7 +3,7 @@ use Rattle.json.specs.Token.{Token}
 use Rattle.serde_json.specs.Data.{Items, array}
 use Rattle.origins.specs.declared.Origin.{Origin}
 use Rattle.json_api.specs.Line.{AreOriginTexts}
-use Rattle.json_api.specs.Passes.{ReadsItems}
+use Rattle.json_api.specs.inner.Passes.{ReadsItems}
 use Rattle.json_api.proofs.Passes.{list_read}
 use Rattle.json_api.proofs.tokens.take_origins.Goals as goal
 

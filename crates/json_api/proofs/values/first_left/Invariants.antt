@@ -1,6 +1,6 @@
 use Rattle.std.proofs.Common.{◌≡◌}
 use Rattle.serde_json.specs.View.{members_view}
-use Rattle.json_api.specs.Slots.{first_left}
+use Rattle.json_api.specs.inner.Slots.{first_left}
 use Rattle.json_api.proofs.values.first_left.Given as goal
 
 abbrev pub invariant-loop-name : goal.invariant-loop-name

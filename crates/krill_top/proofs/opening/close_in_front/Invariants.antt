@@ -1,6 +1,6 @@
 use Rattle.std.proofs.Common.{◌≡◌, ◌≤◌, ◌+◌, ◌++◌, List, vec_len, vec_capacity}
 use Rattle.desk_core.specs.View.{View}
-use Rattle.krill_top.specs.Opened.{AreClosed}
+use Rattle.krill_top.specs.inner.Opened.{AreClosed}
 use Rattle.krill_top.proofs.opening.close_in_front.Given as goal
 
 abbrev pub invariant-loop-desk : goal.invariant-loop-desk

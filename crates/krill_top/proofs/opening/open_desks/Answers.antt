@@ -2,7 +2,7 @@ use Rattle.std.proofs.Common.{◌≡◌, ◌+◌, [], ◌∷◌, ◌++◌, List,
 use Rattle.std.proofs.lemmas.List.{length-append}
 use Rattle.desk_core.specs.View.{View}
 use Rattle.krill_top.specs.Desks.{IsOpeningRefused}
-use Rattle.krill_top.specs.Opened.{IsOpened, AreOpened}
+use Rattle.krill_top.specs.inner.Opened.{IsOpened, AreOpened}
 use Rattle.krill_top.specs.declared.faults.OpenFault.{OpenFault}
 use Rattle.krill_top.proofs.InTurn.{opened_more, opened_length, stopped}
 use Rattle.krill_top.proofs.opening.open_desks.Goals as goal

@@ -1,5 +1,5 @@
 use Rattle.std.proofs.Common.{◌≡◌, ◌≤◌, ◌++◌, List, length, vec_len, vec_capacity}
-use Rattle.krill_top.specs.Opened.{AreOpened}
+use Rattle.krill_top.specs.inner.Opened.{AreOpened}
 use Rattle.krill_top.proofs.opening.open_desks.Given as goal
 
 abbrev pub invariant-loop-number : goal.invariant-loop-number

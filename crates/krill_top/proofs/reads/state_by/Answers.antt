@@ -7,7 +7,7 @@ use Rattle.origins.specs.declared.Origin.{Origin}
 use Rattle.authority_book.specs.Origins.{is_there}
 use Rattle.entitle.specs.Owed.{HasEach}
 use Rattle.notice_board.specs.declared.sheets.SheetRow.{SheetRow}
-use Rattle.krill_top.proofs.Reading.{has_numbers, found_there, published_state, pending_state, held_state}
+use Rattle.krill_top.proofs.Reading.{has_numbers, found_there, state_of_published, pending_state, held_state}
 use Rattle.krill_top.proofs.reads.state_by.Goals as goal
 
 pub returns-in-Some : goal.returns-in-Some
@@ -16,7 +16,7 @@ returns-in-Some c =
     let row = c.in-Some.row.now in
     let known : option_copied c.args.row ≡ Some row = ap (λ (r : Option (Bor SheetRow)). option_copied r) c.in-Some.is in
     let found : c.contains.result ≡ is_there row.published origin = c.contains.ensures.value ∙ ap (λ (l : List Origin). list_any (λ o. has_numbers o origin) l) c.as_slice.ensures ∙ found_there row.published origin in
-    published_state (option_copied c.args.row) row origin known (sym found ∙ c.if-contains.true)
+    state_of_published (option_copied c.args.row) row origin known (sym found ∙ c.if-contains.true)
 
 pub returns-in-Some-2 : goal.returns-in-Some-2
 returns-in-Some-2 c =

@@ -2,9 +2,9 @@ use Rattle.std.proofs.Common.{◌≡◌, [], ◌∷◌, List, map, sym, ◌∙�
 use Rattle.krill_top.specs.declared.serving.SessionEnds.{SessionEnds}
 use Rattle.krill_top.specs.Ends.{run_status}
 use Rattle.krill_top.specs.Ended.{Served}
-use Rattle.krill_top.specs.Opened.{AreClosed}
-use Rattle.krill_top.specs.Offices.{OfficeValue, TimedOffice}
-use Rattle.krill_top.specs.Handlers.{timed}
+use Rattle.krill_top.specs.inner.Opened.{AreClosed}
+use Rattle.krill_top.specs.inner.Instances.{InstanceValue, TimedInstance}
+use Rattle.krill_top.specs.inner.Handlers.{timed}
 use Rattle.krill_top.specs.Run.{ServesOne, streams_of}
 use Rattle.krill_top.proofs.Served.{serves}
 use Rattle.krill_top.proofs.running.serve_one.Goals as goal
@@ -19,18 +19,18 @@ returns g c disks signers before started one vouched trusting =
     let Ends : Type 0 = SessionEnds g.row.S.Denot g.row.K.Denot g.row.C.Denot in
     let first : Ends = c.take_first-source.result in
     let taken = only_one first before c.take_first-source.new.list.items (sym one ∙ c.take_first-source.ensures.items) in
-    let after : Ends = record { source = c.serve-ended.new.source; sink = c.serve-ended.new.sink; clock = c.into_parts-office.result.1 } in
+    let after : Ends = record { source = c.serve-ended.new.source; sink = c.serve-ended.new.sink; clock = c.into_parts-instance.result.1 } in
     let run = c.run_end.result in
-    let served : OfficeValue D = c.into_parts-office.result.0 in
-    let begins : timed g.C.Clock c.new-handler.result ≡ record { office = c.args.started.office; clock = g.C.Clock.readings first.clock } =
-    (λ i. record { office = c.new-handler.ensures.office i; clock = g.C.Clock.readings (c.new-handler.ensures.clock i) }) in
-    let ends : timed g.C.Clock c.serve-ended.new.handler ≡ record { office = served; clock = g.C.Clock.readings after.clock } =
-    (λ i. record { office = sym c.into_parts-office.ensures.office i; clock = g.C.Clock.readings (sym c.into_parts-office.ensures.clock i) }) in
-    let session : Served g.D.Disk g.S.Source g.K.Sink (streams_of first) (streams_of after) (record { office = c.args.started.office; clock = g.C.Clock.readings first.clock }) (record { office = served; clock = g.C.Clock.readings after.clock }) c.serve-ended.result =
-    subst (λ (t : TimedOffice D). Served g.D.Disk g.S.Source g.K.Sink (streams_of first) (streams_of after) t (record { office = served; clock = g.C.Clock.readings after.clock }) c.serve-ended.result) begins
-    (subst (λ (t : TimedOffice D). Served g.D.Disk g.S.Source g.K.Sink (streams_of first) (streams_of after) (timed g.C.Clock c.new-handler.result) t c.serve-ended.result) ends c.serve-ended.ensures.session) in
+    let served : InstanceValue D = c.into_parts-instance.result.0 in
+    let begins : timed g.C.Clock c.new-handler.result ≡ record { instance = c.args.started.instance; clock = g.C.Clock.readings first.clock } =
+    (λ i. record { instance = c.new-handler.ensures.instance i; clock = g.C.Clock.readings (c.new-handler.ensures.clock i) }) in
+    let ends : timed g.C.Clock c.serve-ended.new.handler ≡ record { instance = served; clock = g.C.Clock.readings after.clock } =
+    (λ i. record { instance = sym c.into_parts-instance.ensures.instance i; clock = g.C.Clock.readings (sym c.into_parts-instance.ensures.clock i) }) in
+    let session : Served g.D.Disk g.S.Source g.K.Sink (streams_of first) (streams_of after) (record { instance = c.args.started.instance; clock = g.C.Clock.readings first.clock }) (record { instance = served; clock = g.C.Clock.readings after.clock }) c.serve-ended.result =
+    subst (λ (t : TimedInstance D). Served g.D.Disk g.S.Source g.K.Sink (streams_of first) (streams_of after) t (record { instance = served; clock = g.C.Clock.readings after.clock }) c.serve-ended.result) begins
+    (subst (λ (t : TimedInstance D). Served g.D.Disk g.S.Source g.K.Sink (streams_of first) (streams_of after) (timed g.C.Clock c.new-handler.result) t c.serve-ended.result) ends c.serve-ended.ensures.session) in
     subst (λ (b : Ends). ServesOne g.D.Disk g.G.Signer.state g.S.Source g.K.Sink g.C.Clock vouched disks signers b run) taken.0
-    (serves g.D.Disk g.G.Signer.state g.S.Source g.K.Sink g.C.Clock vouched disks signers first after c.serve-ended.result run c.args.started.office served
+    (serves g.D.Disk g.G.Signer.state g.S.Source g.K.Sink g.C.Clock vouched disks signers first after c.serve-ended.result run c.args.started.instance served
     started.opened started.ring started.stands started.there session
     (subst (λ (l : List D). AreClosed g.D.Disk served.desks l) (sym c.run_end.ensures.desks) c.stop.ensures.disks)
     (ap (map g.G.Signer.state) c.run_end.ensures.signers ∙ c.stop.ensures.signers)

@@ -1,7 +1,7 @@
 use Rattle.std.proofs.Common.{Bool, List, ℕ, length, ap, sym, subst, arith}
-use Rattle.line_loop.specs.Pending.{Pending}
+use Rattle.line_loop.specs.inner.Pending.{Pending}
 use Rattle.line_loop.specs.Replies.{AnswersAtMostOne}
-use Rattle.line_loop.specs.Progress.{AnswersOne, AnswersQuietly, Advances}
+use Rattle.line_loop.specs.inner.Progress.{AnswersOne, AnswersQuietly, Advances}
 use Rattle.line_loop.proofs.Steps.{quiet_start, quiet_line, quiet_end, last_line}
 use Rattle.line_loop.proofs.session.answer_batch.Goals as goal
 

@@ -1,5 +1,5 @@
 use Rattle.std.proofs.Common.{◌≤◌, ◌<◌, length, vec_len}
-use Rattle.line_loop.specs.Progress.{AnswersQuietly, Advances}
+use Rattle.line_loop.specs.inner.Progress.{AnswersQuietly, Advances}
 use Rattle.line_loop.proofs.session.answer_batch.Given as goal
 
 abbrev pub invariant-lines : goal.invariant-lines

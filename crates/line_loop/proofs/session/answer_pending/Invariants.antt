@@ -1,7 +1,7 @@
 use Rattle.std.proofs.Common.{◌≡◌, ℕ, ◌≤◌, List, [], length}
 use Rattle.std.specs.Io.KnownBytes.{Appends}
 use Rattle.line_loop.specs.Replies.{Answers}
-use Rattle.line_loop.specs.Progress.{Advances}
+use Rattle.line_loop.specs.inner.Progress.{Advances}
 use Rattle.line_loop.proofs.session.answer_pending.Given as goal
 
 abbrev pub invariant-batches : goal.invariant-batches

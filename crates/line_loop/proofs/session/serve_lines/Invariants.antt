@@ -1,6 +1,6 @@
 use Rattle.std.proofs.Common.{◌≡◌, ◌-◌, ◌≤◌, [], length}
 use Rattle.line_loop.specs.declared.TheConstants.{SESSION_LIMIT, LINE_LIMIT}
-use Rattle.line_loop.specs.Pending.{NoFeed}
+use Rattle.line_loop.specs.inner.Pending.{NoFeed}
 use Rattle.line_loop.proofs.Serving.{Serving}
 use Rattle.line_loop.proofs.session.serve_lines.Given as goal
 

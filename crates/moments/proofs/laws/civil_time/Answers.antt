@@ -1,4 +1,4 @@
-use Rattle.moments.specs.CalendarLaws.{civil_of-civil, civil_of-at}
+use Rattle.moments.specs.laws.CalendarLaws.{civil_of-civil, civil_of-at}
 use Rattle.moments.proofs.laws.civil_time.Goals as goal
 
 pub returns-clause-civil : goal.returns-clause-civil

@@ -1,5 +1,5 @@
 use Rattle.std.proofs.Common.{true, false}
-use Rattle.moments.specs.TimeLaws.{one_time}
+use Rattle.moments.specs.laws.TimeLaws.{one_time}
 use Rattle.moments.proofs.laws.one_time.Goals as goal
 
 pub returns-clause-general : goal.returns-clause-general

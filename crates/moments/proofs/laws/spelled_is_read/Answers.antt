@@ -1,4 +1,4 @@
-use Rattle.moments.specs.TimeLaws.{moment_in-again, moment_in-taken}
+use Rattle.moments.specs.laws.TimeLaws.{moment_in-again, moment_in-taken}
 use Rattle.moments.proofs.laws.spelled_is_read.Goals as goal
 
 pub returns-clause-again : goal.returns-clause-again

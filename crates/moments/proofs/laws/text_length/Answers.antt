@@ -1,4 +1,4 @@
-use Rattle.moments.specs.DigitLaws.{length-civil_text}
+use Rattle.moments.specs.laws.DigitLaws.{length-civil_text}
 use Rattle.moments.specs.Text.{time_text}
 use Rattle.moments.specs.Days.{civil_of}
 use Rattle.moments.proofs.laws.text_length.Goals as goal

@@ -3,9 +3,9 @@ use Rattle.moments.specs.declared.civil.Civil.{Civil}
 use Rattle.moments.specs.Civil.{IsAt}
 use Rattle.moments.specs.Days.{civil_of}
 use Rattle.moments.specs.Text.{HasText}
-use Rattle.moments.specs.CalendarLaws.{moment-year, civil_of-at}
-use Rattle.moments.specs.DigitLaws.{civil-taken, one_civil}
-use Rattle.moments.specs.TimeLaws.{no_text, no_civil, moment-read, moment-text, found-text, found-years, shown, unfolded, one_moment}
+use Rattle.moments.specs.laws.CalendarLaws.{moment-year, civil_of-at}
+use Rattle.moments.specs.laws.DigitLaws.{civil-taken, one_civil}
+use Rattle.moments.specs.laws.TimeLaws.{no_text, no_civil, moment-read, moment-text, found-text, found-years, shown, unfolded, one_moment}
 use Rattle.moments.proofs.reading.moment.Goals as goal
 
 pub date_of-requires : goal.date_of-requires

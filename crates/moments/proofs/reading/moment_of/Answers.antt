@@ -1,6 +1,6 @@
 use Rattle.std.proofs.Common.{◌≡◌, ◌∙◌, pos, arith}
 use Rattle.std.proofs.lemmas.Int.{ints}
-use Rattle.moments.specs.TimeLaws.{day-number, at-day}
+use Rattle.moments.specs.laws.TimeLaws.{day-number, at-day}
 use Rattle.moments.proofs.reading.moment_of.Goals as goal
 
 pub overflow_cast-day : goal.overflow_cast-day

@@ -1,4 +1,4 @@
-use Rattle.moments.specs.TimeLaws.{read-as}
+use Rattle.moments.specs.laws.TimeLaws.{read-as}
 use Rattle.moments.proofs.reading.read.Goals as goal
 
 pub returns-clause-read : goal.returns-clause-read

@@ -3,8 +3,8 @@ use Rattle.std.proofs.lemmas.Int.{ints}
 use Rattle.jiff_core.proofs.DateLemmas.{civil}
 use Rattle.jiff_core.specs.Calendar.{days_from_civil}
 use Rattle.moments.specs.Days.{civil_of}
-use Rattle.moments.specs.CalendarLaws.{civil_of-civil, civil_of-clock, civil_ext, year-small}
-use Rattle.moments.specs.TimeLaws.{same_civil}
+use Rattle.moments.specs.laws.CalendarLaws.{civil_of-civil, civil_of-clock, civil_ext, year-small}
+use Rattle.moments.specs.laws.TimeLaws.{same_civil}
 use Rattle.moments.proofs.writing.civil_of.Goals as goal
 
 pub overflow_cast-result : goal.overflow_cast-result

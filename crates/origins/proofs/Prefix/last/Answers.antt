@@ -1,7 +1,8 @@
 use Rattle.std.proofs.Common.{◌≡◌, ◌+◌, ◌-◌, ◌^◌, arith}
 use Rattle.std.proofs.lemmas.Nat.{pow_pos}
 use Rattle.origins.specs.Prefix.{address_bits}
-use Rattle.origins.proofs.RangeLemmas.{IsLast, last_is, fits_size, shifted, bits_fit}
+use Rattle.origins.proofs.RangeLemmas.{IsLast, last_is, shifted, bits_fit}
+use Rattle.origins.specs.laws.RangeLaws.{fits_size}
 use Rattle.origins.proofs.Prefix.last.Goals as goal
 
 sized : (c : goal.In-Some) → c.in-Some.size ≡ 2 ^ (address_bits c.args.self.now.v6 - c.args.self.now.length)

@@ -5,7 +5,7 @@ use Rattle.std.proofs.lemmas.Iterator.Consumers.{count_from_yields_List}
 use Rattle.std.proofs.lemmas.Iterator.Search.{YieldsList-from_take_while}
 use Rattle.std.proofs.lemmas.List.Folds.{length-prefix_len}
 use Rattle.std.specs.List.{prefix_len}
-use Rattle.origins.specs.Fronts.{is_blank}
+use Rattle.origins.specs.inner.Fronts.{is_blank}
 use Rattle.origins.proofs.fronts.skip_blanks.Goals as goal
 
 pub returns : goal.returns

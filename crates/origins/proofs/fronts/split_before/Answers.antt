@@ -4,7 +4,7 @@ use Rattle.std.proofs.lemmas.Iterator.Consumers.{count_from_yields_List}
 use Rattle.std.proofs.lemmas.Iterator.Search.{YieldsList-from_take_while}
 use Rattle.std.proofs.lemmas.List.Folds.{length-prefix_len}
 use Rattle.std.specs.List.{prefix_len}
-use Rattle.origins.specs.Fronts.{is_none_of}
+use Rattle.origins.specs.inner.Fronts.{is_none_of}
 use Rattle.origins.proofs.fronts.split_before.Goals as goal
 
 counted : (c : goal.After-split_at) → c.count-front.result ≡ prefix_len (is_none_of c.args.stops.now) c.args.text.now

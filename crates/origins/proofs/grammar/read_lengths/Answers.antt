@@ -1,6 +1,6 @@
 use Rattle.std.proofs.Common.{ℕ, Option, Some, None, refl, sym, ◌∙◌, ap}
-use Rattle.ip_text.specs.NumberLaws.{saturated_text}
-use Rattle.origins.specs.Told.{IsTold}
+use Rattle.ip_text.specs.laws.NumberLaws.{saturated_text}
+use Rattle.origins.specs.inner.Told.{IsTold}
 use Rattle.origins.proofs.Lengths.{IsTail, from_hyphen, lengths_split, lengths_join, tail_is, tail_ends}
 use Rattle.origins.proofs.grammar.read_lengths.Goals as goal
 use Rattle.origins.proofs.grammar.read_lengths.Goals.{in-Some+in_ok-read_saturating-in-Some, in-None}

@@ -1,6 +1,6 @@
 use Rattle.std.proofs.Common.{refl}
 use Rattle.origins.specs.Order.{origin_cmp}
-use Rattle.origins.specs.Ordered.{origin_total, exact_origin}
+use Rattle.origins.specs.laws.Ordered.{origin_total, exact_origin}
 use Rattle.origins.proofs.laws.orders_origins.Goals as goal
 
 pub returns-clause-cmp : goal.returns-clause-cmp

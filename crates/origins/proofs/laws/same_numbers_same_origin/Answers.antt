@@ -1,4 +1,4 @@
-use Rattle.origins.specs.Same.{same_prefix, same_origin}
+use Rattle.origins.specs.laws.Same.{same_prefix, same_origin}
 use Rattle.origins.proofs.laws.same_numbers_same_origin.Goals as goal
 
 pub returns-clause-prefix : goal.returns-clause-prefix

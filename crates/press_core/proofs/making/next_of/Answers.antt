@@ -6,9 +6,9 @@ use Rattle.pub_set.specs.Changes.{IsApplied}
 use Rattle.key_roll.specs.declared.issued.IssuedRow.{IssuedRow}
 use Rattle.key_roll.specs.declared.rows.KeyRow.{KeyRow}
 use Rattle.entitle.specs.Certified.{settings_of}
-use Rattle.press_state.specs.Stock.{StockValue, IsKept}
-use Rattle.press_state.specs.Standing.{IsTableAfter}
-use Rattle.press_state.specs.Ended.{ended_keys}
+use Rattle.editions.specs.PublishedState.{PublishedStateValue, IsConsistentState}
+use Rattle.editions.specs.Standing.{IsTableAfter}
+use Rattle.editions.specs.Ended.{ended_keys}
 use Rattle.press_core.specs.Next.{PreparedValue}
 use Rattle.press_core.proofs.making.next_of.Goals as goal
 
@@ -19,30 +19,30 @@ returns c =
     let same = c.parts-parts.ensures.parts in
     let p = c.new-5.result in
     let whole = c.new-5.ensures in
-    let stock = ap (λ (x : PreparedValue). x.next) whole in
-    let value = stock ∙ c.new-next.ensures in
+    let published_state = ap (λ (x : PreparedValue). x.next) whole in
+    let value = published_state ∙ c.new-next.ensures in
     let changes = ap (λ (x : PreparedValue). x.changes) whole in
-    let set = ap (λ (v : StockValue). v.set) value in
-    let issued = ap (λ (v : StockValue). v.issued) value ∙ c.new-2.ensures in
-    let old_issued = c.as_slice-old.ensures ∙ ap (λ (v : StockValue). v.issued) same in
+    let set = ap (λ (v : PublishedStateValue). v.set) value in
+    let issued = ap (λ (v : PublishedStateValue). v.issued) value ∙ c.new-2.ensures in
+    let old_issued = c.as_slice-old.ensures ∙ ap (λ (v : PublishedStateValue). v.issued) same in
     let table = subst (λ (old : List IssuedRow). IsTableAfter old made.changes made.issued p.next.issued) old_issued
     (subst (λ (cs : List Change). IsTableAfter c.as_slice-old.result.now cs made.issued p.next.issued) c.as_slice-2.ensures
     (subst (λ (rows : List IssuedRow). IsTableAfter c.as_slice-old.result.now c.as_slice-2.result.now rows p.next.issued) c.as_slice-issued.ensures
     (subst (IsTableAfter c.as_slice-old.result.now c.as_slice-2.result.now c.as_slice-issued.result.now) (sym issued) c.in_ok-table.ensures))) in
     record {
-      serial = ap (λ (v : StockValue). v.serial) value ∙ ap (λ (v : StockValue). v.serial + 1) same;
-      moment = ap (λ (v : StockValue). v.moment) value;
-      cut = ap (λ (v : StockValue). v.cut) value ∙ c.new.ensures;
-      rows = ap (λ (v : StockValue). v.rows) value;
-      configs = ap (λ (v : StockValue). v.configs) value ∙ ap settings_of c.new-3.ensures;
-      kept = subst IsKept (sym stock) c.parts-kept.ensures.kept;
+      serial = ap (λ (v : PublishedStateValue). v.serial) value ∙ ap (λ (v : PublishedStateValue). v.serial + 1) same;
+      moment = ap (λ (v : PublishedStateValue). v.moment) value;
+      cut = ap (λ (v : PublishedStateValue). v.cut) value ∙ c.new.ensures;
+      rows = ap (λ (v : PublishedStateValue). v.rows) value;
+      configs = ap (λ (v : PublishedStateValue). v.configs) value ∙ ap settings_of c.new-3.ensures;
+      kept = subst IsConsistentState (sym published_state) c.parts-kept.ensures.kept;
       ascending = subst IsAscending (sym set) c.as_slice-ascending.ensures.ascending;
-      set = subst (λ (old : List Object). IsApplied old made.changes p.next.set) (ap (λ (v : StockValue). v.set) same)
+      set = subst (λ (old : List Object). IsApplied old made.changes p.next.set) (ap (λ (v : PublishedStateValue). v.set) same)
           (subst (λ (cs : List Change). IsApplied c.parts-parts.result.now.set cs p.next.set) c.as_slice.ensures
           (subst (IsApplied c.parts-parts.result.now.set c.as_slice.result.now) (sym set) c.in_ok-set.ensures));
       table = table;
       changes = changes;
       ended = ap (λ (x : PreparedValue). x.ended) whole ∙ (c.in_ok-ended.ensures
-          ∙ (ap (λ (rows : List KeyRow). ended_keys rows c.as_slice-4.result.now) (c.as_slice-3.ensures ∙ ap (λ (v : StockValue). v.rows) same)
+          ∙ (ap (λ (rows : List KeyRow). ended_keys rows c.as_slice-4.result.now) (c.as_slice-3.ensures ∙ ap (λ (v : PublishedStateValue). v.rows) same)
           ∙ ap (ended_keys at.rows) c.as_slice-4.ensures));
     }

@@ -1,10 +1,10 @@
-use Rattle.std.proofs.Common.{ℕ, false, List, [], sym, ap, ◌∙◌, refl}
+use Rattle.std.proofs.Common.{ℕ, false, List, inl, sym, ap, ◌∙◌, refl}
 use Rattle.std.proofs.lemmas.Result.{err_from_is_err_and, IfOk-weaker, IfErr-weaker}
 use Rattle.issue_plan.specs.Keys.{next_keys}
-use Rattle.press_state.specs.Stock.{StockValue}
-use Rattle.press_state.specs.Calling.{is_called_for}
-use Rattle.press_core.specs.Start.{started}
-use Rattle.press_core.specs.Ready.{basis_over}
+use Rattle.editions.specs.PublishedState.{PublishedStateValue}
+use Rattle.editions.specs.Calling.{is_called_for}
+use Rattle.press_core.specs.PrepareInput.{started}
+use Rattle.press_core.specs.inner.Ready.{basis_over}
 use Rattle.press_core.proofs.Readied.{leads, called-of, is-ready}
 use Rattle.press_core.proofs.preparing.prepare_over.Goals as goal
 
@@ -24,7 +24,7 @@ returns-then-not-is_called_for-clause-refused g c =
     let nexts = next_keys (basis_over at setup) in
     let answer = c.is_called_for.ensures nexts (leads at setup c.args.site.now work plan) ∙ ap (λ (cut : List ℕ). is_called_for at cut work.moment nexts) c.as_slice.ensures.value in (
       record {
-        told = ap (λ (v : StockValue). v.serial) c.parts-parts.ensures.parts;
+        told = ap (λ (v : PublishedStateValue). v.serial) c.parts-parts.ensures.parts;
         in_range = c.in_ok-moment.ensures.in_range;
         sets = setup.tree.sets.items;
         called = called-of start setup work false set_up c.in_ok-setup.ensures.certified plan (sym c.if-not-is_called_for.true ∙ answer);
@@ -51,7 +51,7 @@ make_edition-requires g c =
         clear = c.requires.clear;
         live_signers = c.requires.live_signers;
         name_signers = c.requires.name_signers;
-      }) c.in_ok-moment.ensures.in_range set_up c.in_ok-setup.ensures.certified plan (sym c.if-not-is_called_for.false ∙ answer);
+      }) c.in_ok-moment.ensures.in_range set_up c.in_ok-setup.ensures.certified c.in_ok-setup.ensures.owes plan (sym c.if-not-is_called_for.false ∙ answer);
     }
 
 pub returns-clause-prepared : goal.returns-clause-prepared
@@ -69,7 +69,7 @@ returns-clause-prepared g c =
       clear = c.requires.clear;
       live_signers = c.requires.live_signers;
       name_signers = c.requires.name_signers;
-    }) c.in_ok-moment.ensures.in_range set_up c.in_ok-setup.ensures.certified plan (sym c.if-not-is_called_for.false ∙ answer) in
+    }) c.in_ok-moment.ensures.in_range set_up c.in_ok-setup.ensures.certified c.in_ok-setup.ensures.owes plan (sym c.if-not-is_called_for.false ∙ answer) in
     IfOk-weaker c.make_edition.result _ _ (λ prepared is. is c.args.gathered.items ready) c.make_edition.ensures.prepared
 
 pub returns-clause-refused : goal.returns-clause-refused
@@ -87,15 +87,15 @@ returns-clause-refused g c =
       clear = c.requires.clear;
       live_signers = c.requires.live_signers;
       name_signers = c.requires.name_signers;
-    }) c.in_ok-moment.ensures.in_range set_up c.in_ok-setup.ensures.certified plan (sym c.if-not-is_called_for.false ∙ answer) in
+    }) c.in_ok-moment.ensures.in_range set_up c.in_ok-setup.ensures.certified c.in_ok-setup.ensures.owes plan (sym c.if-not-is_called_for.false ∙ answer) in
     IfErr-weaker c.make_edition.result _ _ (λ fault is. is c.args.gathered.items ready) c.make_edition.ensures.refused
 
 pub returns-in_err-setup-clause-refused : goal.returns-in_err-setup-clause-refused
 returns-in_err-setup-clause-refused g c =
     let p = err_from_is_err_and c.from_residual-in_err-setup.result c.from_residual-in_err-setup.ensures.1 in
-    rw (p.1, p.2) ([], refl)
+    rw (p.1, p.2) (inl refl)
 
 pub returns-in_err-work-clause-refused : goal.returns-in_err-work-clause-refused
 returns-in_err-work-clause-refused g c =
     let p = err_from_is_err_and c.from_residual-in_err-work.result c.from_residual-in_err-work.ensures.1 in
-    rw (p.1, p.2) ([], refl)
+    rw (p.1, p.2) (inl refl)

@@ -1,6 +1,6 @@
 use Rattle.std.proofs.Common.{◌≡◌, ◌+◌, [], ◌∷◌, ◌++◌, List, take, sym, ap, subst, ◌∙◌, refl}
 use Rattle.std.proofs.lemmas.List.{take_more}
-use Rattle.press_state.specs.declared.ended.EndedKey.{EndedKey}
+use Rattle.editions.specs.declared.ended.EndedKey.{EndedKey}
 use Rattle.press_core.specs.Press.{DropsOne, DropsEach}
 use Rattle.press_core.proofs.Drops.{drops-more, kept-none, kept-more}
 use Rattle.press_core.proofs.press.drop_each.Goals as goal

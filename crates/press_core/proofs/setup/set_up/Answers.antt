@@ -2,8 +2,8 @@ use Rattle.std.proofs.Common.{◌≡◌, ℕ, ◌≤◌, List, length, sym, ap, 
 use Rattle.authority_book.specs.Settings.{Settings}
 use Rattle.entitle.specs.Certified.{settings_of}
 use Rattle.editions.specs.Edition.{cut_at}
-use Rattle.press_state.specs.Stock.{StockValue, AreTakenIn}
-use Rattle.press_state.specs.Gathering.{configs_with, cut_with}
+use Rattle.editions.specs.PublishedState.{PublishedStateValue, AreTakenIn}
+use Rattle.editions.specs.Gathering.{configs_with, cut_with}
 use Rattle.press_core.proofs.Taking.{configs-long, cut-long, cut-grown}
 use Rattle.press_core.proofs.setup.set_up.Goals as goal
 
@@ -14,9 +14,9 @@ returns-clause-set_up c = λ site ring clock is.
     let same = c.parts-parts.ensures.parts in
     let kept = c.parts-parts.ensures.kept in
     let cut : c.in_ok-cut.cut.items ≡ cut_with at.cut gathered =
-    c.in_ok-cut.ensures ∙ ap₂ cut_with (c.as_slice.ensures ∙ ap (λ (v : StockValue). v.cut) same) c.deref.ensures.value in
+    c.in_ok-cut.ensures ∙ ap₂ cut_with (c.as_slice.ensures ∙ ap (λ (v : PublishedStateValue). v.cut) same) c.deref.ensures.value in
     let configs : settings_of c.in_ok-configs.configs.items ≡ configs_with at.configs gathered =
-    c.in_ok-configs.ensures ∙ ap (λ (s : List Settings). configs_with s gathered) (ap settings_of c.as_slice-2.ensures ∙ ap (λ (v : StockValue). v.configs) same) in
+    c.in_ok-configs.ensures ∙ ap (λ (s : List Settings). configs_with s gathered) (ap settings_of c.as_slice-2.ensures ∙ ap (λ (v : PublishedStateValue). v.configs) same) in
     let taken = c.gathered_commands_are_taken_in.ensures at.configs at.cut gathered (kept.configs ∙ sym kept.cut) kept.taken c.requires.accepted in
     record {
       moment = is;

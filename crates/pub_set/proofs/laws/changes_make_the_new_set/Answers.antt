@@ -3,7 +3,7 @@ use Rattle.pub_set.specs.declared.steps.Change.{Change}
 use Rattle.pub_set.specs.Objects.{content_at}
 use Rattle.pub_set.specs.Changes.{uri_of}
 use Rattle.pub_set.proofs.Determined.{rise_determined}
-use Rattle.pub_set.proofs.Carried.{carried_out, none_refused}
+use Rattle.pub_set.specs.laws.CarriedLaws.{carried_out, none_refused}
 use Rattle.pub_set.proofs.laws.changes_make_the_new_set.Goals as goal
 
 pub returns-clause-determined : goal.returns-clause-determined

@@ -2,9 +2,9 @@ use Rattle.std.proofs.Common.{◌≡◌, List, [], ◌∷◌, ◌++◌, ◌∙�
 use Rattle.std.specs.List.{AllByRecursion}
 use Rattle.std.specs.declared.cmp.Ordering.TheVariants.{Less}
 use Rattle.pub_set.specs.Objects.{uri_cmp, content_at, IsBehind, Rise}
-use Rattle.pub_set.specs.Drafts.{Entry, entry_uri, drafted}
-use Rattle.pub_set.proofs.Lookups.{all_weaken, rise-head, rise-tail}
-use Rattle.pub_set.proofs.Drafting.{rise_from_keys, drafted_next}
+use Rattle.pub_set.specs.inner.Overlays.{Entry, entry_uri, overlaid}
+use Rattle.pub_set.specs.laws.LookupLaws.{all_weaken, rise-head, rise-tail}
+use Rattle.pub_set.proofs.Drafting.{rise_from_keys, overlaid_next}
 use Rattle.pub_set.proofs.merging.merge.Goals as goal
 
 -- The empty list is behind nothing.
@@ -18,8 +18,8 @@ loop-uri-init c =
     let empty = c.requires.empty in record {
       ascending = rw empty c.requires.ascending;
       behind = rw empty (none_behind c.into_iter-uri-iterator.result);
-      contents = λ at. rw empty (ap (λ (es : List Entry). drafted (content_at c.args.rest.items) es at) all.0);
-      rise = rw all.0 (rise_from_keys c.args.draft.entries all.5);
+      contents = λ at. rw empty (ap (λ (es : List Entry). overlaid (content_at c.args.rest.items) es at) all.0);
+      rise = rw all.0 (rise_from_keys c.args.overlay.entries all.5);
       room = omega (arith, ap length all.0, ap length empty, c.requires.room);
     }
 
@@ -36,8 +36,8 @@ loop-uri-preserved c =
       behind = all_weaken (λ (e : Entry). uri_cmp (entry_uri entry) (entry_uri e) ≡ Less) (λ (e : Entry). IsBehind merged (entry_uri e))
           (λ e less. c.merge_one.ensures.behind (entry_uri e) less) later (rise-head entry_uri entry later rise);
       contents = λ at.
-          drafted_next (content_at (c.loop-uri.merged.items ++ c.loop-uri.rest.items)) (content_at (merged ++ c.merge_one.new.rest.items)) entry later rise c.merge_one.ensures.put.contents at
-          ∙ (ap (λ (es : List Entry). drafted (content_at (c.loop-uri.merged.items ++ c.loop-uri.rest.items)) es at) (sym step) ∙ before.contents at);
+          overlaid_next (content_at (c.loop-uri.merged.items ++ c.loop-uri.rest.items)) (content_at (merged ++ c.merge_one.new.rest.items)) entry later rise c.merge_one.ensures.put.contents at
+          ∙ (ap (λ (es : List Entry). overlaid (content_at (c.loop-uri.merged.items ++ c.loop-uri.rest.items)) es at) (sym step) ∙ before.contents at);
       rise = rise-tail entry_uri entry later rise;
       room = omega arith;
     }

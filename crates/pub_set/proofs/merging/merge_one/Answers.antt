@@ -3,8 +3,8 @@ use Rattle.std.specs.Result.{is_ok}
 use Rattle.std.specs.String.{string_bytes}
 use Rattle.pub_set.specs.declared.objects.Object.{Object}
 use Rattle.pub_set.specs.Objects.{uri_at, IsBehind}
-use Rattle.pub_set.specs.Drafts.{IsSkipped}
-use Rattle.pub_set.proofs.Lookups.{rise-right, below_further}
+use Rattle.pub_set.specs.inner.Overlays.{IsSkipped}
+use Rattle.pub_set.specs.laws.LookupLaws.{rise-right, below_further}
 use Rattle.pub_set.proofs.Splits.{put_between, behind_push}
 use Rattle.pub_set.proofs.merging.merge_one.Goals as goal
 

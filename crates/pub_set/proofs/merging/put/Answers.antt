@@ -3,7 +3,7 @@ use Rattle.std.specs.Result.{is_ok}
 use Rattle.std.specs.Prelude.{Ok, Err}
 use Rattle.std.specs.String.{string_bytes}
 use Rattle.pub_set.specs.Objects.{IsPlace}
-use Rattle.pub_set.specs.Drafts.{IsPut}
+use Rattle.pub_set.specs.inner.Overlays.{IsPut}
 use Rattle.pub_set.proofs.Splits.{put_over, put_out, put_in, put_none}
 use Rattle.pub_set.proofs.merging.put.Goals as goal
 

@@ -1,10 +1,10 @@
 use Rattle.std.proofs.Common.{arith}
-use Rattle.res_forms.specs.Formats.{as_content}
-use Rattle.res_forms.specs.FormatLaws.{as_content-law}
-use Rattle.res_forms.specs.Views.{as_view}
+use Rattle.res_ext.specs.Formats.{as_content}
+use Rattle.res_ext.specs.laws.FormatLaws.{as_content-law}
+use Rattle.res_ext.specs.Views.{as_view}
 use Rattle.res_ext.specs.declared.fault.ExtFault.TheVariants.{NotCanonical}
 use Rattle.res_ext.specs.Answers.{never}
-use Rattle.res_ext.specs.AnswerLaws.{met-found, met-only, met-refused, met-bad, refused-spells, else-refused, never-bad}
+use Rattle.res_ext.specs.laws.AnswerLaws.{met-found, met-only, met-refused, met-bad, refused-spells, else-refused, never-bad}
 use Rattle.res_ext.proofs.as_numbers.read_as.Goals as goal
 
 pub returns-clause-found : goal.returns-clause-found

@@ -1,7 +1,7 @@
 use Rattle.std.proofs.Common.{sym, ◌∙◌, arith}
 use Rattle.std.specs.Option.{option_map}
-use Rattle.der_forms.specs.Place.{place}
-use Rattle.res_ext.specs.AnswerLaws.{content-told}
+use Rattle.der.specs.Part.{place}
+use Rattle.res_ext.specs.laws.AnswerLaws.{content-told}
 use Rattle.res_ext.proofs.elements.content_of.Goals as goal
 
 pub returns : goal.returns

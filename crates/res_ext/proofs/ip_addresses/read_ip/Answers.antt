@@ -1,11 +1,11 @@
 use Rattle.std.proofs.Common.{arith}
-use Rattle.res_forms.specs.Formats.{ip_content}
-use Rattle.res_forms.specs.FormatLaws.{ip_content-law}
-use Rattle.res_forms.specs.Views.{ip_view}
+use Rattle.res_ext.specs.Formats.{ip_content}
+use Rattle.res_ext.specs.laws.FormatLaws.{ip_content-law}
+use Rattle.res_ext.specs.Views.{ip_view}
 use Rattle.res_ext.specs.declared.fault.ExtFault.TheVariants.{NotCanonical}
 use Rattle.res_ext.specs.Answers.{goes_wrong}
-use Rattle.res_ext.specs.AnswerLaws.{met-found, met-only, met-refused, met-bad, refused-spells, else-refused}
-use Rattle.res_ext.specs.FamilyLaws.{bad-taken, bad-met, bad-refused}
+use Rattle.res_ext.specs.laws.AnswerLaws.{met-found, met-only, met-refused, met-bad, refused-spells, else-refused}
+use Rattle.res_ext.specs.laws.FamilyLaws.{bad-taken, bad-met, bad-refused}
 use Rattle.res_ext.proofs.ip_addresses.read_ip.Goals as goal
 
 pub returns-clause-found : goal.returns-clause-found

@@ -1,6 +1,6 @@
-use Rattle.res_forms.specs.Formats.{as_content}
-use Rattle.res_forms.specs.FormatLaws.{as_content-law}
-use Rattle.res_ext.specs.AnswerLaws.{one-value}
+use Rattle.res_ext.specs.Formats.{as_content}
+use Rattle.res_ext.specs.laws.FormatLaws.{as_content-law}
+use Rattle.res_ext.specs.laws.AnswerLaws.{one-value}
 use Rattle.res_ext.proofs.laws.one_as.Goals as goal
 
 pub returns : goal.returns

@@ -1,7 +1,7 @@
-use Rattle.res_forms.specs.Formats.{ip_content}
-use Rattle.res_forms.specs.FormatLaws.{ip_content-law}
-use Rattle.res_ext.specs.AnswerLaws.{one-value}
-use Rattle.res_ext.specs.FamilyLaws.{no-fault}
+use Rattle.res_ext.specs.Formats.{ip_content}
+use Rattle.res_ext.specs.laws.FormatLaws.{ip_content-law}
+use Rattle.res_ext.specs.laws.AnswerLaws.{one-value}
+use Rattle.res_ext.specs.laws.FamilyLaws.{no-fault}
 use Rattle.res_ext.proofs.laws.one_ip.Goals as goal
 
 pub returns-clause-value : goal.returns-clause-value

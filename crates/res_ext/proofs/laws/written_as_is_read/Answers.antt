@@ -1,4 +1,4 @@
-use Rattle.res_ext.specs.WrittenLaws.{written-as, inherited-as}
+use Rattle.res_ext.specs.laws.WrittenLaws.{written-as, inherited-as}
 use Rattle.res_ext.proofs.laws.written_as_is_read.Goals as goal
 
 pub returns-clause-listed : goal.returns-clause-listed

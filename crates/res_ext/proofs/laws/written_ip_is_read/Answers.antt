@@ -1,4 +1,4 @@
-use Rattle.res_ext.specs.WrittenLaws.{written-ip, inherited-ip}
+use Rattle.res_ext.specs.laws.WrittenLaws.{written-ip, inherited-ip}
 use Rattle.res_ext.proofs.laws.written_ip_is_read.Goals as goal
 
 pub returns-clause-listed : goal.returns-clause-listed

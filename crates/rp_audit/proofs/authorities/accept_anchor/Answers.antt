@@ -5,8 +5,8 @@ use Rattle.crl_obj.specs.Values.{crl_value}
 use Rattle.rp_rules.specs.Checks.{Checked}
 use Rattle.rp_rules.specs.Authorities.{Authority}
 use Rattle.rp_rules.specs.Certificates.{accepted_anchor}
-use Rattle.rp_audit.specs.Told.{Gives, IsAnswer}
-use Rattle.rp_audit.specs.Views.{setting_of, held_in, authority_value}
+use Rattle.rp_audit.specs.inner.Told.{Gives, IsAnswer}
+use Rattle.rp_audit.specs.inner.Views.{context_of, held_in, authority_value}
 use Rattle.rp_audit.proofs.ByKind.{both_of, anchor_unread, anchor_broken, anchor_given}
 use Rattle.rp_audit.specs.Vouching.{vouched_in}
 use Rattle.rp_audit.proofs.Answering.{object_unasked}
@@ -36,6 +36,6 @@ returns g c = (
 pub returns-in_err-signed : goal.returns-in_err-signed
 returns-in_err-signed g c =
     let e = err_from_is_err_and c.from_residual-in_err-signed.result c.from_residual-in_err-signed.ensures.1 in
-    rw (e.1, e.2) (object_unasked (Gives authority_value) (λ s. accepted_anchor (setting_of c.args.scene.now s) (held_in c.args.scene.now))
+    rw (e.1, e.2) (object_unasked (Gives authority_value) (λ s. accepted_anchor (context_of c.args.scene.now s) (held_in c.args.scene.now))
     (λ s. vouched_in s c.args.scene.now.anchor.now.bytes c.in_ok-read.read.digest.bytes c.in_ok-read.read.signature.bytes)
     c.args.ring.now c.args.ring.now c.is_vouched.new.ring c.in_err-signed.field-0.0 c.in_err-signed.ensures)

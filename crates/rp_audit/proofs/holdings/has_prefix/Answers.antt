@@ -1,7 +1,7 @@
 use Rattle.std.proofs.Common.{Bool, ℕ, sym, ap, ◌∙◌}
 use Rattle.payloads.specs.RoaFormats.{entry_view}
 use Rattle.cert_obj.specs.Values.{sets_of}
-use Rattle.res_forms.specs.Views.{set_view}
+use Rattle.res_ext.specs.Views.{set_view}
 use Rattle.rp_rules.specs.Holdings.{Span, has_span, addresses, span_of}
 use Rattle.rp_audit.proofs.Prefixes.{ends_are}
 use Rattle.rp_audit.proofs.holdings.has_prefix.Goals as goal

@@ -2,8 +2,8 @@ use Rattle.std.proofs.Common.{ℕ, ap, sym, ◌∙◌, List}
 use Rattle.std.proofs.lemmas.List.Folds.{list_all-map}
 use Rattle.std.specs.List.{list_all}
 use Rattle.res_sets.specs.declared.numbers.Range.{Range}
-use Rattle.res_forms.specs.Formats.{span_of}
-use Rattle.res_forms.specs.Views.{set_view}
+use Rattle.res_ext.specs.Formats.{span_of}
+use Rattle.res_ext.specs.Views.{set_view}
 use Rattle.rp_rules.specs.Holdings.{has_span}
 use Rattle.rp_audit.proofs.holdings.is_inside.Goals as goal
 

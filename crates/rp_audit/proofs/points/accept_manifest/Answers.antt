@@ -5,8 +5,8 @@ use Rattle.payloads.specs.ManifestFormats.{name_of, file_view}
 use Rattle.crl_obj.specs.Values.{crl_value}
 use Rattle.rp_rules.specs.Checks.{Checked}
 use Rattle.rp_rules.specs.Points.{accepted_manifest}
-use Rattle.rp_audit.specs.Told.{Gives, IsAnswer}
-use Rattle.rp_audit.specs.Views.{setting_of, held_in, authority_value, manifest_value}
+use Rattle.rp_audit.specs.inner.Told.{Gives, IsAnswer}
+use Rattle.rp_audit.specs.inner.Views.{context_of, held_in, authority_value, manifest_value}
 use Rattle.rp_audit.proofs.ByKind.{both_of, manifest_unread, manifest_broken, manifest_given}
 use Rattle.rp_audit.specs.Vouching.{vouched_in}
 use Rattle.rp_audit.proofs.Answering.{object_unasked}
@@ -36,7 +36,7 @@ returns g c = λ visited sees. (
 pub returns-in_err-signed : goal.returns-in_err-signed
 returns-in_err-signed g c = λ visited sees.
     let e = err_from_is_err_and c.from_residual-in_err-signed.result c.from_residual-in_err-signed.ensures.1 in
-    rw (e.1, e.2) (object_unasked (Gives manifest_value) (λ s. accepted_manifest (setting_of c.args.scene.now s) (held_in c.args.scene.now) (authority_value c.args.authority.now) visited)
+    rw (e.1, e.2) (object_unasked (Gives manifest_value) (λ s. accepted_manifest (context_of c.args.scene.now s) (held_in c.args.scene.now) (authority_value c.args.authority.now) visited)
     (λ s. vouched_in s c.args.authority.now.cert.key.bytes c.in_ok-m.m.certificate.digest.bytes c.in_ok-m.m.certificate.signature.bytes
     && vouched_in s c.in_ok-m.m.certificate.cert.key.bytes c.in_ok-m.m.object.digest.bytes c.in_ok-m.m.object.signature.bytes)
     c.args.ring.now c.args.ring.now c.are_vouched.new.ring c.in_err-signed.field-0.0 c.in_err-signed.ensures)

@@ -2,7 +2,7 @@ use Rattle.std.proofs.Common.{Bor, ◌≡◌, ℕ, List, sym, ap, ◌∙◌}
 use Rattle.std.proofs.lemmas.Result.{err_from_is_err_and}
 use Rattle.std.specs.Str.{bytes_eq}
 use Rattle.payloads.specs.ManifestFormats.{file_view}
-use Rattle.rp_audit.specs.Views.{held_in}
+use Rattle.rp_audit.specs.inner.Views.{held_in}
 use Rattle.rp_audit.proofs.Checking.{listed_unfound, listed_other, listed_same}
 use Rattle.rp_audit.proofs.scene.listed_bytes.Goals as goal
 

@@ -12,9 +12,9 @@ use Rattle.rp_rules.specs.Points.{other_files}
 use Rattle.rp_rules.specs.Walk.{Visit, Certificate, Published, visited, visit_file, visit_files, visit_below}
 use Rattle.rp_rules.specs.Views.{point_value as value_of}
 use Rattle.rp_audit.specs.declared.noted.Noted.{Noted}
-use Rattle.rp_audit.specs.Told.{IsRefusal, Answers, Gives}
-use Rattle.rp_audit.specs.Views.{setting_of, held_in, authority_value, point_value}
-use Rattle.rp_audit.specs.Noted.{Sees, Notes, GoesOn, VisitsFile, VisitsFiles, visit_authority, visit_roa}
+use Rattle.rp_audit.specs.inner.Told.{IsRefusal, Answers, Gives}
+use Rattle.rp_audit.specs.inner.Views.{context_of, held_in, authority_value, point_value}
+use Rattle.rp_audit.specs.inner.Noted.{Sees, Notes, WalkContinues, VisitsFile, VisitsFiles, visit_authority, visit_roa}
 use Rattle.rp_audit.proofs.Answering.{answers_same, memory_answers}
 use Rattle.rp_audit.proofs.Lists.{drop_here}
 use Rattle.rp_audit.proofs.Steps.{Opens, Closes, certificate_notes}
@@ -30,7 +30,7 @@ visit_authority-returns-in_err-child g t c = λ visits sees.
     let scene = c.args.scene.now in
     let point = point_value c.args.authority.now c.args.listing.now in
     let file = file_view c.args.file.now in
-    let told = subst (λ (es : List CrlEntry). Answers (Gives authority_value) (λ s. accepted_authority (setting_of scene s) (held_in scene) point.authority es (visited visits) file) (Err c.in_err-child.field-0.0) c.args.ring.now c.accept_authority.new.ring)
+    let told = subst (λ (es : List CrlEntry). Answers (Gives authority_value) (λ s. accepted_authority (context_of scene s) (held_in scene) point.authority es (visited visits) file) (Err c.in_err-child.field-0.0) c.args.ring.now c.accept_authority.new.ring)
     c.as_slice-entries.ensures.value (c.in_err-child.ensures (visited visits) sees) in
     rw (e.1, e.2) (authority_stops (λ serial m. VisitsFile (held_in scene) point file visits c.args.noted.now c.args.noted.now serial m) scene c.args.levels point file visits c.args.ring.now c.accept_authority.new.ring c.in_err-child.field-0.0 told)
 
@@ -51,15 +51,15 @@ visit_authority-returns-in_err-visit_below g t c = λ visits sees.
     let point = point_value c.args.authority.now c.args.listing.now in
     let file = file_view c.args.file.now in
     let child = authority_value c.in_ok-child.child in
-    let told = subst (λ (es : List CrlEntry). Answers (Gives authority_value) (λ s. accepted_authority (setting_of scene s) (held_in scene) point.authority es (visited visits) file) (Ok c.in_ok-child.child) c.args.ring.now c.accept_authority.new.ring)
+    let told = subst (λ (es : List CrlEntry). Answers (Gives authority_value) (λ s. accepted_authority (context_of scene s) (held_in scene) point.authority es (visited visits) file) (Ok c.in_ok-child.child) c.args.ring.now c.accept_authority.new.ring)
     c.as_slice-entries.ensures.value (c.in_ok-child.ensures (visited visits) sees) in
     let before : Noted = c.args.noted.now in
-    let mid : Noted = record { seen = c.add.new.self; origins = before.origins; points = before.points } in
+    let mid : Noted = record { visited_uris = c.add.new.self; origins = before.origins; points = before.points } in
     let notes : Notes (held_in scene) visits (Certificate child ∷ []) before mid =
     certificate_notes (held_in scene) visits child before mid refl refl
-    (λ s. subst (λ (u : List ℕ). Sees (visited visits ++ u ∷ []) mid.seen) (c.in_ok-owned.ensures ∙ c.as_str.ensures.value) (c.in_ok-add.ensures (visited visits) s)) in
+    (λ s. subst (λ (u : List ℕ). Sees (visited visits ++ u ∷ []) mid.visited_uris) (c.in_ok-owned.ensures ∙ c.as_str.ensures.value) (c.in_ok-add.ensures (visited visits) s)) in
     rw (e.1, e.2) (child_stops (λ serial m. VisitsFile (held_in scene) point file visits before c.visit_below.new.noted serial m)
-    (λ (u : Unit {0}) m. GoesOn (held_in scene) (visits ++ Certificate child ∷ []) mid c.visit_below.new.noted m)
+    (λ (u : Unit {0}) m. WalkContinues (held_in scene) (visits ++ Certificate child ∷ []) mid c.visit_below.new.noted m)
     scene c.args.levels point file visits c.args.ring.now c.accept_authority.new.ring c.visit_below.new.ring child c.in_err-visit_below.field-0.0 told.0 told.1
     (c.in_err-visit_below.ensures (visits ++ Certificate child ∷ []) (notes.uris sees)))
 
@@ -69,13 +69,13 @@ visit_authority-returns g t c = λ visits sees.
     let point = point_value c.args.authority.now c.args.listing.now in
     let file = file_view c.args.file.now in
     let child = authority_value c.in_ok-child.child in
-    let told = subst (λ (es : List CrlEntry). Answers (Gives authority_value) (λ s. accepted_authority (setting_of scene s) (held_in scene) point.authority es (visited visits) file) (Ok c.in_ok-child.child) c.args.ring.now c.accept_authority.new.ring)
+    let told = subst (λ (es : List CrlEntry). Answers (Gives authority_value) (λ s. accepted_authority (context_of scene s) (held_in scene) point.authority es (visited visits) file) (Ok c.in_ok-child.child) c.args.ring.now c.accept_authority.new.ring)
     c.as_slice-entries.ensures.value (c.in_ok-child.ensures (visited visits) sees) in
     let before : Noted = c.args.noted.now in
-    let mid : Noted = record { seen = c.add.new.self; origins = before.origins; points = before.points } in
+    let mid : Noted = record { visited_uris = c.add.new.self; origins = before.origins; points = before.points } in
     let notes : Notes (held_in scene) visits (Certificate child ∷ []) before mid =
     certificate_notes (held_in scene) visits child before mid refl refl
-    (λ s. subst (λ (u : List ℕ). Sees (visited visits ++ u ∷ []) mid.seen) (c.in_ok-owned.ensures ∙ c.as_str.ensures.value) (c.in_ok-add.ensures (visited visits) s)) in
+    (λ s. subst (λ (u : List ℕ). Sees (visited visits ++ u ∷ []) mid.visited_uris) (c.in_ok-owned.ensures ∙ c.as_str.ensures.value) (c.in_ok-add.ensures (visited visits) s)) in
     child_visited scene c.args.levels point file visits c.args.ring.now c.accept_authority.new.ring c.visit_below.new.ring before mid c.visit_below.new.noted child (tt {0}) c.in_ok-child.child.cert.serial
     c.requires told.0 told.1 notes (c.in_ok-visit_below.ensures (visits ++ Certificate child ∷ []) (notes.uris sees)) refl
 
@@ -87,10 +87,10 @@ visit_file-returns-then-is_certificate_file g t c = λ visits sees.
     let point = point_value c.args.authority.now c.args.listing.now in
     let file = file_view c.args.file.now in
     answers_same (λ serial m. VisitsFile (held_in scene) point file visits c.args.noted.now c.visit_authority.new.noted serial m)
-    (λ s. visit_file (setting_of scene s) (held_in scene) (visit_below c.args.levels (setting_of scene s) (held_in scene)) point file visits)
-    (λ s. visit_authority (setting_of scene s) (held_in scene) (visit_below c.args.levels (setting_of scene s) (held_in scene)) point file visits)
+    (λ s. visit_file (context_of scene s) (held_in scene) (visit_below c.args.levels (context_of scene s) (held_in scene)) point file visits)
+    (λ s. visit_authority (context_of scene s) (held_in scene) (visit_below c.args.levels (context_of scene s) (held_in scene)) point file visits)
     c.visit_authority.result c.args.ring.now c.visit_authority.new.ring
-    (file_is_authority (setting_of scene c.args.ring.now) (held_in scene) (visit_below c.args.levels (setting_of scene c.args.ring.now) (held_in scene)) point file visits (sym c.is_certificate_file.ensures ∙ c.if-is_certificate_file.true))
+    (file_is_authority (context_of scene c.args.ring.now) (held_in scene) (visit_below c.args.levels (context_of scene c.args.ring.now) (held_in scene)) point file visits (sym c.is_certificate_file.ensures ∙ c.if-is_certificate_file.true))
     (c.visit_authority.ensures visits sees)
 
 pub visit_file-returns : goal.visit_file-returns
@@ -99,10 +99,10 @@ visit_file-returns g t c = λ visits sees.
     let point = point_value c.args.authority.now c.args.listing.now in
     let file = file_view c.args.file.now in
     answers_same (λ serial m. VisitsFile (held_in scene) point file visits c.args.noted.now c.visit_roa.new.noted serial m)
-    (λ s. visit_file (setting_of scene s) (held_in scene) (visit_below c.args.levels (setting_of scene s) (held_in scene)) point file visits)
-    (λ s. visit_roa (setting_of scene s) (held_in scene) point file visits)
+    (λ s. visit_file (context_of scene s) (held_in scene) (visit_below c.args.levels (context_of scene s) (held_in scene)) point file visits)
+    (λ s. visit_roa (context_of scene s) (held_in scene) point file visits)
     c.visit_roa.result c.args.ring.now c.visit_roa.new.ring
-    (file_is_roa (setting_of scene c.args.ring.now) (held_in scene) (visit_below c.args.levels (setting_of scene c.args.ring.now) (held_in scene)) point file visits (sym c.is_certificate_file.ensures ∙ c.if-is_certificate_file.false))
+    (file_is_roa (context_of scene c.args.ring.now) (held_in scene) (visit_below c.args.levels (context_of scene c.args.ring.now) (held_in scene)) point file visits (sym c.is_certificate_file.ensures ∙ c.if-is_certificate_file.false))
     (c.visit_roa.ensures visits sees)
 
 -- ---- the files of a point
@@ -110,7 +110,7 @@ visit_file-returns g t c = λ visits sees.
 pub visit_files-loop-file-init : goal.visit_files-loop-file-init
 visit_files-loop-file-init g t c = λ visits sees. record {
   stays = refl;
-  so = at_start (setting_of c.args.scene.now c.args.ring.now) (held_in c.args.scene.now) (visit_below c.args.levels (setting_of c.args.scene.now c.args.ring.now) (held_in c.args.scene.now))
+  so = at_start (context_of c.args.scene.now c.args.ring.now) (held_in c.args.scene.now) (visit_below c.args.levels (context_of c.args.scene.now c.args.ring.now) (held_in c.args.scene.now))
       (point_value c.args.authority.now c.args.listing.now) visits c.args.noted.now c.first_serial-greatest.result c.first_serial-greatest.ensures;
 }
 
@@ -125,7 +125,7 @@ visit_files-loop-file-preserved-then-is_crl_file g t c = λ visits sees.
     let was = l.invariant visits sees in
     record {
       stays = was.stays;
-      so = same_left (setting_of scene c.args.ring.now) (held_in scene) (visit_below c.args.levels (setting_of scene c.args.ring.now) (held_in scene)) (point_value c.args.authority.now c.args.listing.now) visits
+      so = same_left (context_of scene c.args.ring.now) (held_in scene) (visit_below c.args.levels (context_of scene c.args.ring.now) (held_in scene)) (point_value c.args.authority.now c.args.listing.now) visits
           (others (drop l.file-index files)) (others (drop (l.file-index + 1) files)) c.args.noted.now l.noted l.greatest
           (ap others here ∙ others_skip c.file-item.result (drop (l.file-index + 1) files) (sym c.is_crl_file.ensures ∙ c.if-is_crl_file.true)) was.so;
     }
@@ -142,8 +142,8 @@ visit_files-loop-file-preserved g t c = λ visits sees.
     subst (λ (xs : List ListedFile). drop l.file-index xs ≡ c.file-item.result ∷ drop (l.file-index + 1) xs) c.deref-file-items.ensures.value
     (drop_here c.deref-file-items.result.now l.file-index c.file-item.result c.loop-file-test.true c.file-item.is) in
     let was = l.invariant visits sees in
-    let so : SoFar (setting_of scene c.args.ring.now) (held_in scene) (visit_below c.args.levels (setting_of scene c.args.ring.now) (held_in scene)) point visits (file ∷ left) c.args.noted.now l.noted l.greatest =
-    same_left (setting_of scene c.args.ring.now) (held_in scene) (visit_below c.args.levels (setting_of scene c.args.ring.now) (held_in scene)) point visits
+    let so : SoFar (context_of scene c.args.ring.now) (held_in scene) (visit_below c.args.levels (context_of scene c.args.ring.now) (held_in scene)) point visits (file ∷ left) c.args.noted.now l.noted l.greatest =
+    same_left (context_of scene c.args.ring.now) (held_in scene) (visit_below c.args.levels (context_of scene c.args.ring.now) (held_in scene)) point visits
     (others (drop l.file-index files)) (file ∷ left) c.args.noted.now l.noted l.greatest
     (ap others here ∙ others_take c.file-item.result (drop (l.file-index + 1) files) (sym c.is_crl_file.ensures ∙ c.if-is_crl_file.false)) was.so in
     let told = c.in_ok-serial.ensures (visits ++ so.added) (so.notes.uris sees) in
@@ -165,8 +165,8 @@ visit_files-returns-in_err-serial g t c = λ visits sees.
     subst (λ (xs : List ListedFile). drop l.file-index xs ≡ c.file-item.result ∷ drop (l.file-index + 1) xs) c.deref-file-items.ensures.value
     (drop_here c.deref-file-items.result.now l.file-index c.file-item.result c.loop-file-test.true c.file-item.is) in
     let was = l.invariant visits sees in
-    let so : SoFar (setting_of scene c.args.ring.now) (held_in scene) (visit_below c.args.levels (setting_of scene c.args.ring.now) (held_in scene)) point visits (file ∷ left) c.args.noted.now l.noted l.greatest =
-    same_left (setting_of scene c.args.ring.now) (held_in scene) (visit_below c.args.levels (setting_of scene c.args.ring.now) (held_in scene)) point visits
+    let so : SoFar (context_of scene c.args.ring.now) (held_in scene) (visit_below c.args.levels (context_of scene c.args.ring.now) (held_in scene)) point visits (file ∷ left) c.args.noted.now l.noted l.greatest =
+    same_left (context_of scene c.args.ring.now) (held_in scene) (visit_below c.args.levels (context_of scene c.args.ring.now) (held_in scene)) point visits
     (others (drop l.file-index files)) (file ∷ left) c.args.noted.now l.noted l.greatest
     (ap others here ∙ others_take c.file-item.result (drop (l.file-index + 1) files) (sym c.is_crl_file.ensures ∙ c.if-is_crl_file.false)) was.so in
     rw (e.1, e.2) (file_stops (λ (n : ℕ) m. VisitsFiles (held_in scene) point visits c.args.noted.now c.visit_file.new.noted n m)
@@ -181,8 +181,8 @@ visit_files-returns g t c = λ visits sees.
     let files = c.args.listing.now.manifest.body.files.items in
     let was = l.invariant visits sees in (
       was.stays,
-      at_end (setting_of scene c.args.ring.now) (held_in scene) (visit_below c.args.levels (setting_of scene c.args.ring.now) (held_in scene)) (point_value c.args.authority.now c.args.listing.now) visits c.args.noted.now l.noted l.greatest
-          (same_left (setting_of scene c.args.ring.now) (held_in scene) (visit_below c.args.levels (setting_of scene c.args.ring.now) (held_in scene)) (point_value c.args.authority.now c.args.listing.now) visits
+      at_end (context_of scene c.args.ring.now) (held_in scene) (visit_below c.args.levels (context_of scene c.args.ring.now) (held_in scene)) (point_value c.args.authority.now c.args.listing.now) visits c.args.noted.now l.noted l.greatest
+          (same_left (context_of scene c.args.ring.now) (held_in scene) (visit_below c.args.levels (context_of scene c.args.ring.now) (held_in scene)) (point_value c.args.authority.now c.args.listing.now) visits
           (others (drop l.file-index files)) [] c.args.noted.now l.noted l.greatest (ap others (drop_of_length-le files (omega arith))) was.so),
     )
 
@@ -190,13 +190,13 @@ visit_files-returns g t c = λ visits sees.
 
 pub visit_below-returns-then-levels-eq0 : goal.visit_below-returns-then-levels-eq0
 visit_below-returns-then-levels-eq0 g t c = λ visits sees.
-    none_answers (λ (u : Unit {0}) m. GoesOn (held_in c.args.scene.now) visits c.args.noted.now c.args.noted.now m) c.args.scene.now c.args.levels (authority_value c.args.authority.now) visits c.args.ring.now c.refusal.result
+    none_answers (λ (u : Unit {0}) m. WalkContinues (held_in c.args.scene.now) visits c.args.noted.now c.args.noted.now m) c.args.scene.now c.args.levels (authority_value c.args.authority.now) visits c.args.ring.now c.refusal.result
     (omega arith) (subst (λ (u : List ℕ). IsRefusal u rule.Depth c.refusal.result) c.as_str.ensures.value c.refusal.ensures)
 
 pub visit_below-returns-in_err-listing : goal.visit_below-returns-in_err-listing
 visit_below-returns-in_err-listing g t c = λ visits sees.
     let e = err_from_is_err_and c.from_residual.result c.from_residual.ensures.1 in
-    rw (e.1, e.2) (point_stops (λ (u : Unit {0}) m. GoesOn (held_in c.args.scene.now) visits c.args.noted.now c.args.noted.now m) c.args.scene.now c.args.levels c.args.authority.now visits c.args.ring.now c.accept_point.new.ring c.in_err-listing.field-0.0
+    rw (e.1, e.2) (point_stops (λ (u : Unit {0}) m. WalkContinues (held_in c.args.scene.now) visits c.args.noted.now c.args.noted.now m) c.args.scene.now c.args.levels c.args.authority.now visits c.args.ring.now c.accept_point.new.ring c.in_err-listing.field-0.0
     (λ none. omega (arith, none)) (c.in_err-listing.ensures (visited visits) sees))
 
 pub visit_below-returns-in_err-note_point : goal.visit_below-returns-in_err-note_point
@@ -211,7 +211,7 @@ visit_below-returns-in_err-serial g t c = λ visits sees.
     let a = authority_value c.args.authority.now in
     let point = point_value c.args.authority.now c.in_ok-listing.listing in
     let told = c.in_ok-listing.ensures (visited visits) sees in
-    rw (e.1, e.2) (listed_stops (λ (u : Unit {0}) m. GoesOn (held_in scene) visits c.args.noted.now c.visit_files.new.noted m)
+    rw (e.1, e.2) (listed_stops (λ (u : Unit {0}) m. WalkContinues (held_in scene) visits c.args.noted.now c.visit_files.new.noted m)
     (λ (n : ℕ) m. VisitsFiles (held_in scene) point (visits ++ Published point ∷ []) c.note_point.new.noted c.visit_files.new.noted n m)
     scene c.args.levels a visits point c.args.ring.now c.accept_point.new.ring c.visit_files.new.ring c.in_err-serial.field-0.0 (λ none. omega (arith, none)) told.0 told.1
     (c.in_err-serial.ensures (visits ++ Published point ∷ []) (c.in_ok-note_point.ensures.uris visits sees)))
@@ -228,4 +228,4 @@ visit_below-returns g t c = λ visits sees.
     (place ∙ sym (length-map c.args.noted.now.points.items value_of))
     (record { uris = c.in_ok-note_point.ensures.uris visits; origins = c.in_ok-note_point.ensures.origins; listed = c.in_ok-note_point.ensures.points })
     (c.in_ok-serial.ensures (visits ++ Published point ∷ []) (c.in_ok-note_point.ensures.uris visits sees))
-    (record { seen = c.close_point.ensures.seen; origins = c.close_point.ensures.origins; listed = c.close_point.ensures.points })
+    (record { visited_uris = c.close_point.ensures.visited_uris; origins = c.close_point.ensures.origins; listed = c.close_point.ensures.points })

@@ -1,7 +1,7 @@
 use Rattle.std.proofs.Common.{◌≡◌, ℕ, ◌+◌, ◌*◌, List, drop}
 use Rattle.rp_rules.specs.Walk.{Visit, visited, visit_below}
-use Rattle.rp_audit.specs.Views.{setting_of, held_in, authority_value, point_value}
-use Rattle.rp_audit.specs.Noted.{Sees}
+use Rattle.rp_audit.specs.inner.Views.{context_of, held_in, authority_value, point_value}
+use Rattle.rp_audit.specs.inner.Noted.{Sees}
 use Rattle.rp_audit.proofs.FileSteps.{SoFar, others}
 use Rattle.rp_audit.proofs.walking.+walk.Given as goal
 
@@ -22,6 +22,6 @@ pub record IsPart (same : Type 0) (done : Type 0) : Type 0 where
   pub so : done
 
 abbrev pub invariant-visit_files-loop-file : goal.invariant-visit_files-loop-file
-invariant-visit_files-loop-file g l = (visits : List Visit) → Sees (visited visits) l.initial.noted.seen → IsPart (l.ring ≡ l.initial.ring)
-    (SoFar (setting_of l.scene l.initial.ring) (held_in l.scene) (visit_below l.levels (setting_of l.scene l.initial.ring) (held_in l.scene))
+invariant-visit_files-loop-file g l = (visits : List Visit) → Sees (visited visits) l.initial.noted.visited_uris → IsPart (l.ring ≡ l.initial.ring)
+    (SoFar (context_of l.scene l.initial.ring) (held_in l.scene) (visit_below l.levels (context_of l.scene l.initial.ring) (held_in l.scene))
     (point_value l.authority l.listing) visits (others (drop l.file-index l.listing.manifest.body.files.items)) l.initial.noted l.noted l.greatest)

@@ -2,8 +2,8 @@ use Rattle.std.proofs.Common.{◌≡◌, ℕ, List, refl, sym, ap, ◌∙◌, ru
 use Rattle.std.proofs.lemmas.Result.{err_from_is_err_and}
 use Rattle.payloads.specs.ManifestFormats.{file_view}
 use Rattle.rp_rules.specs.Walk.{visited}
-use Rattle.rp_audit.specs.Views.{held_in, point_value}
-use Rattle.rp_audit.specs.Noted.{VisitsFile}
+use Rattle.rp_audit.specs.inner.Views.{held_in, point_value}
+use Rattle.rp_audit.specs.inner.Noted.{VisitsFile}
 use Rattle.rp_audit.proofs.Visits.{roa_stops, roa_visited}
 use Rattle.rp_audit.proofs.walking.visit_roa.Goals as goal
 

@@ -2,8 +2,8 @@ use Rattle.std.proofs.Common.{◌≡◌, ℕ, List, [], ◌∷◌, ◌++◌, ref
 use Rattle.std.proofs.lemmas.Result.{err_from_is_err_and}
 use Rattle.rp_rules.specs.Walk.{Visit, Certificate, visited}
 use Rattle.rp_audit.specs.declared.noted.Noted.{Noted}
-use Rattle.rp_audit.specs.Views.{held_in, authority_value}
-use Rattle.rp_audit.specs.Noted.{Sees, Notes, GoesOn, IsWalk}
+use Rattle.rp_audit.specs.inner.Views.{held_in, authority_value}
+use Rattle.rp_audit.specs.inner.Noted.{Sees, Notes, WalkContinues, IsWalk}
 use Rattle.rp_audit.proofs.Steps.{certificate_notes}
 use Rattle.rp_audit.proofs.Visits.{anchor_answers, walk_answers, walk_visited}
 use Rattle.rp_audit.proofs.walking.walk.Goals as goal
@@ -19,22 +19,22 @@ returns-in_err-visit_below g c =
     let scene = c.args.scene.now in
     let a = authority_value c.in_ok-anchor.anchor in
     let first : Noted = c.new-noted.result in
-    let mid : Noted = record { seen = c.add.new.self; origins = first.origins; points = first.points } in
+    let mid : Noted = record { visited_uris = c.add.new.self; origins = first.origins; points = first.points } in
     let notes : Notes (held_in scene) [] (Certificate a ∷ []) first mid =
     certificate_notes (held_in scene) [] a first mid refl refl
-    (λ s. subst (λ (u : List ℕ). Sees (u ∷ []) mid.seen) (c.in_ok-owned.ensures ∙ c.as_str.ensures.value) (c.in_ok-add.ensures [] s)) in
-    rw (e.1, e.2) (walk_answers (λ (noted : Noted) m. IsWalk (held_in scene) noted m) (λ (u : Unit {0}) m. GoesOn (held_in scene) (Certificate a ∷ []) mid c.visit_below.new.noted m)
+    (λ s. subst (λ (u : List ℕ). Sees (u ∷ []) mid.visited_uris) (c.in_ok-owned.ensures ∙ c.as_str.ensures.value) (c.in_ok-add.ensures [] s)) in
+    rw (e.1, e.2) (walk_answers (λ (noted : Noted) m. IsWalk (held_in scene) noted m) (λ (u : Unit {0}) m. WalkContinues (held_in scene) (Certificate a ∷ []) mid c.visit_below.new.noted m)
     scene a c.args.ring.now c.accept_anchor.new.ring c.visit_below.new.ring c.in_err-visit_below.field-0.0 c.in_ok-anchor.ensures.0 c.in_ok-anchor.ensures.1
-    (c.in_err-visit_below.ensures (Certificate a ∷ []) (notes.uris c.new-noted.ensures.seen)))
+    (c.in_err-visit_below.ensures (Certificate a ∷ []) (notes.uris c.new-noted.ensures.visited_uris)))
 
 pub returns : goal.returns
 returns g c =
     let scene = c.args.scene.now in
     let a = authority_value c.in_ok-anchor.anchor in
     let first : Noted = c.new-noted.result in
-    let mid : Noted = record { seen = c.add.new.self; origins = first.origins; points = first.points } in
+    let mid : Noted = record { visited_uris = c.add.new.self; origins = first.origins; points = first.points } in
     let notes : Notes (held_in scene) [] (Certificate a ∷ []) first mid =
     certificate_notes (held_in scene) [] a first mid refl refl
-    (λ s. subst (λ (u : List ℕ). Sees (u ∷ []) mid.seen) (c.in_ok-owned.ensures ∙ c.as_str.ensures.value) (c.in_ok-add.ensures [] s)) in
+    (λ s. subst (λ (u : List ℕ). Sees (u ∷ []) mid.visited_uris) (c.in_ok-owned.ensures ∙ c.as_str.ensures.value) (c.in_ok-add.ensures [] s)) in
     walk_visited scene a c.args.ring.now c.accept_anchor.new.ring c.visit_below.new.ring first mid c.visit_below.new.noted (tt {0}) c.in_ok-anchor.ensures.0 c.in_ok-anchor.ensures.1
-    c.new-noted.ensures.origins c.new-noted.ensures.points notes c.new-noted.ensures.seen (c.in_ok-visit_below.ensures (Certificate a ∷ []) (notes.uris c.new-noted.ensures.seen))
+    c.new-noted.ensures.origins c.new-noted.ensures.points notes c.new-noted.ensures.visited_uris (c.in_ok-visit_below.ensures (Certificate a ∷ []) (notes.uris c.new-noted.ensures.visited_uris))

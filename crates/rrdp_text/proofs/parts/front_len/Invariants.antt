@@ -1,6 +1,6 @@
 use Rattle.std.proofs.Common.{◌≡◌, ◌+◌, drop}
 use Rattle.std.specs.List.{prefix_len}
-use Rattle.rrdp_text.specs.Parts.{has}
+use Rattle.rrdp_text.specs.inner.Parts.{has}
 use Rattle.rrdp_text.proofs.parts.front_len.Given as goal
 
 abbrev pub invariant-loop-i : goal.invariant-loop-i

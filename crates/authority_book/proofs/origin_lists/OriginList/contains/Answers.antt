@@ -2,7 +2,7 @@ use Rattle.std.proofs.Common.{◌≡◌, ◌∙◌, ap, subst, Option, Box, Glob
 use Rattle.std.specs.Prelude.{IfSome}
 use Rattle.std.specs.List.Sorted.{IsSorted}
 use Rattle.authority_book.specs.Origins.{origin_cmp, is_there}
-use Rattle.authority_book.specs.Index.{IsIndexed}
+use Rattle.authority_book.specs.inner.Index.{IsIndexed}
 use Rattle.authority_book.specs.declared.origin_lists.Index.{Index}
 use Rattle.authority_book.proofs.OriginOrder.{found_sorted}
 use Rattle.authority_book.proofs.origin_lists.OriginList.contains.Goals as goal

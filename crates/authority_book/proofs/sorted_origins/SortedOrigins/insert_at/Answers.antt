@@ -2,7 +2,7 @@ use Rattle.std.proofs.Common.{◌≡◌, ◌+◌, ◌≤◌, true, refl, ◌∙�
 use Rattle.std.specs.Prelude.{insert}
 use Rattle.std.specs.Result.{is_ok}
 use Rattle.std.proofs.lemmas.List.{length-drop}
-use Rattle.authority_book.specs.Kept.{KeptOrigins}
+use Rattle.authority_book.specs.inner.Kept.{KeptOrigins}
 use Rattle.authority_book.proofs.Gap.{put_right}
 use Rattle.authority_book.proofs.sorted_origins.SortedOrigins.insert_at.Goals as goal
 

@@ -3,7 +3,7 @@ use Rattle.std.specs.Prelude.{remove}
 use Rattle.std.proofs.lemmas.List.{length-drop, length-take, take_at}
 use borrow.Rule.Slice.PartMut.{mid_of, put_mid}
 use Rattle.origins.specs.declared.Origin.{Origin}
-use Rattle.authority_book.specs.Kept.{KeptOrigins}
+use Rattle.authority_book.specs.inner.Kept.{KeptOrigins}
 use Rattle.authority_book.proofs.Gap.{removed_left, removed_right, length-put_mid}
 use Rattle.authority_book.proofs.sorted_origins.SortedOrigins.remove_at.Goals as goal
 

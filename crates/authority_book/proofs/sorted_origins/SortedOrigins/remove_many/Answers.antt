@@ -3,7 +3,7 @@ use Rattle.std.specs.Prelude.{not}
 use Rattle.std.proofs.lemmas.Fn.{filter_same}
 use borrow.Author.Tests.{tests}
 use Rattle.origins.specs.declared.Origin.{Origin}
-use Rattle.authority_book.specs.Kept.{KeptOrigins}
+use Rattle.authority_book.specs.inner.Kept.{KeptOrigins}
 use Rattle.authority_book.specs.Origins.{is_there, without}
 use Rattle.authority_book.proofs.sorted_origins.SortedOrigins.remove_many.Goals as goal
 

@@ -2,7 +2,7 @@ use Rattle.std.proofs.Common.{◌≡◌, false, refl, sym, ◌∙◌, ap, get_or
 use Rattle.std.specs.Result.{is_ok}
 use Rattle.authority_book.specs.Origins.{origin_cmp, is_there, IsAscending}
 use Rattle.authority_book.proofs.OriginOrder.{found}
-use Rattle.origins.specs.Ordered.{exact_origin}
+use Rattle.origins.specs.laws.Ordered.{exact_origin}
 use Rattle.authority_book.proofs.Changes.{distinct_from_ascending}
 use Rattle.authority_book.proofs.Removed.{without_at, without_absent}
 use Rattle.authority_book.proofs.sorted_origins.SortedOrigins.remove_one.Goals as goal

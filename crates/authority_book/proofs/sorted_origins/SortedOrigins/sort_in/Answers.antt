@@ -1,7 +1,7 @@
 use Rattle.std.proofs.Common.{◌≡◌, ◌++◌, true, refl, sym, ◌∙◌, ap, drop, List}
 use Rattle.std.specs.Result.{is_ok}
 use Rattle.origins.specs.declared.Origin.{Origin}
-use Rattle.authority_book.specs.Kept.{KeptOrigins}
+use Rattle.authority_book.specs.inner.Kept.{KeptOrigins}
 use Rattle.authority_book.specs.Origins.{origin_cmp}
 use Rattle.authority_book.proofs.Placed.{sorted_is}
 use Rattle.authority_book.proofs.sorted_origins.SortedOrigins.sort_in.Goals as goal

@@ -1,6 +1,6 @@
 use Rattle.std.proofs.Common.{sym, ap, ◌∙◌, subst, arith}
 use Rattle.commit_word.specs.Seats.{OwnerSeat}
-use Rattle.commit_word.specs.Steps.{IsMadeBy}
+use Rattle.commit_word.specs.inner.Steps.{IsMadeBy}
 use Rattle.commit_word.proofs.Kept.{aside_made}
 use Rattle.commit_word.proofs.Moves.{sets_aside}
 use Rattle.commit_word.proofs.owner.Owner.split_for.Goals as goal

@@ -10,12 +10,12 @@ use Rattle.gate_journal.specs.Storing.{stored, entry_bytes}
 use Rattle.gate_journal.specs.View as journal
 use Rattle.gate_journal.specs.View.{stake_of}
 use Rattle.desk_core.specs.View.{View}
-use Rattle.desk_core.specs.Answers.{HasPlace, IsDeskFault, fault_of}
+use Rattle.desk_core.specs.Answers.{CanCommit, IsDeskFault, fault_of}
 use Rattle.desk_core.specs.declared.faults.DeskFault.{DeskFault}
 use Rattle.desk_core.specs.Images.{RecoversToKnown, IsSafe}
 use Rattle.desk_core.specs.Commands.{HasCommands}
 use Rattle.desk_core.proofs.Recorded.{loaded_push}
-use Rattle.disk_api.specs.RunLaws.{started}
+use Rattle.disk_api.specs.laws.RunLaws.{started}
 use Rattle.desk_core.proofs.Committed.{desk_of, safe_of, kept_again, held_before, records_more, kept_sizes, fewer_than_bytes, has_push, kept_push, moments, stake_holds, refused_of, counts_records}
 use Rattle.desk_core.proofs.desk.Desk.commit.Goals as goal
 
@@ -98,7 +98,7 @@ returns-in-Err-clause-refused g c =
       | goal.in-Add-3 w ↦ w.self-is
     ] in
     let old = desk_of inside.number inside.config.settings records inside.journal in
-    let place : HasPlace old c.args.command c.args.signers = subst (λ (v : View _). HasPlace v c.args.command c.args.signers) (sym c.self.view_is) c.in_default.ensures.answer in
+    let place : CanCommit old c.args.command c.args.signers = subst (λ (v : View _). CanCommit v c.args.command c.args.signers) (sym c.self.view_is) c.in_default.ensures.answer in
     let sizes = kept_sizes g.D.Disk inside.number inside.config.settings inside.body.items inside.journal c.self.invariant in
     let refused = refused_of g.D.Disk c.in-Err.fault payload c.args.command c.args.signers inside.number inside.config.settings c.prepare.new.config.settings records more
     inside.journal c.prepare.new.journal c.append.new.self c.self.invariant.limit sizes c.prepare.ensures.journal c.prepare.ensures.config same_records

@@ -1,10 +1,10 @@
 use Rattle.std.proofs.Common.{◌≡◌, ◌∙◌, ℕ, Ok, sym, subst}
 use Rattle.gate_journal.specs.Format.{payloads}
-use Rattle.gate_journal.specs.Answers.{HasPlace as HasJournalPlace, IsFullAnswer as IsJournalFull, IsRefusal}
+use Rattle.gate_journal.specs.Answers.{CanAppend as HasJournalPlace, IsFullAnswer as IsJournalFull, IsRefusal}
 use Rattle.gate_journal.specs.declared.fault.AppendFault.{AppendFault}
 use Rattle.authority_book.specs.Verdict.{verdict_of}
 use Rattle.desk_core.specs.View.{View}
-use Rattle.desk_core.specs.Answers.{HasPlace, IsDeskFault}
+use Rattle.desk_core.specs.Answers.{CanCommit, IsDeskFault}
 use Rattle.desk_core.specs.declared.faults.DeskFault.{DeskFault}
 use Rattle.desk_core.specs.declared.faults.DeskFault.TheVariants.{Verdict, JournalFull}
 use Rattle.desk_core.proofs.Committed.{kept_sizes}
@@ -40,5 +40,5 @@ returns-in-Ok-verdict-clause-answer g c =
     let signers = c.args.signers in
     let sizes = kept_sizes g.D.Disk inside.number inside.config.settings inside.body.items inside.journal c.self.invariant in
     let place = subst (λ (n : ℕ). HasJournalPlace inside.journal n) c.needed.ensures c.in-None.ensures.answer in
-    subst (λ (v : View _). HasPlace v command signers) c.self.view_is
+    subst (λ (v : View _). CanCommit v command signers) c.self.view_is
     (placed g.D.Disk inside.number inside.config.settings (payloads inside.journal.sizes inside.body.items) inside.journal c.self.invariant.limit sizes command signers place (sym c.verdict-verdict.ensures.verdict ∙ c.in-Ok-verdict.is))

@@ -1,8 +1,8 @@
 use Rattle.std.proofs.Common.{subst}
 use Rattle.disk_api.specs.Runs.{LeavesOnly}
-use Rattle.gate_journal.specs.Kept.{shows}
+use Rattle.gate_journal.specs.inner.Kept.{shows}
 use Rattle.gate_journal.specs.View.{View, RecoversToInDoubt, stake_of}
-use Rattle.disk_api.specs.RunLaws.{started}
+use Rattle.disk_api.specs.laws.RunLaws.{started}
 use Rattle.gate_journal.proofs.Guarding.{stake_stands}
 use Rattle.gate_journal.proofs.Refused.{refusal_answers}
 use Rattle.gate_journal.proofs.journal.Journal.append.Goals as goal

@@ -1,7 +1,7 @@
 use Rattle.std.proofs.Common.{ℕ, ◌+◌, subst}
 use Rattle.gate_journal.specs.Answers.{IsRefusal}
 use Rattle.gate_journal.specs.View.{RecoversToInDoubt, stake_of}
-use Rattle.disk_api.specs.RunLaws.{started}
+use Rattle.disk_api.specs.laws.RunLaws.{started}
 use Rattle.gate_journal.proofs.Guarding.{stake_stands}
 use Rattle.gate_journal.proofs.Refused.{refusal_answers}
 use Rattle.gate_journal.proofs.journal.Journal.append_built.Goals as goal

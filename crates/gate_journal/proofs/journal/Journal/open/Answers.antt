@@ -1,5 +1,5 @@
 use Rattle.std.proofs.Common.{◌≡◌, None, length, refl, rules}
-use Rattle.gate_journal.specs.Kept.{IsKept, IsGuarded}
+use Rattle.gate_journal.specs.inner.Kept.{IsConsistentJournal, IsGuarded}
 use Rattle.gate_journal.proofs.Laid.{shown_sizes}
 use Rattle.gate_journal.proofs.Keeping.{kept_found}
 use Rattle.gate_journal.proofs.Guarding.{guarded_found, open_stands, shows_found, known_of_images, shown_known}
@@ -23,7 +23,7 @@ returns-in-Ok-clause-sizes g c =
     let held = c.in-Ok.found.held in
     let places = c.in-Ok.found.places.items in
     let unknown = unknown_opened (g.D.Disk.content c.args.disk) content c.in-Ok.ensures.opened in
-    let kept : IsKept content may_leave c.len.result held places None =
+    let kept : IsConsistentJournal content may_leave c.len.result held places None =
     kept_found content may_leave c.len.result held places c.in-Ok.ensures.measured all (found_laid c.args.limit (g.D.Disk.content c.args.disk) content places c.in-Ok.ensures.found unknown) c.in-Ok.ensures.durable in
     shown_sizes content may_leave c.len.result held places None kept
 

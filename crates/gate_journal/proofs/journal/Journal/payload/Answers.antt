@@ -1,7 +1,7 @@
 use Rattle.std.proofs.Common.{◌≡◌, ◌∙◌, ◌<◌, ◌+◌, ◌-◌, ℕ, Some, length, take, drop, sym, ap, subst, arith}
 use Rattle.std.specs.Prelude.{slice_get}
 use Rattle.gate_journal.specs.Format.{taken_by, payloads}
-use Rattle.gate_journal.specs.Kept.{sizes_of}
+use Rattle.gate_journal.specs.inner.Kept.{sizes_of}
 use Rattle.gate_journal.specs.View.{View}
 use Rattle.gate_journal.proofs.Placed.{below_count}
 use Rattle.gate_journal.proofs.Bodies.{in_body}

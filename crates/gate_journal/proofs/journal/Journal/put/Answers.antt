@@ -1,11 +1,11 @@
 use Rattle.std.proofs.Common.{◌≡◌, ◌∙◌, ◌<◌, ◌≤◌, ◌^◌, ◌-◌, ◌+◌, ℕ, List, [], ◌∷◌, ◌++◌, None, Some, length, set, vec_capacity, refl, sym, ap, subst, rules, arith}
 use Rattle.std.specs.Option.{option_map}
 use Rattle.disk_api.specs.Runs.{LeavesOnly}
-use Rattle.gate_journal.specs.Kept.{shows, IsKept, IsGuarded}
+use Rattle.gate_journal.specs.inner.Kept.{shows, IsConsistentJournal, IsGuarded}
 use Rattle.gate_journal.specs.Storing.{stored, entry_bytes, IsStoringKnown}
 use Rattle.gate_journal.specs.View.{View, RecoversToOrWith}
 use Rattle.gate_journal.specs.declared.place.Place.{Place}
-use Rattle.disk_api.specs.RunLaws.{weaker}
+use Rattle.disk_api.specs.laws.RunLaws.{weaker}
 use Rattle.gate_journal.proofs.Keeping.{kept_long, open_failed, open_failed_shows, open_sized, open_stored_shows}
 use Rattle.gate_journal.proofs.Guarding.{known_of_images, shown_known, open_stands, storing_stands, guarded_failed, guarded_stored}
 use Rattle.gate_journal.proofs.journal.Journal.put.Goals as goal

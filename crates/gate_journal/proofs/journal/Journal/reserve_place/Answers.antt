@@ -1,6 +1,6 @@
 use Rattle.std.proofs.Common.{◌≤◌, ◌-◌, ℕ, List, length, sym, vec_capacity, ap, subst, cond}
 use Rattle.std.specs.Prelude.{nat_lt}
-use Rattle.gate_journal.specs.Kept.{IsGuarded}
+use Rattle.gate_journal.specs.inner.Kept.{IsGuarded}
 use Rattle.gate_journal.specs.View.{View}
 use Rattle.gate_journal.proofs.Keeping.{kept_places, more_room}
 use Rattle.gate_journal.proofs.journal.Journal.reserve_place.Goals as goal

@@ -30,7 +30,7 @@ returns g c =
       | in-Ok w ↦
           subst (λ (r : Result ℕ (CommandFault D)). Leads g.D.Disk (λ b a. Commanded name command signers (outcome_of r) b a) c.args.self.now (slice_set desks place new)) (sym w.result-is)
           (leads _ (commanded g.D.Disk place command signers name (Accepted w.in-Ok.count) desks old new here
-          (λ seen all. c.in-Some.ensures.named seen (subst (λ (d : List (View D)). AreIn d seen) c.self.view_is all))
+          (λ desk_states all. c.in-Some.ensures.named desk_states (subst (λ (d : List (View D)). AreIn d desk_states) c.self.view_is all))
           (accepted_step g.D.Disk place command signers old new w.in-Ok.count (record {
             place = w.in-Ok.ensures.place;
             commands = w.in-Ok.ensures.commands;
@@ -45,6 +45,6 @@ returns g c =
           subst (λ (r : Result ℕ (CommandFault D)). Leads g.D.Disk (λ b a. Commanded name command signers (outcome_of r) b a) c.args.self.now (slice_set desks place new)) (sym w.result-is)
           (subst (λ (f : CommandFault D). Leads g.D.Disk (λ b a. Commanded name command signers (fault_outcome f) b a) c.args.self.now (slice_set desks place new)) (sym w.of_desk.ensures)
           (leads _ (commanded g.D.Disk place command signers name _ desks old new here
-          (λ seen all. c.in-Some.ensures.named seen (subst (λ (d : List (View D)). AreIn d seen) c.self.view_is all))
+          (λ desk_states all. c.in-Some.ensures.named desk_states (subst (λ (d : List (View D)). AreIn d desk_states) c.self.view_is all))
           (fault_step g.D.Disk place command signers old new w.in-Err.fault w.in-Err.ensures.later w.in-Err.ensures.refused))))
     ]

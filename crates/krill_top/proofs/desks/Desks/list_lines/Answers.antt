@@ -6,7 +6,7 @@ use Rattle.authority_book.specs.declared.rows.NameRow.{NameRow}
 use Rattle.authority_book.specs.Settings.{Settings}
 use Rattle.desk_core.specs.View.{View}
 use Rattle.json_api.specs.declared.texts.ListLine.{ListLine}
-use Rattle.krill_top.specs.Seen.{settings_at}
+use Rattle.krill_top.specs.DeskStates.{settings_at}
 use Rattle.krill_top.specs.Reads.{list_lines}
 use Rattle.krill_top.specs.Stands.{AreIn}
 use Rattle.krill_top.proofs.Standing.{At, at_place, settings_there}
@@ -14,7 +14,7 @@ use Rattle.krill_top.proofs.Reading.{list_lines_push}
 use Rattle.krill_top.proofs.desks.Desks.list_lines.Goals as goal
 
 pub loop-place-preserved : goal.loop-place-preserved
-loop-place-preserved g c seen all =
+loop-place-preserved g c desk_states all =
     let D : Type 0 = g.row.D.Denot in
     let place = c.loop-place.place in
     let rows = c.names-names.result.now in
@@ -23,20 +23,20 @@ loop-place-preserved g c seen all =
     let desk = c.index.result.now in
     let inside : place < length rows = omega (arith, c.loop-place-test.true, c.loop-place.auto.place-end) in
     let here : slice_get desks place ≡ Some desk = slice_get_read desks 64 place desk (sym c.self.invariant) (omega (arith, inside, c.names-names.ensures.limit)) c.index.ensures in
-    let at : At seen place desk = at_place desks seen place desk (subst (λ (l : List (View D)). AreIn l seen) (sym c.self.view_is) all) here in
-    let deleted : c.is_deleted-deleted.result ≡ (settings_at seen place).deleted =
-    c.is_deleted-deleted.ensures ∙ ap (λ (s : Settings). s.deleted) (c.config.ensures ∙ settings_there seen place desk at) in
+    let at : At desk_states place desk = at_place desks desk_states place desk (subst (λ (l : List (View D)). AreIn l desk_states) (sym c.self.view_is) all) here in
+    let deleted : c.is_deleted-deleted.result ≡ (settings_at desk_states place).deleted =
+    c.is_deleted-deleted.ensures ∙ ap (λ (s : Settings). s.deleted) (c.config.ensures ∙ settings_there desk_states place desk at) in
     let next : suc place ≡ place + 1 = omega arith in
     let pushed : c.push.new.self.items ≡ c.loop-place.lines.items ++ record { name = row.name; deleted = c.is_deleted-deleted.result } ∷ [] = search rules in
     pushed
-    ∙ ap (λ (l : List ListLine). l ++ record { name = row.name; deleted = c.is_deleted-deleted.result } ∷ []) (c.loop-place.invariant seen all)
-    ∙ ap (λ (b : Bool). list_lines seen 0 (take place rows) ++ record { name = row.name; deleted = b } ∷ []) deleted
-    ∙ ap (λ (r : NameRow). list_lines seen 0 (take place rows) ++ record { name = r.name; deleted = (settings_at seen place).deleted } ∷ []) c.index-names-place.is
-    ∙ sym (list_lines_push seen 0 rows place place row (omega arith) inside)
-    ∙ ap (λ (n : ℕ). list_lines seen 0 (take n rows)) next
+    ∙ ap (λ (l : List ListLine). l ++ record { name = row.name; deleted = c.is_deleted-deleted.result } ∷ []) (c.loop-place.invariant desk_states all)
+    ∙ ap (λ (b : Bool). list_lines desk_states 0 (take place rows) ++ record { name = row.name; deleted = b } ∷ []) deleted
+    ∙ ap (λ (r : NameRow). list_lines desk_states 0 (take place rows) ++ record { name = r.name; deleted = (settings_at desk_states place).deleted } ∷ []) c.index-names-place.is
+    ∙ sym (list_lines_push desk_states 0 rows place place row (omega arith) inside)
+    ∙ ap (λ (n : ℕ). list_lines desk_states 0 (take n rows)) next
 
 pub returns : goal.returns
-returns g c seen all =
+returns g c desk_states all =
     let rows = c.names-names.result.now in
-    c.loop-place.invariant seen all
-    ∙ ap (λ (l : List NameRow). list_lines seen 0 l) (take_all c.loop-place.place rows (omega (arith, c.loop-place-test.false, c.loop-place.auto.place-end)) ∙ c.names-names.ensures.names seen all)
+    c.loop-place.invariant desk_states all
+    ∙ ap (λ (l : List NameRow). list_lines desk_states 0 l) (take_all c.loop-place.place rows (omega (arith, c.loop-place-test.false, c.loop-place.auto.place-end)) ∙ c.names-names.ensures.names desk_states all)

@@ -10,7 +10,7 @@ use Rattle.krill_top.proofs.Answering.{if_ok_so}
 use Rattle.krill_top.proofs.desks.Desks.show.Goals as goal
 
 pub returns-in-Some : goal.returns-in-Some
-returns-in-Some g c = if_ok_so c.shown.result _ _ c.shown.ensures (λ text is seen all.
+returns-in-Some g c = if_ok_so c.shown.result _ _ c.shown.ensures (λ text is desk_states all.
     let D : Type 0 = g.row.D.Denot in
     let place = c.in-Some.place in
     let desks = c.self.inside.desks.items in
@@ -18,6 +18,6 @@ returns-in-Some g c = if_ok_so c.shown.result _ _ c.shown.ensures (λ text is se
     let name = c.args.name.now in
     let sheet = c.args.sheet.now in
     let here : slice_get desks place ≡ Some desk = slice_get_read desks 64 place desk (sym c.self.invariant) c.in-Some.ensures.there c.index.ensures in
-    let at : At seen place desk = at_place desks seen place desk (subst (λ (l : List (View D)). AreIn l seen) (sym c.self.view_is) all) here in
-    subst (λ (o : Option ℕ). IsShowTextAt o seen sheet name text.items) (c.in-Some.ensures.named seen all)
-    (subst (λ (s : Settings). IsShownText name s sheet place text.items) (c.config.ensures ∙ settings_there seen place desk at) is))
+    let at : At desk_states place desk = at_place desks desk_states place desk (subst (λ (l : List (View D)). AreIn l desk_states) (sym c.self.view_is) all) here in
+    subst (λ (o : Option ℕ). IsShowTextAt o desk_states sheet name text.items) (c.in-Some.ensures.named desk_states all)
+    (subst (λ (s : Settings). IsShownText name s sheet place text.items) (c.config.ensures ∙ settings_there desk_states place desk at) is))

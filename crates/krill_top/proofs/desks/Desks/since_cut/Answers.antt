@@ -1,8 +1,8 @@
 use Rattle.std.proofs.Common.{◌≡◌, ◌∙◌, ◌+◌, ◌<◌, ◌++◌, ◌∷◌, [], ℕ, List, length, take, get_or, refl, sym, ap, subst, arith, rules}
 use Rattle.std.proofs.lemmas.List.{take_all, take_more, length-take-le}
 use Rattle.desk_core.specs.View.{View}
-use Rattle.press_state.specs.declared.gathered.Gathered.{Gathered}
-use Rattle.krill_top.specs.Gathered.{IsSince, AreSince}
+use Rattle.editions.specs.declared.gathered.Gathered.{Gathered}
+use Rattle.krill_top.specs.inner.Gathered.{IsSince, AreSince}
 use Rattle.krill_top.proofs.Since.{since_more, since_long}
 use Rattle.krill_top.proofs.desks.Desks.since_cut.Goals as goal
 

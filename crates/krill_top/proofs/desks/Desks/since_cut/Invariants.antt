@@ -1,5 +1,5 @@
 use Rattle.std.proofs.Common.{take}
-use Rattle.krill_top.specs.Gathered.{AreSince}
+use Rattle.krill_top.specs.inner.Gathered.{AreSince}
 use Rattle.krill_top.proofs.desks.Desks.since_cut.Given as goal
 
 abbrev pub invariant-loop-desk : goal.invariant-loop-desk

@@ -2,7 +2,7 @@ use Rattle.std.proofs.Common.{◌∙◌, ap, [], ◌∷◌, ◌++◌, List, ℕ,
 use Rattle.std.specs.Prelude.{Ok, Err}
 use Rattle.json_api.specs.Reply.{published_spelling}
 use Rattle.json_api.specs.Refused.{refused_spelling}
-use Rattle.krill_top.specs.Handlers.{timed}
+use Rattle.krill_top.specs.inner.Handlers.{timed}
 use Rattle.krill_top.proofs.Answering.{publish_told}
 use Rattle.krill_top.proofs.handler.Handler.answer_publish.Goals as goal
 
@@ -11,7 +11,7 @@ returns-in-Ok-clause-ok g c =
     let text = published_spelling c.published_of.result in (
       text,
       c.append_published.ensures ∙ ap (λ (l : List ℕ). l ++ text ++ 10 ∷ []) c.in_ok-reserve.ensures.items,
-      publish_told g.D.Disk c.now-now.result (Ok c.in-Ok.published) text _ (timed g.C.Clock c.args.self.now) (record { office = c.publish.new.self; clock = g.C.Clock.readings c.now-now.new.self }) c.now-now.ensures
+      publish_told g.D.Disk c.now-now.result (Ok c.in-Ok.published) text _ (timed g.C.Clock c.args.self.now) (record { instance = c.publish.new.self; clock = g.C.Clock.readings c.now-now.new.self }) c.now-now.ensures
           (ap published_spelling c.published_of.ensures) refl c.in-Ok.ensures,
     )
 
@@ -20,6 +20,6 @@ returns-in-Err-clause-ok g c =
     let text = refused_spelling c.refused_of.result in (
       text,
       c.append_refused.ensures ∙ ap (λ (l : List ℕ). l ++ text ++ 10 ∷ []) c.in_ok-reserve.ensures.items,
-      publish_told g.D.Disk c.now-now.result (Err c.in-Err.fault) text _ (timed g.C.Clock c.args.self.now) (record { office = c.publish.new.self; clock = g.C.Clock.readings c.now-now.new.self }) c.now-now.ensures
+      publish_told g.D.Disk c.now-now.result (Err c.in-Err.fault) text _ (timed g.C.Clock c.args.self.now) (record { instance = c.publish.new.self; clock = g.C.Clock.readings c.now-now.new.self }) c.now-now.ensures
           (ap refused_spelling c.refused_of.ensures) refl c.in-Err.ensures,
     )

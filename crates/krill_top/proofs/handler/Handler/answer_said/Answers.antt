@@ -3,7 +3,7 @@ use Rattle.json_api.specs.declared.line.Line.TheVariants as line
 use Rattle.krill_top.specs.Reads.{list_reply, history_reply}
 use Rattle.krill_top.specs.Sheets.{IsShowText, IsRoasText}
 use Rattle.krill_top.specs.Replies.{IsTold, CommandText, PublishText, serial_text}
-use Rattle.krill_top.specs.Handlers.{timed}
+use Rattle.krill_top.specs.inner.Handlers.{timed}
 use Rattle.krill_top.proofs.Answering.{if_ok_so, read_said, kind_said, surely}
 use Rattle.krill_top.proofs.handler.Handler.answer_said.Goals as goal
 
@@ -30,9 +30,9 @@ returns-in-Serial-clause-ok g c = if_ok_so c.answer_serial.result _ _ c.answer_s
     (λ accepted t. (
       t.0,
       t.1,
-      kind_said g.D.Disk (λ vouched b text accepted a. IsTold (serial_text b.world) b text accepted a) c.args.said line.Serial _ _ t.0 accepted accepted
+      kind_said g.D.Disk (λ vouched b text accepted a. IsTold (serial_text b.state) b text accepted a) c.args.said line.Serial _ _ t.0 accepted accepted
           c.in-Serial.is refl (λ vouched before after is. is)
-          (surely g.D.Disk (λ vouched b text accepted a. IsTold (serial_text b.world) b text accepted a) _ _ t.0 accepted t.2),
+          (surely g.D.Disk (λ vouched b text accepted a. IsTold (serial_text b.state) b text accepted a) _ _ t.0 accepted t.2),
     ))
 
 pub returns-in-List-clause-ok : goal.returns-in-List-clause-ok
@@ -40,7 +40,7 @@ returns-in-List-clause-ok g c = if_ok_so c.append_told.result _ _ c.append_told.
     (λ accepted t. (
       t.1.0,
       t.1.1,
-      read_said g.D.Disk c.args.said line.List (λ vouched world text. text ≡ list_reply world.seen) (timed g.C.Clock c.args.self.now) c.list.result t.1.0 accepted
+      read_said g.D.Disk c.args.said line.List (λ vouched state text. text ≡ list_reply state.desk_states) (timed g.C.Clock c.args.self.now) c.list.result t.1.0 accepted
           c.in-List.is t.0 (λ vouched before after is. is) c.list.ensures t.1.2,
     ))
 
@@ -49,7 +49,7 @@ returns-in-Show-clause-ok g c = if_ok_so c.append_told-in-Show.result _ _ c.appe
     (λ accepted t. (
       t.1.0,
       t.1.1,
-      read_said g.D.Disk c.args.said (line.Show c.in-Show.name) (λ vouched world. IsShowText vouched world c.in-Show.name) (timed g.C.Clock c.args.self.now) c.show.result t.1.0 accepted
+      read_said g.D.Disk c.args.said (line.Show c.in-Show.name) (λ vouched state. IsShowText state c.in-Show.name) (timed g.C.Clock c.args.self.now) c.show.result t.1.0 accepted
           c.in-Show.is t.0 (λ vouched before after is. is) c.show.ensures t.1.2,
     ))
 
@@ -58,7 +58,7 @@ returns-in-Roas-clause-ok g c = if_ok_so c.append_told-in-Roas.result _ _ c.appe
     (λ accepted t. (
       t.1.0,
       t.1.1,
-      read_said g.D.Disk c.args.said (line.Roas c.in-Roas.name) (λ vouched world. IsRoasText vouched world c.in-Roas.name) (timed g.C.Clock c.args.self.now) c.roas.result t.1.0 accepted
+      read_said g.D.Disk c.args.said (line.Roas c.in-Roas.name) (λ vouched state. IsRoasText state c.in-Roas.name) (timed g.C.Clock c.args.self.now) c.roas.result t.1.0 accepted
           c.in-Roas.is t.0 (λ vouched before after is. is) c.roas.ensures t.1.2,
     ))
 
@@ -67,6 +67,6 @@ returns-in-History-clause-ok g c = if_ok_so c.append_told-in-History.result _ _ 
     (λ accepted t. (
       t.1.0,
       t.1.1,
-      read_said g.D.Disk c.args.said (line.History c.in-History.name) (λ vouched world text. text ≡ history_reply world.seen c.in-History.name) (timed g.C.Clock c.args.self.now) c.history.result t.1.0 accepted
+      read_said g.D.Disk c.args.said (line.History c.in-History.name) (λ vouched state text. text ≡ history_reply state.desk_states c.in-History.name) (timed g.C.Clock c.args.self.now) c.history.result t.1.0 accepted
           c.in-History.is t.0 (λ vouched before after is. is) c.history.ensures t.1.2,
     ))

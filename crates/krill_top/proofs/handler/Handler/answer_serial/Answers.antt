@@ -1,7 +1,7 @@
 use Rattle.std.proofs.Common.{◌∙◌, ap, false, [], ◌∷◌, ◌++◌, List, ℕ, refl}
 use Rattle.json_api.specs.Reply.{serial_spelling}
 use Rattle.krill_top.specs.Replies.{IsTold, serial_text}
-use Rattle.krill_top.specs.Handlers.{timed}
+use Rattle.krill_top.specs.inner.Handlers.{timed}
 use Rattle.krill_top.proofs.Moving.{stay_timed}
 use Rattle.krill_top.proofs.handler.Handler.answer_serial.Goals as goal
 
@@ -10,6 +10,6 @@ returns-clause-ok g c =
     let text = serial_spelling c.serial.result in (
       text,
       c.append_serial.ensures ∙ ap (λ (l : List ℕ). l ++ text ++ 10 ∷ []) c.in_ok-reserve.ensures.items,
-      stay_timed g.D.Disk (λ vouched b a. IsTold (serial_text b.world) b text false a) (timed g.C.Clock c.args.self.now)
+      stay_timed g.D.Disk (λ vouched b a. IsTold (serial_text b.state) b text false a) (timed g.C.Clock c.args.self.now)
           (λ vouched before stands. record { text_is = ap serial_spelling (c.serial.ensures vouched before stands); not_accepted = refl; same = refl }),
     )

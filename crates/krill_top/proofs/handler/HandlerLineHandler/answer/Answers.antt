@@ -1,6 +1,6 @@
 use Rattle.std.proofs.Common.{◌≡◌, [], ◌++◌, ◌∷◌, ◌∙◌, sym, subst, append_assoc, append-nil, true, false}
 use Rattle.std.specs.Prelude.{IsTrue}
-use Rattle.krill_top.specs.Handlers.{timed}
+use Rattle.krill_top.specs.inner.Handlers.{timed}
 use Rattle.krill_top.proofs.Answering.{if_ok_so, text_replies, blank_replies}
 use Rattle.krill_top.proofs.handler.HandlerLineHandler.answer.Goals as goal
 

@@ -1,4 +1,4 @@
-use Rattle.krill_top.specs.Handlers.{timed}
+use Rattle.krill_top.specs.inner.Handlers.{timed}
 use Rattle.krill_top.proofs.Sessions.{converses_over}
 use Rattle.krill_top.proofs.serving.Session.serve.Goals as goal
 

@@ -1,5 +1,5 @@
 use Rattle.std.proofs.Common.{◌≡◌, ℕ, ◌-◌, ◌≤◌, ◌++◌, List, length, take, drop, sym, ap, ◌∙◌, subst, arith}
-use Rattle.line_loop.specs.Pending.{NoFeed}
+use Rattle.line_loop.specs.inner.Pending.{NoFeed}
 use Rattle.line_loop.proofs.Parts.{same_shorter, written_back}
 use Rattle.line_loop.specs.declared.window.TheConstants.{BUFFER_LEN}
 use Rattle.line_loop.proofs.window.Window.fill.Goals as goal

@@ -1,6 +1,6 @@
 use Rattle.std.proofs.Common.{◌≡◌, ℕ, ◌-◌, List, take, drop, sym, ap, ◌∙◌, subst, arith}
 use Rattle.std.specs.Prelude.{IfSome, IfNone}
-use Rattle.line_loop.specs.Pending.{Pending, NoFeed, EndsLine}
+use Rattle.line_loop.specs.inner.Pending.{Pending, NoFeed, EndsLine}
 use Rattle.line_loop.proofs.Parts.{slice_is_part, front_up_to}
 use Rattle.line_loop.proofs.window.Window.find_line.Goals as goal
 

@@ -1,5 +1,5 @@
 use Rattle.std.proofs.Common.{◌≡◌, ℕ, ◌-◌, ◌++◌, List, length, take, drop, sym, ap, ◌∙◌, subst, arith}
-use Rattle.line_loop.specs.Pending.{NoFeed}
+use Rattle.line_loop.specs.inner.Pending.{NoFeed}
 use Rattle.line_loop.proofs.Parts.{moved_up_to, written_back}
 use Rattle.line_loop.proofs.window.Window.make_room.Goals as goal
 

@@ -2,7 +2,8 @@ use Rattle.std.proofs.Common.{arith}
 use Rattle.payloads.specs.ManifestFormats.{unordered_manifest, placed_manifest, manifest, is_rising_manifest}
 use Rattle.payloads.specs.ManifestReading.{manifest_view, manifest_value, unordered_name, manifest_read}
 use Rattle.payloads.proofs.Clauses.{found-from, only-from, order-from, fault-from}
-use Rattle.payloads.proofs.ManifestClauses.{manifest-ordering, manifest-form}
+use Rattle.payloads.proofs.ManifestClauses.{manifest-form}
+use Rattle.payloads.specs.laws.OrderingLaws.{manifest-ordering}
 use Rattle.payloads.proofs.manifest.ManifestBody.read.Goals as goal
 
 pub returns-clause-found : goal.returns-clause-found

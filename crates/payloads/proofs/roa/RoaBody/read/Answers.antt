@@ -2,7 +2,8 @@ use Rattle.std.proofs.Common.{arith}
 use Rattle.payloads.specs.RoaFormats.{unordered_roa, placed_roa, roa, is_rising}
 use Rattle.payloads.specs.RoaReading.{roa_view, roa_value, unordered_entry, roa_read}
 use Rattle.payloads.proofs.Clauses.{found-from, only-from, order-from, fault-from}
-use Rattle.payloads.proofs.RoaClauses.{roa-ordering, roa-form}
+use Rattle.payloads.proofs.RoaClauses.{roa-form}
+use Rattle.payloads.specs.laws.OrderingLaws.{roa-ordering}
 use Rattle.payloads.proofs.roa.RoaBody.read.Goals as goal
 
 pub returns-clause-found : goal.returns-clause-found

@@ -1,7 +1,7 @@
 use Rattle.std.proofs.Common.{◌≡◌, ◌++◌, ℕ, List, length, take, drop, map, sym, ap, ◌∙◌, vec_len, rules}
 use Rattle.der.specs.Tags as tag
 use Rattle.der.specs.Spelling.{spelled, unsigned_spelling}
-use Rattle.der_forms.specs.Forms.{both, only, maybe}
+use Rattle.der.specs.Forms.{both, only, maybe}
 use Rattle.payloads.specs.declared.values.RoaEntry.{RoaEntry}
 use Rattle.payloads.specs.RoaFormats.{Entry, entry_view, entry, family, families_of, leading_v4, blocks, body}
 use Rattle.payloads.proofs.Lists.{map-take, map-drop}

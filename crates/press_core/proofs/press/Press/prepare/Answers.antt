@@ -2,23 +2,20 @@ use Rattle.std.proofs.Common.{subst}
 use Rattle.std.specs.Prelude.{IfOk}
 use Rattle.std.proofs.lemmas.Result.{IfOk-weaker}
 use Rattle.press_core.specs.Press.{PressValue}
-use Rattle.press_core.specs.Start.{start_of}
+use Rattle.press_core.specs.PrepareInput.{start_of}
 use Rattle.press_core.specs.Planned.{IsPrepared}
+use Rattle.press_core.specs.Follows.{IsNextEdition}
 use Rattle.press_core.proofs.press.Press.prepare.Goals as goal
 
-pub returns-clause-edition : goal.returns-clause-edition
-returns-clause-edition g c =
+pub returns-clause-prepared : goal.returns-clause-prepared
+returns-clause-prepared g c =
     let start = start_of c.args.self.now c.args.now c.args.gathered.items in
     let ring = c.prepare_over.new.ring in
-    IfOk-weaker c.prepare_over.result (IsPrepared start ring) _ (λ prepared is footing editions behind.
-    c.prepared_editions_follow.ensures start ring prepared footing editions is behind)
-    (subst (λ (press : PressValue). IfOk c.prepare_over.result (IsPrepared (start_of press c.args.now c.args.gathered.items) ring)) c.self.view_is c.prepare_over.ensures.prepared)
-
-pub returns-clause-published : goal.returns-clause-published
-returns-clause-published g c =
-    let start = start_of c.args.self.now c.args.now c.args.gathered.items in
-    let ring = c.prepare_over.new.ring in
-    IfOk-weaker c.prepare_over.result (IsPrepared start ring) _ (λ prepared is footing editions behind.
-    c.prepared_editions_are_published.ensures start ring prepared footing editions is
-    (c.prepared_editions_follow.ensures start ring prepared footing editions is behind))
+    IfOk-weaker c.prepare_over.result (IsPrepared start ring) (IsNextEdition start ring) (λ prepared is. record {
+      is_prepared = is;
+      left = c.prepared_editions_leave.ensures start ring prepared is;
+      follows = c.prepared_editions_follow.ensures start ring prepared is;
+      published = λ premises editions behind. c.prepared_editions_are_published.ensures start ring prepared premises editions is
+          (c.prepared_editions_follow.ensures start ring prepared is premises editions behind);
+    })
     (subst (λ (press : PressValue). IfOk c.prepare_over.result (IsPrepared (start_of press c.args.now c.args.gathered.items) ring)) c.self.view_is c.prepare_over.ensures.prepared)

@@ -1,4 +1,4 @@
-use Rattle.pub_set.proofs.Lookups.{rise-nil}
+use Rattle.pub_set.specs.laws.LookupLaws.{rise-nil}
 use Rattle.pub_set.specs.Objects.{uri_at}
 use Rattle.pub_set.proofs.objects.ObjectSet.new.Goals as goal
 

@@ -1,4 +1,4 @@
-use Rattle.pub_set.proofs.Lookups.{rise-push}
+use Rattle.pub_set.specs.laws.LookupLaws.{rise-push}
 use Rattle.pub_set.specs.Objects.{uri_at}
 use Rattle.pub_set.proofs.objects.ObjectSet.push.Goals as goal
 

@@ -3,7 +3,7 @@ use Rattle.res_sets.specs.declared.numbers.Range.{Range}
 use Rattle.res_sets.specs.Numbers.{AreCanonical}
 use Rattle.res_sets.specs.Merging.{room_from}
 use Rattle.res_sets.specs.Sets.{RangeSet, GoesBehind}
-use Rattle.res_sets.specs.Laws.{canonical_with}
+use Rattle.res_sets.specs.laws.SetLaws.{canonical_with}
 use Rattle.res_sets.proofs.sets.Ranges.push.Goals as goal
 
 pub invariant_of-self-2 : goal.invariant_of-self-2

@@ -1,4 +1,4 @@
-use Rattle.signer_ring.proofs.Calls.{placed, asks_one, answers_one}
+use Rattle.signer_ring.proofs.RingCalls.{placed, asks_one, answers_one}
 use Rattle.signer_ring.proofs.ring.Ring.ask.Goals as goal
 
 pub returns-clause-answer : goal.returns-clause-answer

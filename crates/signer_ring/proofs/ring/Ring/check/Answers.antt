@@ -1,7 +1,7 @@
 use Rattle.std.proofs.Common.{◌<◌, ◌∙◌, length, arith, subst, List}
 use Rattle.signer_api.specs.State.{SignerState}
 use Rattle.signer_ring.specs.Ring.{Keeps}
-use Rattle.signer_ring.proofs.Calls.{called_keeps}
+use Rattle.signer_ring.proofs.RingCalls.{called_keeps}
 use Rattle.signer_ring.proofs.Asked.{says_yes, yes_vouched, says_no}
 use Rattle.signer_ring.proofs.ring.Ring.check.Goals as goal
 

@@ -1,5 +1,5 @@
 use Rattle.std.proofs.Common.{◌<◌, length, arith}
-use Rattle.signer_ring.proofs.Calls.{placed, placed_keeps, drop_called, drop_keeps}
+use Rattle.signer_ring.proofs.RingCalls.{placed, placed_keeps, drop_called, drop_keeps}
 use Rattle.signer_ring.proofs.ring.Ring.drop_key.Goals as goal
 
 pub returns-then-signer-len-clause-dropped : goal.returns-then-signer-len-clause-dropped

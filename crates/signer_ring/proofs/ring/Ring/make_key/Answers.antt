@@ -1,5 +1,5 @@
 use Rattle.std.proofs.Common.{◌<◌, length, arith}
-use Rattle.signer_ring.proofs.Calls.{placed, calls_one, calls_keep, key_keeps}
+use Rattle.signer_ring.proofs.RingCalls.{placed, calls_one, calls_keep, key_keeps}
 use Rattle.signer_ring.proofs.ring.Ring.make_key.Goals as goal
 
 pub returns-clause-called : goal.returns-clause-called

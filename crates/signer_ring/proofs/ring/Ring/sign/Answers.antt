@@ -1,7 +1,7 @@
 use Rattle.std.proofs.Common.{◌<◌, length, arith}
 use Rattle.signer_api.specs.State.{SignerState, Vouches}
 use Rattle.signer_api.specs.declared.values.Signature.{Signature}
-use Rattle.signer_ring.proofs.Calls.{placed, calls_one, calls_keep, signature_keeps, vouched_by_one, vouched_by_all}
+use Rattle.signer_ring.proofs.RingCalls.{placed, calls_one, calls_keep, signature_keeps, vouched_by_one, vouched_by_all}
 use Rattle.signer_ring.proofs.ring.Ring.sign.Goals as goal
 
 pub returns-clause-called : goal.returns-clause-called

@@ -1,5 +1,0 @@
-pub mod Counting
-pub mod Found
-pub mod Numbers
-pub mod Sorting
-pub mod Steps

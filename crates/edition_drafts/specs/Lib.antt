@@ -1,5 +1,0 @@
-pub mod Drafts
-pub mod Views
-pub mod Drafting
-pub mod Serials
-pub mod UriOrder

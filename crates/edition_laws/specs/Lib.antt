@@ -1,3 +1,0 @@
-pub mod ByRows
-pub mod Planned
-pub mod Vouched

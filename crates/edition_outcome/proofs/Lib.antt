@@ -1,6 +1,0 @@
-pub mod Lists
-pub mod Issuing
-pub mod Wanted
-pub mod KeyOrder
-pub mod Sums
-pub mod Stages

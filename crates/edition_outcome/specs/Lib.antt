@@ -1,3 +1,0 @@
-pub mod Outcome
-pub mod Putting
-pub mod Keys

@@ -1,7 +1,0 @@
-mod Lists
-mod Known
-mod Puts
-mod Places
-mod Counted
-mod Following
-mod Tables

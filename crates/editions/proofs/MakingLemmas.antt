@@ -1,0 +1,6 @@
+pub mod Known
+pub mod Puts
+pub mod Places
+pub mod Counted
+pub mod Following
+pub mod Tables

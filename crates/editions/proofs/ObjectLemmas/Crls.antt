@@ -1,0 +1,94 @@
+-- The CRLs of a key in its life.
+use Rattle.std.proofs.Common.{◌≡◌, ℕ, suc, zero, ◌<◌, ◌≤◌, Some, List, [], ◌∷◌, ◌++◌, take, sym, ap, subst, ◌∙◌, arith}
+use Rattle.std.specs.List.{slice_get}
+use Rattle.std.specs.Prelude.{Contains}
+use Rattle.std.proofs.lemmas.Option.{same_Some}
+use Rattle.key_roll.specs.declared.rows.KeyRow.{KeyRow}
+use Rattle.key_ids.specs.Uris.{crl_uri}
+use Rattle.crl_obj.specs.Values.{CrlValue, SignedCrl}
+use Rattle.rp_rules.specs.Objects.{crl_in}
+use Rattle.entitle.specs.Certified.{names_of}
+use Rattle.issue_drafts.specs.Certificates.{name_at}
+use Rattle.editions.specs.Objects.{Issuance}
+use Rattle.pub_set.specs.Changes.{Contents}
+use Rattle.issue_keys.specs.Keys.{id_of}
+use Rattle.editions.specs.Edition.{Edition, state_after, set_after, IsInLife}
+use Rattle.editions.specs.Superseded.{IsCrlOf}
+use Rattle.editions.specs.Step.{Premises, AreSteps}
+use Rattle.editions.proofs.ObjectLemmas.Numbers.{listing, has-listing}
+use Rattle.editions.proofs.ObjectLemmas.Views.{IsView, live-row, row-key, same-key, id-next, update-next}
+use Rattle.editions.proofs.ObjectLemmas.History.{there-is, set-before, moment-before, rises, seen}
+
+-- A CRL of the key stood before the edition at that place, and was made before that moment.
+pub record HadCrl (editions : List Edition) (id : List ℕ) (place moment : ℕ) : Type 0 where
+  pub list : SignedCrl
+  pub stood : IsCrlOf (set_after (take place editions)) id list
+  pub earlier : list.crl.this_update ≤ moment
+
+module _ (premises : Premises) (editions : List Edition) (steps : AreSteps premises editions)
+    (id : List ℕ) (from : ℕ) where
+  pub had-crl : (place : ℕ) (edition : Edition) → slice_get editions place ≡ Some edition
+      → from < place → IsInLife id editions from place → HadCrl editions id place edition.moment
+  had-crl zero edition there less life = absurd (omega (arith, less))
+  had-crl (suc at) edition there less life =
+      let within = life.within in
+      let before = there-is editions at (omega (arith, within)) in
+      let v = seen premises editions steps at before.0 before.1 in
+      let live = live-row id before.0
+      (life.unbroken at before.0 (omega (arith, less)) (omega arith) before.1) in
+      let k = row-key premises (take at editions) before.0 v.m v.view live.0 live.1 in
+      let list = has-listing v.m v.view.set k.0 k.1 in
+      let named : id_of k.0 ≡ id =
+      id-next premises (take at editions) before.0 v.m v.view k.0 live.0 k.2 ∙ live.2 in
+      let set : v.m.new ≡ set_after (take (suc at) editions) =
+      v.view.new ∙ set-before editions at before.0 before.1 in
+      let moment : list.crl.crl.this_update ≡ before.0.moment = list.moment ∙ v.view.moment in
+      let left : (state_after (take (suc at) editions)).moment ≡ before.0.moment =
+      moment-before editions at before.0 before.1 in
+      let later : (state_after (take (suc at) editions)).moment < edition.moment =
+      rises premises editions steps (suc at) edition there in
+      record {
+        list = list.crl;
+        stood = subst (λ (s : Contents). IsCrlOf s id list.crl) set
+            (subst (λ (i : List ℕ). IsCrlOf v.m.new i list.crl) named list.stands);
+        earlier = omega (arith, moment, left, later);
+      }
+
+-- ---- behind an edition
+
+module _ (premises : Premises) (before : List Edition) (edition : Edition) (m : Issuance)
+    (view : IsView premises before edition m) where
+  abbrev set : Contents
+  set = set_after (before ++ edition ∷ [])
+
+  -- The CRL of a live key, of the moment that its row has.
+  pub some-crl : (row : KeyRow) → Contains edition.rows row
+      → (crl : SignedCrl) × IsCrlOf set (id_of row) crl × (crl.crl.this_update ≡ row.this_update)
+  some-crl row c =
+      let k = row-key premises before edition m view row c in
+      let list = has-listing m view.set k.0 k.1 in
+      let named : id_of k.0 ≡ id_of row = id-next premises before edition m view k.0 row k.2 in (
+        list.crl,
+        subst (λ (s : Contents). IsCrlOf s (id_of row) list.crl) view.new
+            (subst (λ (i : List ℕ). IsCrlOf m.new i list.crl) named list.stands),
+        list.moment ∙ update-next premises before edition m view k.0 row k.2,
+      )
+
+  -- There is no other.
+  pub one-crl : (id : List ℕ) (one other : SignedCrl) → IsCrlOf set id one → IsCrlOf set id other
+      → one ≡ other
+  one-crl id one other is and =
+      let names : KeyRow → List ℕ = λ key.
+      crl_uri m.plan_input.site (name_at (names_of m.plan_input.basis.configs) key.desk) (id_of key) in
+      let a = listing m view.set is.uri is.bytes one
+      (ap (λ (s : Contents). s is.uri) view.new ∙ is.there) is.read in
+      let b = listing m view.set and.uri and.bytes other
+      (ap (λ (s : Contents). s and.uri) view.new ∙ and.there) and.read in
+      let left : id_of a.issuer ≡ id = sym (ap (λ (v : CrlValue). v.issuer) a.says) ∙ is.issuer in
+      let right : id_of b.issuer ≡ id = sym (ap (λ (v : CrlValue). v.issuer) b.says) ∙ and.issuer in
+      let same : a.issuer ≡ b.issuer = same-key premises before edition m view a.issuer b.issuer
+      a.live b.live (left ∙ sym right) in
+      let place : is.uri ≡ and.uri = a.at ∙ (ap names same ∙ sym b.at) in
+      let bytes : is.bytes ≡ and.bytes =
+      same_Some is.bytes and.bytes (sym is.there ∙ (ap set place ∙ and.there)) in
+      same_Some one other (sym is.read ∙ (ap crl_in bytes ∙ and.read))

@@ -1,0 +1,83 @@
+-- The rows of the making are those of the edition's keys, counted on.
+use Rattle.std.proofs.Common.{◌≡◌, ℕ, ◌+◌, Bool, true, false, cond, List, [], ◌∷◌, map, refl, sym, ap, ◌∙◌}
+use Rattle.std.specs.Prelude.{Contains, IsPermutation}
+use Rattle.std.specs.List.Sorted.{IsSortedBy}
+use Rattle.key_roll.specs.declared.rows.KeyRow.{KeyRow}
+use Rattle.key_roll.specs.declared.work.Work.{Work}
+use Rattle.issue_plan.specs.Wanted.{PlanInput}
+use Rattle.issue_keys.specs.Keys.{id_of}
+use Rattle.issue_drafts.specs.Finding.{all_keys}
+use Rattle.issue_drafts.specs.Certificates.{IssueInput}
+use Rattle.issue_drafts.specs.Drafts.{Draft, serial_behind}
+use Rattle.issue_drafts.specs.Revoking.{has_point}
+use Rattle.issue_make.specs.Outcome.{IssuingTrace, all_of, row_after, is_before}
+use Rattle.editions.specs.Wanted.{new_objects}
+use Rattle.editions.specs.Step.{counted}
+use Rattle.editions.specs.inner.PlanAndTable.{made_from, KeepsUri, AreOfPlan}
+use Rattle.items.specs.laws.ElementLaws.{here, there}
+use Rattle.editions.proofs.ObjectLemmas.Standing.{all-new}
+
+map-agree-in : {X Y : Type 0} (f g : X → Y) (xs : List X)
+    → ((x : X) → Contains xs x → f x ≡ g x) → map f xs ≡ map g xs
+map-agree-in f g [] same = refl
+map-agree-in {X} {Y} f g (x ∷ xs) same =
+    ap (λ (y : Y). y ∷ map f xs) (same x (here x xs))
+    ∙ ap (λ (l : List Y). g x ∷ l) (map-agree-in f g xs (λ z c. same z (there x xs z c)))
+
+module _ (plan_input : PlanInput) (work : Work) (trace : IssuingTrace)
+    (plan : AreOfPlan plan_input work trace.keys) where
+  abbrev s : IssueInput
+  s = made_from plan_input work
+
+  abbrev with_point : KeyRow → ℕ → ℕ → KeyRow
+  with_point key next moment = record key {
+    next_serial = next;
+    number = key.number + 1;
+    this_update = moment;
+    revoked = trace.entries key;
+  }
+
+  abbrev without : KeyRow → KeyRow
+  without key = record key {
+    next_serial = serial_behind (all_of s trace) key;
+    revoked = trace.entries key;
+  }
+
+  abbrev either_row : KeyRow → Bool → KeyRow
+  either_row key b =
+      cond b (with_point key (serial_behind (all_of s trace) key + 1) work.moment) (without key)
+
+  keeps : KeepsUri (row_after s trace)
+  keeps = record {
+    desk = λ key. desk-by key (has_point s trace.keys key);
+    role = λ key. role-by key (has_point s trace.keys key);
+    key = λ key. id-by key (has_point s trace.keys key);
+  }
+    where
+      desk-by : (key : KeyRow) (b : Bool) → (either_row key b).desk ≡ key.desk
+      desk-by key true = refl
+      desk-by key false = refl
+
+      role-by : (key : KeyRow) (b : Bool) → (either_row key b).role ≡ key.role
+      role-by key true = refl
+      role-by key false = refl
+
+      id-by : (key : KeyRow) (b : Bool) → id_of (either_row key b) ≡ id_of key
+      id-by key true = refl
+      id-by key false = refl
+
+  row-same : (key : KeyRow) → Contains plan.keys key
+      → row_after s trace key ≡ counted plan_input plan.keys trace.entries key
+  row-same key c =
+      ap (either_row key) (plan.pointed key c)
+      ∙ (ap (λ (l : List Draft). with_point key (serial_behind l key + 1) work.moment)
+      (plan.drafts ∙ sym (all-new plan_input plan.keys))
+      ∙ ap (with_point key (serial_behind (new_objects plan_input plan.keys) key + 1)) plan.moment)
+
+  pub rows-counted : (rows : List KeyRow)
+      → IsPermutation (map (row_after s trace) (all_keys trace.keys)) rows
+      → IsSortedBy is_before rows
+      → rows ≡ map (counted plan_input plan.keys trace.entries) plan.keys
+  rows-counted rows moved sorted =
+      plan.ordered (row_after s trace) keeps rows moved sorted
+      ∙ map-agree-in (row_after s trace) (counted plan_input plan.keys trace.entries) plan.keys row-same

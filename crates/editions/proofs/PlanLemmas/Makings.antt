@@ -1,0 +1,78 @@
+-- What the making of a work leaves that is planned over what stands.
+use Rattle.std.proofs.Common.{ℕ, ◌<◌, List, refl, sym, subst}
+use Rattle.std.specs.List.{All}
+use Rattle.key_ids.specs.Uris.{Bases}
+use Rattle.signer_api.specs.State.{SignerState}
+use Rattle.key_roll.specs.declared.rows.KeyRow.{KeyRow}
+use Rattle.key_roll.specs.declared.issued.IssuedRow.{IssuedRow}
+use Rattle.key_roll.specs.declared.work.Work.{Work}
+use Rattle.issue_values.specs.Bodies.{AreRevoked}
+use Rattle.issue_drafts.specs.Finding.{Keys}
+use Rattle.issue_drafts.specs.Certificates.{IssueInput}
+use Rattle.issue_make.specs.declared.outcome.Made.{Made}
+use Rattle.issue_make.specs.Outcome.{AreKeys, IsIssuingTrace}
+use Rattle.issue_plan.specs.Keys.{Basis}
+use Rattle.issue_plan.specs.Wanted.{PlanInput}
+use Rattle.issue_plan.specs.Work.{IsPlan}
+use Rattle.issue_make.specs.Made.{IsMade}
+use Rattle.editions.specs.Standing.{IsTableAfter}
+use Rattle.editions.specs.PublishedState.{PublishedStateValue, AreLive, IsConsistentState}
+use Rattle.editions.specs.inner.PlannedWork.{AreApart}
+use Rattle.editions.specs.Clear.{IsClear}
+use Rattle.editions.specs.inner.Following.{CanFollow, setting_over}
+use Rattle.editions.proofs.PlanLemmas.Anchor.{anchor-role}
+use Rattle.editions.proofs.PlanLemmas.Desks.{are-of-desks}
+use Rattle.editions.proofs.PlanLemmas.Planning.{ArePlanned, AreLaws, of-plan, known, rows-apart, tree-named, begun, clear-rows, its, its-known, its-puts, puts-apart, all-touched}
+use Rattle.editions.proofs.PlanLemmas.After.{have-signers, are-live, is-clear}
+
+-- Each key is of a signer that is there.
+pub keys-signers : (at : PublishedStateValue) (site : Bases) (signers : ℕ) (basis : Basis) (work : Work) (old new : List SignerState)
+    (made : Made) → IsConsistentState at → CanFollow at site signers basis → IsPlan basis at.issued site work
+    → IsMade (setting_over basis at.issued site work) at.rows old new made → All (λ row. row.signer < signers) made.rows
+keys-signers at site signers basis work old new made published_state follow is_plan making =
+    let s : IssueInput = setting_over basis at.issued site work in
+    let of = are-of-desks (record { basis = basis; owed = is_plan.0; issued = at.issued; site = site }) s signers is_plan.2
+    (subst AreApart (sym follow.rows) published_state.live.apart) (record { same = refl; there = follow.name_signers }) in
+    have-signers s making.trace at.rows made.rows signers making.is_course.keys follow.live_signers of.new_signers making.rows
+
+module _ (planned : ArePlanned) (at : PublishedStateValue) (site : Bases) (signers : ℕ) (basis : Basis) (work : Work)
+    (old new : List SignerState) (made : Made) (published_state : IsConsistentState at) (follow : CanFollow at site signers basis)
+    (is_plan : IsPlan basis at.issued site work) (making : IsMade (setting_over basis at.issued site work) at.rows old new made) where
+  abbrev plan_input : PlanInput
+  plan_input = record { basis = basis; owed = is_plan.0; issued = at.issued; site = site }
+
+  abbrev s : IssueInput
+  s = setting_over basis at.issued site work
+
+  pub are : AreKeys s basis.rows making.trace.keys
+  are = subst (λ (rows : List KeyRow). AreKeys s rows making.trace.keys) (sym follow.rows) making.is_course.keys
+
+  pub is-trace : IsIssuingTrace s basis.rows making.trace
+  is-trace = subst (λ (rows : List KeyRow). IsIssuingTrace s rows making.trace) (sym follow.rows) making.is_course
+
+  pub keys-live : AreLive basis.moment made.rows
+  keys-live =
+      let apart = rows-apart at site signers basis work published_state follow is_plan in
+      let named = tree-named at site signers basis work published_state follow is_plan in
+      are-live plan_input work making.trace (of-plan planned plan_input work making.trace.keys is_plan.2 named is_plan.1 apart are)
+      (known planned plan_input work making.trace.keys is_plan.2 named is_plan.1 apart are) is-trace at.moment follow.later
+      follow.moment (subst (λ (rows : List KeyRow). All (λ row. AreRevoked at.moment row.revoked) rows) (sym follow.rows)
+      published_state.live.revoked) made.rows making.rows making.sorted
+
+-- Nothing stands at the places of keys that aren't live.
+pub places-clear : AreLaws → (at : PublishedStateValue) (site : Bases) (signers : ℕ) (basis : Basis) (work : Work)
+    (old new : List SignerState) (made : Made) (published_state : IsConsistentState at) (follow : CanFollow at site signers basis)
+    (is_plan : IsPlan basis at.issued site work) (making : IsMade (setting_over basis at.issued site work) at.rows old new made)
+    (table : List IssuedRow) → IsTableAfter at.issued made.changes made.issued table → IsClear site made.rows table
+places-clear laws at site signers basis work old new made published_state follow is_plan making table is_table =
+    let plan_input : PlanInput = record { basis = basis; owed = is_plan.0; issued = at.issued; site = site } in
+    let found : Keys = making.trace.keys in
+    let there = are laws.planned at site signers basis work old new made published_state follow is_plan making in
+    is-clear plan_input work making.trace (its laws at site signers basis work published_state follow is_plan found there)
+    (its-known laws at site signers basis work published_state follow is_plan found there)
+    (is-trace laws.planned at site signers basis work old new made published_state follow is_plan making)
+    (puts-apart laws at site signers basis work published_state follow is_plan found there) made.issued making.count making.issued published_state.rising
+    (all-touched laws at site signers basis work published_state follow is_plan found there) made.changes making.changes table is_table
+    follow.typed.names laws.told laws.ends (its-puts laws at site signers basis work published_state follow is_plan found there)
+    (anchor-role basis (begun at site signers basis work published_state follow is_plan)
+    (clear-rows at site signers basis work published_state follow is_plan).anchor) made.rows making.rows making.sorted

@@ -1,0 +1,10 @@
+pub mod Lookups
+pub mod Reaching
+pub mod Ends
+pub mod Folds
+pub mod Carried
+pub mod Growing
+pub mod Dues
+pub mod Shown
+pub mod Going
+pub mod Called

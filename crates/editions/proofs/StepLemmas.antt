@@ -1,0 +1,4 @@
+pub mod Following
+pub mod More
+pub mod Until
+pub mod Sets

@@ -1,0 +1,204 @@
+-- The set of an edition is published.
+use Rattle.std.proofs.Common.{◌≡◌, ◌≢◌, ℕ, ◌+◌, ◌-◌, ◌&&◌, Bool, true, false, cond, Option, Some, List, [], ◌∷◌, ◌++◌, length, map, take, drop, option_map, All, AllPairs, IsSome, codes, nat_eq, refl, sym, ap, subst, ◌∙◌, arith, append_assoc, inl, inr}
+use Rattle.std.specs.Prelude.{nat_lt, nat_le}
+use Rattle.std.specs.List.{list_all, starts_with, ends_with}
+use Rattle.std.specs.Option.{option_map_or}
+use Rattle.std.specs.Ordering.{is_eq}
+use Rattle.std.specs.Cmp.Lexicographic.{pointwise}
+use Rattle.std.proofs.lemmas.Bool.{and_from, le-leb, lt-ltb}
+use Rattle.std.proofs.lemmas.Cmp.{nat_list_cmp_total, tied_itself}
+use Rattle.std.proofs.lemmas.List.{length-append}
+use Rattle.std.proofs.lemmas.List.Sums.{list_all-from_AllPass}
+use Rattle.std.proofs.lemmas.Slice.Eq.{bytes_eq-Decides}
+use Rattle.std.proofs.lemmas.Option.{slice_get_within, get_or_from_slice_get}
+use Rattle.std.proofs.Math.Seq.{drop-append_seam, take-append_seam}
+use Rattle.names.specs.Name.{IsName, is_name_byte}
+use Rattle.key_ids.specs.Uris.{Bases, anchor_uri, folder_of, file_uri}
+use Rattle.authority_book.specs.declared.rows.NameRow.{NameRow}
+use Rattle.entitle.specs.Certified.{names_of}
+use Rattle.key_roll.specs.declared.rows.KeyRow.{KeyRow}
+use Rattle.key_roll.specs.declared.rows.Role.TheVariants.{Current}
+use Rattle.cert_obj.specs.Values.{SignedCert}
+use Rattle.pub_set.specs.declared.objects.Object.{Object}
+use Rattle.pub_set.specs.Objects.{content_at, is_same, IsAscending}
+use Rattle.rp_rules.specs.Authorities.{is_folder, is_authority_name, between}
+use Rattle.rp_rules.specs.Certificates.{is_revoked}
+use Rattle.rp_rules.specs.Walk.{walk}
+use Rattle.rp_rules.specs.Sound.{is_visited}
+use Rattle.issue_values.specs.Bodies.{crl_entry}
+use Rattle.issue_plan.specs.Keys.{row_of}
+use Rattle.issue_keys.specs.Keys.{id_of}
+use Rattle.issue_drafts.specs.Certificates.{name_at}
+use Rattle.editions.specs.Edition.{Edition, state_after, set_after}
+use Rattle.editions.specs.Held.{IsHeld, HaveOwnSerials}
+use Rattle.editions.specs.Superseded.{AreSuperseded}
+use Rattle.editions.specs.Objects.{Issuance}
+use Rattle.editions.specs.Wanted.{keeps_point}
+use Rattle.editions.specs.Step.{Premises, IsStep, AreSteps, plan_input_at, counted, configs_at}
+use Rattle.editions.specs.Published.{looking, yielded_for, IsPublished}
+use Rattle.editions.specs.Names.{AreTree}
+use Rattle.items.specs.laws.AmongLaws.{In, in-all, all-in}
+use Rattle.editions.proofs.WalkLemmas.Rows.{rows-apart, last-step, current-kept}
+use Rattle.editions.proofs.WalkLemmas.KeyTree.{in-tree}
+use Rattle.editions.proofs.WalkLemmas.Serials.{unrevoked}
+use Rattle.editions.proofs.WalkLemmas.Endings.{ending}
+use Rattle.editions.proofs.WalkLemmas.Inside.{HaveSpans, AreInsides}
+use Rattle.editions.proofs.WalkLemmas.Build.{AreKinds}
+use Rattle.editions.proofs.WalkLemmas.Apart.{AreTold}
+use Rattle.editions.proofs.WalkLemmas.Whole.{IsWalked}
+use Rattle.editions.proofs.WalkLemmas.Levelled as levelled
+use Rattle.editions.proofs.WalkLemmas.Trees as trees
+
+-- ---- folders
+
+starts : (xs ys : List ℕ) → starts_with nat_eq (xs ++ ys) xs ≡ true
+starts xs ys =
+    ap (pointwise nat_eq xs) (take-append_seam xs ys) ∙ (bytes_eq-Decides xs xs).1 refl
+
+plain-folder : (site : Bases) (name : List ℕ) → IsName name → is_folder site (folder_of site name) ≡ true
+plain-folder site name is =
+    let end : List ℕ = codes "/0/" in
+    let uri : List ℕ = folder_of site name in
+    let regrouped : uri ≡ site.rsync ++ (name ++ end) = append_assoc site.rsync name end in
+    let front : starts_with nat_eq uri site.rsync ≡ true =
+    ap (λ (u : List ℕ). starts_with nat_eq u site.rsync) regrouped ∙ starts site.rsync (name ++ end) in
+    let back : ends_with nat_eq uri end ≡ true = ending (site.rsync ++ name) end end refl in
+    let long = length-append (site.rsync ++ name) end in
+    let shorter = length-append site.rsync name in
+    let count : length uri - (length site.rsync + 3) ≡ length name = omega (arith, long, shorter) in
+    let middle : between (length site.rsync) 3 uri ≡ name =
+    ap (λ (n : ℕ). take n (drop (length site.rsync) uri)) count
+    ∙ (ap (take (length name)) (ap (drop (length site.rsync)) regrouped
+    ∙ drop-append_seam site.rsync (name ++ end))
+    ∙ take-append_seam name end) in
+    let named : is_authority_name name ≡ true =
+    and_from (nat_lt 0 (length name) && nat_le (length name) 64) (list_all is_name_byte name)
+    (and_from (nat_lt 0 (length name)) (nat_le (length name) 64) (lt-ltb 0 (length name) is.not_empty)
+    (le-leb (length name) 64 is.short)) (list_all-from_AllPass is_name_byte name is.plain) in
+    and_from (starts_with nat_eq uri site.rsync && ends_with nat_eq uri end)
+    (is_authority_name (between (length site.rsync) 3 uri))
+    (and_from (starts_with nat_eq uri site.rsync) (ends_with nat_eq uri end) front back)
+    (ap is_authority_name middle ∙ named)
+
+-- ---- each object of a set
+
+some-first : (b : Bool) (bytes : List ℕ) (rest : Option (List ℕ)) → b ≡ true
+    → IsSome (cond b (Some bytes) rest)
+some-first true bytes rest e = refl
+some-first false bytes rest e = absurd cc
+
+some-later : (b : Bool) (bytes : List ℕ) (rest : Option (List ℕ)) → IsSome rest
+    → IsSome (cond b (Some bytes) rest)
+some-later true bytes rest some = refl
+some-later false bytes rest some = some
+
+-- At the URI of an object something stands.
+stands : (objects : List Object) (o : Object) → In o objects → IsSome (content_at objects o.uri)
+stands [] o at = absurd at
+stands (first ∷ objects) o (inl same) =
+    some-first (is_same first.uri o.uri) first.bytes (content_at objects o.uri)
+    (ap (λ (x : Object). is_same first.uri x.uri) (sym same)
+    ∙ ap is_eq (tied_itself nat_list_cmp_total first.uri))
+stands (first ∷ objects) o (inr later) =
+    some-later (is_same first.uri o.uri) first.bytes (content_at objects o.uri)
+    (stands objects o later)
+
+-- ---- the edition
+
+module _ (own : (premises : Premises) (editions : List Edition) (id : List ℕ) → AreSteps premises editions
+    → HaveOwnSerials editions id)
+    (apart : (site : Bases) (a f : List ℕ) → anchor_uri site ≢ file_uri site a f)
+    (kinds : AreKinds) (told : AreTold) (spans : HaveSpans) (insides : AreInsides)
+    (premises : Premises) (editions : List Edition) (edition : Edition)
+    (steps : AreSteps premises (editions ++ edition ∷ []))
+    (tree : AreTree (names_of (configs_at premises.lists edition.cut)))
+    (plain : All (λ row. IsName row.name) (names_of (configs_at premises.lists edition.cut))) where
+  last : (clock : ℕ) × IsStep premises clock editions edition
+  last = last-step premises editions edition steps
+
+  abbrev step : IsStep premises last.0 editions edition
+  step = last.1
+
+  -- What the edition is made of.
+  abbrev m : Issuance
+  m = record {
+    vouched = premises.vouched;
+    plan_input = plan_input_at premises (state_after editions) edition step.sets step.owed step.issued;
+    keys = step.made.keys;
+    entries = step.made.entries;
+    old = set_after editions;
+    new = set_after (editions ++ edition ∷ []);
+  }
+
+  before : AllPairs (λ a b. id_of a ≢ id_of b) m.plan_input.basis.rows
+  before = rows-apart premises editions edition steps
+
+  abbrev names : List NameRow
+  names = names_of m.plan_input.basis.configs
+
+  plain-at : (k : KeyRow) → In k m.keys → IsName (name_at names k.desk)
+  plain-at k at =
+      let is = (in-tree m.plan_input.basis m.keys tree step.made.certified before step.made.next k at).is in
+      let row : NameRow =
+      (in-tree m.plan_input.basis m.keys tree step.made.certified before step.made.next k at).name in
+      subst IsName
+      (ap (λ (r : NameRow). r.name) (get_or_from_slice_get names k.desk row row is.named)
+      ∙ sym (ap (λ (o : Option NameRow). option_map_or (λ (n : NameRow). n.name) o []) is.named))
+      (plain k.desk row (slice_get_within names k.desk row is.named))
+
+  folders : (k : KeyRow) → In k m.keys
+      → is_folder m.plan_input.site (folder_of m.plan_input.site (name_at names k.desk)) ≡ true
+  folders k at = plain-folder m.plan_input.site (name_at names k.desk) (plain-at k at)
+
+  not-revoked : (k : KeyRow) → In k m.keys → (c : SignedCert) → IsHeld m.new (id_of k) c
+      → is_revoked (map crl_entry (m.entries k)) c.cert.serial ≡ false
+  not-revoked k at =
+      unrevoked editions edition (id_of k) (m.entries k)
+      (own premises (editions ++ edition ∷ []) (id_of k) steps)
+      (in-all (λ (key : KeyRow). keeps_point m.plan_input m.keys key ≡ false
+      → AreSuperseded (editions ++ edition ∷ []) (length editions) (id_of key) (m.entries key))
+      k m.keys step.made.listed at refl)
+
+  walked : IsWalked (trees.s m tree step.made.certified before step.made.next step.made.set step.made.owes
+      apart kinds spans insides folders not-revoked told plain-at) m.new
+      (map (yielded_for m.plan_input.site names) m.plan_input.owed)
+  walked = trees.walked m tree step.made.certified before step.made.next step.made.set step.made.owes
+      apart kinds spans insides folders not-revoked told plain-at
+
+  abbrev top : KeyRow
+  top = (levelled.top m tree step.made.certified before step.made.next step.made.set).0
+
+  abbrev anchor : KeyRow
+  anchor = counted m.plan_input m.keys m.entries top
+
+  current : row_of edition.rows 0 Current ≡ Some anchor
+  current =
+      ap (λ (rows : List KeyRow). row_of rows 0 Current) step.made.rows
+      ∙ (current-kept m.plan_input m.keys m.entries m.keys 0
+      ∙ ap (option_map (counted m.plan_input m.keys m.entries))
+      (levelled.top-current m tree step.made.certified before step.made.next step.made.set))
+
+  pub published : (objects : List Object) → IsAscending objects
+      → ((uri : List ℕ) → content_at objects uri ≡ set_after (editions ++ edition ∷ []) uri)
+      → IsPublished premises edition (set_after (editions ++ edition ∷ []))
+  published objects ascending match_ =
+      let same : m.new ≡ content_at objects = λ i uri. sym (match_ uri) i in
+      record {
+        anchor = anchor;
+        current = current;
+        objects = objects;
+        ascending = ascending;
+        are = match_;
+        visits = walked.visits;
+        sound = record {
+          walk = ap (walk (looking premises edition anchor)) (sym same) ∙ walked.walked;
+          all = list_all-from_AllPass (is_visited walked.visits) objects (all-in (λ (o : Object).
+              is_visited walked.visits o ≡ true) objects (λ o at.
+              walked.all o.uri (subst (λ (bs : Option (List ℕ)). IsSome bs) (match_ o.uri)
+              (stands objects o at))));
+        };
+        owed = step.owed;
+        owes = step.made.owes;
+        yields = walked.yields;
+        once = walked.once;
+      }

@@ -1,5 +1,0 @@
-use Rattle.editions.proofs.Carried.{carried_out}
-use Rattle.editions.proofs.laws.changes_make_what_stands.Goals as goal
-
-pub returns : goal.returns
-returns c = λ old new changes is uri. carried_out changes old new is.ascending is.each uri

@@ -1,0 +1,7 @@
+-- Scaffolding: words that only private contracts, invariants and proofs need.
+pub mod ByRows
+pub mod Following
+pub mod KeyTree
+pub mod PlanAndTable
+pub mod PlannedWork
+pub mod Vouched

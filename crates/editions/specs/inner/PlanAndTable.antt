@@ -1,0 +1,52 @@
+-- The keys and the objects of an edition, by the plan of its work.
+use Rattle.std.specs.Prelude.{◌≡◌, ◌↔◌, true, List, map, Contains, IsPermutation}
+use Rattle.std.specs.List.Sorted.{IsSortedBy}
+use Rattle.key_roll.specs.declared.rows.KeyRow.{KeyRow}
+use Rattle.key_roll.specs.declared.work.Work.{Work}
+use Rattle.entitle.specs.Certified.{names_of}
+use Rattle.issue_plan.specs.Keys.{next_keys}
+use Rattle.issue_plan.specs.Wanted.{PlanInput}
+use Rattle.issue_keys.specs.Keys.{id_of}
+use Rattle.issue_make.specs.Outcome.{is_before}
+use Rattle.issue_drafts.specs.Finding.{Keys, all_keys}
+use Rattle.issue_drafts.specs.Certificates.{IssueInput, made_for}
+use Rattle.issue_drafts.specs.Drafts.{drafts, manifests}
+use Rattle.issue_drafts.specs.Revoking.{has_point}
+use Rattle.editions.specs.Keys.{AreNext}
+use Rattle.editions.specs.Wanted.{there, whole}
+
+-- The work, made over what stands.
+abbrev pub made_from : PlanInput → Work → IssueInput
+made_from plan_input work = record {
+  work = work;
+  names = names_of plan_input.basis.configs;
+  issued = plan_input.issued;
+  site = plan_input.site;
+}
+
+-- What is made of a row keeps its desk, its role and its key.
+pub record KeepsUri (after : KeyRow → KeyRow) : Type 0 where
+  pub desk : (key : KeyRow) → (after key).desk ≡ key.desk
+  pub role : (key : KeyRow) → (after key).role ≡ key.role
+  pub key : (key : KeyRow) → id_of (after key) ≡ id_of key
+
+-- The keys that stayed and were made are the next ones, and what is drafted of the work is all
+-- that is wanted for them. Each gets a CRL and a manifest, and has its certificate where it is
+-- wanted. What is made of their rows stands in
+-- their order, once it stands by desk and role.
+pub record AreOfPlan (plan_input : PlanInput) (work : Work) (found : Keys) : Type 0 where
+  pub keys : List KeyRow
+  pub next : AreNext plan_input.basis.rows (next_keys plan_input.basis) keys
+  pub same : (key : KeyRow) → Contains keys key ↔ Contains (all_keys found) key
+  pub moment : work.moment ≡ plan_input.basis.moment
+  pub pointed : (key : KeyRow) → Contains keys key
+      → has_point (made_from plan_input work) found key ≡ true
+  pub ordered : (after : KeyRow → KeyRow) → KeepsUri after → (rows : List KeyRow)
+      → IsPermutation (map after (all_keys found)) rows → IsSortedBy is_before rows
+      → rows ≡ map after keys
+  pub published : (row : KeyRow) → made_for (made_from plan_input work) found row
+      ≡ made_for (whole plan_input keys) (there keys) row
+  pub drafts : drafts (made_from plan_input work) found ≡ drafts (whole plan_input keys)
+      (there keys)
+  pub manifests :
+      manifests (made_from plan_input work) found ≡ manifests (whole plan_input keys) (there keys)

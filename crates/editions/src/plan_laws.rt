@@ -1,0 +1,95 @@
+//! Works that are planned over what stands, and what stands after they are made.
+
+ghost use Rattle.std.specs.Prelude.{◌≡◌, ◌<◌, ℕ, List, All, Any};
+ghost use Rattle.key_ids.specs.Uris.{Bases};
+ghost use Rattle.key_roll.specs.declared.issued.IssuedRow.{IssuedRow};
+ghost use Rattle.key_roll.specs.declared.work.Work.{Work};
+ghost use Rattle.signer_api.specs.State.{SignerState};
+ghost use Rattle.entitle.specs.Owed.{AreOwed};
+ghost use Rattle.issue_drafts.specs.Finding.{Keys};
+ghost use Rattle.issue_make.specs.declared.outcome.Made.{Made};
+ghost use Rattle.issue_make.specs.Outcome.{AreKeys};
+ghost use Rattle.editions.specs.inner.PlanAndTable.{made_from};
+ghost use Rattle.issue_plan.specs.Keys.{Basis, next_keys};
+ghost use Rattle.issue_plan.specs.Wanted.{PlanInput};
+ghost use Rattle.issue_plan.specs.Uris.{wanted_uris};
+ghost use Rattle.issue_plan.specs.Work.{IsPlan};
+ghost use Rattle.issue_plan.specs.Work as plan;
+ghost use Rattle.issue_make.specs.Plans.{puts};
+ghost use Rattle.issue_make.specs.Work.{CanMake};
+ghost use Rattle.issue_make.specs.Made.{IsMade};
+ghost use Rattle.editions.specs.PublishedState.{PublishedStateValue, IsConsistentState, AreLive};
+ghost use Rattle.editions.specs.Standing.{IsTableAfter};
+ghost use Rattle.editions.specs.inner.PlannedWork.{AreApart, AreNamed};
+ghost use Rattle.editions.specs.Clear.{IsClear};
+ghost use Rattle.editions.specs.inner.Following.{CanFollow, setting_over};
+
+use crate::object_laws::the_plans_keys_are_next;
+use authority_book::membership_is_by_equality;
+use issue_values::{
+    files_are_told_apart, keys_are_told_apart, kinds_are_told_apart, origins_are_told_apart,
+};
+
+/// At each place that is wanted and known the making of a planned work puts something.
+pub fn wanted_uris_are_put()
+    ensures { (plan_input : PlanInput) (work : Work) (keys : Keys)
+        → plan.IsWork plan_input (next_keys plan_input.basis) work
+        → AreNamed plan_input.basis → AreOwed plan_input.basis.configs plan_input.owed → AreApart plan_input.basis.rows
+        → AreKeys (made_from plan_input work) plan_input.basis.rows keys
+        → All (λ uri. Any (λ d. d.uri ≡ uri) (puts (made_from plan_input work) keys))
+        (wanted_uris plan_input.site plan_input.basis.configs (next_keys plan_input.basis) plan_input.owed) }
+{
+    the_plans_keys_are_next();
+}
+
+/// The work that is planned over what stands can be made.
+pub fn planned_work_can_be_made()
+    ensures { (at : PublishedStateValue) (site : Bases) (signers : ℕ) (basis : Basis) (work : Work)
+        → IsConsistentState at → CanFollow at site signers basis → IsPlan basis at.issued site work
+        → CanMake (setting_over basis at.issued site work) at.rows signers }
+{
+    the_plans_keys_are_next();
+    files_are_told_apart();
+    keys_are_told_apart();
+    kinds_are_told_apart();
+    origins_are_told_apart();
+    membership_is_by_equality();
+}
+
+/// The keys that the making of a planned work leaves are live at its moment: no two have one identifier, and none has a
+/// CRL or an entry that is later.
+pub fn made_keys_are_live()
+    ensures { (at : PublishedStateValue) (site : Bases) (signers : ℕ) (basis : Basis) (work : Work)
+        (old new : List SignerState) (made : Made)
+        → IsConsistentState at → CanFollow at site signers basis → IsPlan basis at.issued site work
+        → IsMade (setting_over basis at.issued site work) at.rows old new made
+        → AreLive basis.moment made.rows }
+{
+    the_plans_keys_are_next();
+}
+
+/// The keys that the making of a planned work leaves are of signers that are there.
+pub fn made_keys_have_signers()
+    ensures { (at : PublishedStateValue) (site : Bases) (signers : ℕ) (basis : Basis) (work : Work)
+        (old new : List SignerState) (made : Made)
+        → IsConsistentState at → CanFollow at site signers basis → IsPlan basis at.issued site work
+        → IsMade (setting_over basis at.issued site work) at.rows old new made
+        → All (λ row. row.signer < signers) made.rows }
+{}
+
+/// After the making of a planned work nothing stands at the places of keys that aren't live.
+pub fn other_uris_are_clear()
+    ensures { (at : PublishedStateValue) (site : Bases) (signers : ℕ) (basis : Basis) (work : Work)
+        (old new : List SignerState) (made : Made) (table : List IssuedRow)
+        → IsConsistentState at → CanFollow at site signers basis → IsPlan basis at.issued site work
+        → IsMade (setting_over basis at.issued site work) at.rows old new made
+        → IsTableAfter at.issued made.changes made.issued table
+        → IsClear site made.rows table }
+{
+    the_plans_keys_are_next();
+    files_are_told_apart();
+    keys_are_told_apart();
+    kinds_are_told_apart();
+    origins_are_told_apart();
+    membership_is_by_equality();
+}

@@ -1,0 +1,168 @@
+//! What stands after an edition: the set of its objects, and the table of what they say.
+
+ghost use Rattle.std.specs.Prelude.{◌≡◌, refl, IfOk};
+ghost use Rattle.pub_set.specs.Objects.{Rise, IsAscending};
+ghost use Rattle.pub_set.specs.Changes.{uri_of, IsApplied};
+ghost use Rattle.editions.specs.Standing.{object_after, kept_row, issued_row, IsTableAfter};
+ghost use Rattle.editions.specs.laws.StandingLaws as laws;
+
+use crate::joining::{AtUri, Joins, join_all};
+use key_roll::{IssuedRow, What};
+use pub_set::{Change, Object, ObjectSet, Uri};
+use std::alloc::{AllocError, Global};
+
+impl AtUri for Object {
+    ghost place = { λ object. object.uri };
+
+    fn uri(&self) -> &Uri {
+        &self.uri
+    }
+}
+
+impl AtUri for Change {
+    ghost place = { uri_of };
+
+    fn uri(&self) -> &Uri {
+        Change::uri(self)
+    }
+}
+
+impl AtUri for IssuedRow {
+    ghost place = { λ row. row.uri };
+
+    fn uri(&self) -> &Uri {
+        &self.uri
+    }
+}
+
+// An object stays, is put, or is withdrawn.
+impl Joins<Object, Change> for Object {
+    ghost joined = { object_after };
+
+    fn join(
+        alloc: Global,
+        stands: Option<&Object>,
+        comes: Option<&Change>,
+    ) -> Result<Option<Object>, AllocError> {
+        match (stands, comes) {
+            (_, Some(Change::Put { uri, bytes, .. })) => Ok(Some(Object {
+                uri: uri.copy(alloc)?,
+                bytes: bytes.copy(alloc)?,
+            })),
+            (_, Some(Change::Withdraw { .. })) => Ok(None),
+            (Some(object), None) => Ok(Some(object.copy(alloc)?)),
+            (None, None) => Ok(None),
+        }
+    }
+
+    ghost nothing = { refl };
+
+    ghost stays = { laws.object_stays };
+}
+
+// A row goes on where nothing changes.
+impl Joins<IssuedRow, Change> for IssuedRow {
+    ghost joined = { kept_row };
+
+    fn join(
+        alloc: Global,
+        stands: Option<&IssuedRow>,
+        comes: Option<&Change>,
+    ) -> Result<Option<IssuedRow>, AllocError> {
+        match (stands, comes) {
+            (Some(row), None) => Ok(Some(copy_row(alloc, row)?)),
+            _ => Ok(None),
+        }
+    }
+
+    ghost nothing = { refl };
+
+    ghost stays = { laws.kept_stays };
+}
+
+// The row of what was issued goes before one that stands.
+impl Joins<IssuedRow, IssuedRow> for IssuedRow {
+    ghost joined = { issued_row };
+
+    fn join(
+        alloc: Global,
+        stands: Option<&IssuedRow>,
+        comes: Option<&IssuedRow>,
+    ) -> Result<Option<IssuedRow>, AllocError> {
+        match (stands, comes) {
+            (_, Some(row)) | (Some(row), None) => Ok(Some(copy_row(alloc, row)?)),
+            (None, None) => Ok(None),
+        }
+    }
+
+    ghost nothing = { refl };
+
+    ghost stays = { laws.issued_stays };
+}
+
+// What the object says, once more.
+fn copy_what(alloc: Global, what: &What) -> Result<What, AllocError>
+    ensures { IfOk result (λ copy. copy ≡ what.now) }
+{
+    match what {
+        What::Authority { key, held } => Ok(What::Authority {
+            key: *key,
+            held: held.copy(alloc)?,
+        }),
+        What::Route { origin } => Ok(What::Route { origin: *origin }),
+        What::Point => Ok(What::Point),
+    }
+}
+
+// The same row in memory of its own.
+fn copy_row(alloc: Global, row: &IssuedRow) -> Result<IssuedRow, AllocError>
+    ensures { IfOk result (λ copy. copy ≡ row.now) }
+{
+    Ok(IssuedRow {
+        uri: row.uri.copy(alloc)?,
+        issuer: row.issuer,
+        serial: row.serial,
+        not_after: row.not_after,
+        hash: row.hash,
+        what: copy_what(alloc, &row.what)?,
+    })
+}
+
+// The set of these objects. They are moved.
+fn set_of(alloc: Global, objects: Vec<Object>) -> Result<ObjectSet, AllocError>
+    requires { IsAscending objects.items }
+    ensures { IfOk result (λ set. set ≡ objects.items) }
+{
+    let mut set = ObjectSet::new(alloc);
+    for object in objects {
+        set.push(object)?;
+    }
+    Ok(set)
+}
+
+/// What the changes make of the set. Linear in what stands and what changes; what stays is copied.
+pub fn next_set(alloc: Global, old: &ObjectSet, changes: &[Change]) -> Result<ObjectSet, AllocError>
+    requires { Rise uri_of changes.now }
+    ensures { IfOk result (λ set. IsApplied old.now changes.now set) }
+{
+    let objects = join_all::<Object, Change, Object>(alloc, old.as_slice(), changes)?;
+    let set = set_of(alloc, objects)?;
+    Ok(set)
+}
+
+/// The table of what stands after the changes, of which these rows tell what was issued. Linear in all three.
+pub fn next_table(
+    alloc: Global,
+    old: &[IssuedRow],
+    changes: &[Change],
+    issued: &[IssuedRow],
+) -> Result<Vec<IssuedRow>, AllocError>
+    requires old { Rise (λ row. row.uri) old.now }
+    requires changes { Rise uri_of changes.now }
+    requires issued { Rise (λ row. row.uri) issued.now }
+    ensures { IfOk result (λ rows. IsTableAfter old.now changes.now issued.now rows.items) }
+{
+    let kept = join_all::<IssuedRow, Change, IssuedRow>(alloc, old, changes)?;
+    let rows = join_all::<IssuedRow, IssuedRow, IssuedRow>(alloc, &kept, issued)?;
+    Ok(rows)
+}

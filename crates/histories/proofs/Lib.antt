@@ -1,0 +1,14 @@
+mod Lists
+mod Growing
+mod Kept
+mod Told
+mod Sets
+mod Trees
+mod Holds
+mod Places
+mod Texts
+mod Shown
+mod Shut
+mod Ended
+mod GoesOn
+mod Worked

@@ -1,0 +1,165 @@
+//! The theorem.
+
+ghost use Rattle.std.specs.Prelude.{◌≡◌, ℕ, ◌+◌, ◌≤◌, ◌++◌, ◌∷◌, [], List, Bool, false, Option, None, Some, drop, take};
+ghost use Rattle.authority_book.specs.declared.commands.Command.{Command};
+ghost use Rattle.key_ids.specs.Base.{IsBase, rsync_scheme};
+ghost use Rattle.key_ids.specs.Uris.{Bases};
+ghost use Rattle.signer_api.specs.State.{SignerState};
+ghost use Rattle.rrdp_text.specs.Values.{IsUuid};
+ghost use Rattle.editions.specs.Edition.{Edition};
+ghost use Rattle.editions.specs.Held.{HaveOwnSerials};
+ghost use Rattle.editions.specs.PlannedAndMade.{IsPlannedAndMade};
+ghost use Rattle.editions.specs.Published.{IsPublished, ManifestsRise};
+ghost use Rattle.editions.specs.Step.{AreMore, AreSteps};
+ghost use Rattle.histories.specs.Devices.{Signature, doubt_at};
+ghost use Rattle.histories.specs.Events.{Event, History, signing};
+ghost use Rattle.histories.specs.Events.Event.{Commit, Publish, DeskFault, PressFault, Stop, Reopen};
+ghost use Rattle.histories.specs.Legal.{IsLegal, IsNextCommand, InTurn, MayBePublished, bytes_for, ground_of, most_bytes};
+ghost use Rattle.histories.specs.Acknowledged.{acknowledged, commands_of, editions_of, ground_after};
+ghost use Rattle.histories.specs.Found.{AreFoundAfter, TakesIn, reopening_by, store_after};
+ghost use Rattle.histories.specs.Refused.{IsReopening, AreNoReopenings};
+ghost use Rattle.histories.specs.Worked.{worked};
+ghost use Rattle.histories.specs.Published.{HasEdition, HasSnapshot, HasDelta, set_of, applied};
+
+use cmd_codec::listed_names_are_names;
+use editions::{
+    accepted_names_are_apart, certificates_have_own_serials, editions_are_published,
+    editions_follow_one_another, editions_leave_a_set, manifests_rise, steps_count_up,
+    steps_stay_steps, what_is_planned_and_made_follows,
+};
+use issue_values::origin_texts_are_ascii;
+use rrdp_text::texts_are_read_back;
+
+/// What holds after every history of a store, whatever was done, failed or stopped in it, and however often.
+pub fn headline()
+    // A beginning of a legal history is legal, so that each clause holds at every time in it.
+    ensures beginnings { (site : Bases) (history later : History) → IsLegal site (history ++ later) → IsLegal site history }
+    // Opened again, each desk has the commands that were acknowledged, with or without the one in doubt, and the press
+    // its editions: the serial is the latest acknowledged one or the next.
+    ensures found { (site : Bases) (history : History) (signed : List Signature)
+        (lists : List (List Command)) (editions : List Edition)
+        → IsLegal site (history ++ record { signed = signed; event = Reopen lists editions } ∷ [])
+        → AreFoundAfter history lists editions }
+    // What was acknowledged stands, whatever comes behind it.
+    ensures commands_stand { (site : Bases) (history later : History) → IsLegal site (history ++ later)
+        → AreMore (acknowledged history).commands (acknowledged (history ++ later)).commands }
+    ensures editions_stand { (site : Bases) (history later : History) → IsLegal site (history ++ later)
+        → (rest : List Edition) × (editions_of (history ++ later) ≡ editions_of history ++ rest) }
+    // Each command was accepted after those before it.
+    ensures commands { (site : Bases) (history : History) (desk : ℕ) → IsLegal site history
+        → InTurn (IsNextCommand desk) (commands_of history desk) }
+    // A desk's journal never passes its limit.
+    ensures limits { (site : Bases) (history : History) (desk : ℕ) → IsLegal site history
+        → bytes_for (commands_of history desk) ≤ most_bytes }
+    // Each edition follows those before it, over the commands that were acknowledged.
+    ensures steps { (site : Bases) (history : History) → IsLegal site history
+        → AreSteps (ground_after site history) (editions_of history) }
+    // Each has the serial that it was published with.
+    ensures serials { (site : Bases) (history : History) (serial : ℕ) (edition : Edition)
+        → IsLegal site history → HasEdition history serial edition → edition.serial ≡ serial }
+    // The set of each published serial is sound at its moment, and yields the origins that are owed at its cut, each once.
+    ensures published { (site : Bases) (history : History) (serial : ℕ) (edition : Edition)
+        → IsLegal site history → HasEdition history serial edition
+        → IsPublished (ground_after site history) edition (set_of history serial) }
+    // Its cut never passes the commands that were acknowledged.
+    ensures cuts { (site : Bases) (history : History) (serial : ℕ) (edition : Edition)
+        → IsLegal site history → HasEdition history serial edition → TakesIn history edition }
+    // The deltas from one serial to another lead from set to set.
+    ensures deltas { (history : History) (from to : ℕ) → from ≤ to
+        → applied (set_of history from) (drop from (take to (editions_of history))) ≡ set_of history to }
+    // Its snapshot is read back as the set, and its delta as its changes, in whichever session.
+    ensures snapshots { (site : Bases) (history : History) (session : List ℕ) (serial : ℕ) (edition : Edition)
+        → IsBase rsync_scheme site.rsync → IsUuid session → IsLegal site history
+        → HasEdition history serial edition → HasSnapshot session serial (set_of history serial) }
+    ensures delta_texts { (site : Bases) (history : History) (session : List ℕ) (serial : ℕ) (edition : Edition)
+        → IsBase rsync_scheme site.rsync → IsUuid session → IsLegal site history
+        → HasEdition history serial edition → HasDelta session edition }
+    // A manifest that takes the place of another rises, and no two certificates of a key's life have one serial.
+    ensures manifests { (site : Bases) (history : History) (serial : ℕ) (edition : Edition)
+        → IsLegal site history → HasEdition history (serial + 1) edition
+        → ManifestsRise (set_of history serial) (set_of history (serial + 1)) }
+    ensures certificates { (site : Bases) (history : History) (id : List ℕ)
+        → IsLegal site history → HaveOwnSerials (editions_of history) id }
+{
+    accepted_names_are_apart();
+    certificates_have_own_serials();
+    editions_are_published();
+    editions_follow_one_another();
+    editions_leave_a_set();
+    listed_names_are_names();
+    manifests_rise();
+    origin_texts_are_ascii();
+    steps_count_up();
+    steps_stay_steps();
+    texts_are_read_back();
+}
+
+/// What no legal history has: at a desk, or at the press, a second record behind one whose write failed, whatever comes
+/// between them but a reopening; and behind a stop anything but a reopening. Behind a reopening nothing is in doubt.
+pub fn histories_end_at_faults_and_stops()
+    ensures commits { (site : Bases) (history between : History) (signed later : List Signature)
+        (desk : ℕ) (command other : Command) → AreNoReopenings between
+        → IsLegal site (history ++ record { signed = signed; event = DeskFault desk command }
+        ∷ between ++ record { signed = later; event = Commit desk other } ∷ []) → ⊥ }
+    ensures desk_faults { (site : Bases) (history between : History) (signed later : List Signature)
+        (desk : ℕ) (command other : Command) → AreNoReopenings between
+        → IsLegal site (history ++ record { signed = signed; event = DeskFault desk command }
+        ∷ between ++ record { signed = later; event = DeskFault desk other } ∷ []) → ⊥ }
+    ensures publications { (site : Bases) (history between : History) (signed later : List Signature)
+        (edition other : Edition) → AreNoReopenings between
+        → IsLegal site (history ++ record { signed = signed; event = PressFault edition }
+        ∷ between ++ record { signed = later; event = Publish other } ∷ []) → ⊥ }
+    ensures press_faults { (site : Bases) (history between : History) (signed later : List Signature)
+        (edition other : Edition) → AreNoReopenings between
+        → IsLegal site (history ++ record { signed = signed; event = PressFault edition }
+        ∷ between ++ record { signed = later; event = PressFault other } ∷ []) → ⊥ }
+    // The record whose write failed stays in doubt until a reopening.
+    ensures desk_doubts { (site : Bases) (history between : History) (signed : List Signature)
+        (desk : ℕ) (command : Command) → AreNoReopenings between
+        → let whole = history ++ record { signed = signed; event = DeskFault desk command } ∷ between in
+        IsLegal site whole → doubt_at (store_after whole).desks desk ≡ Some command }
+    ensures press_doubts { (site : Bases) (history between : History) (signed : List Signature)
+        (edition : Edition) → AreNoReopenings between
+        → let whole = history ++ record { signed = signed; event = PressFault edition } ∷ between in
+        IsLegal site whole → (store_after whole).press.doubt ≡ Some edition }
+    ensures stops { (site : Bases) (history : History) (signed later : List Signature)
+        (commands : List (Option Command)) (edition : Option Edition) (event : Event)
+        → IsLegal site (history ++ record { signed = signed; event = Stop commands edition }
+        ∷ record { signed = later; event = event } ∷ []) → IsReopening event }
+    ensures settled { (history : History) (signed : List Signature) (lists : List (List Command))
+        (editions : List Edition) (desk : ℕ)
+        → let store = store_after (history ++ record { signed = signed; event = Reopen lists editions } ∷ []) in
+        (doubt_at store.desks desk ≡ None) × (store.press.doubt ≡ None) }
+{}
+
+/// How every legal history may go on.
+pub fn legal_histories_go_on()
+    // The store may be opened again, and all that `found` of `headline` allows may be found then.
+    ensures reopenings { (site : Bases) (history : History) (signed : List Signature)
+        (lists : List (List Command)) (editions : List Edition)
+        → IsLegal site history → AreFoundAfter history lists editions
+        → IsLegal site (history ++ record { signed = signed; event = Reopen lists editions } ∷ []) }
+    // At each journal the record in doubt may be found or not, whatever is found at the others.
+    ensures choices { (site : Bases) (history : History) (signed : List Signature)
+        (desks : ℕ → Bool) (press : Bool) → IsLegal site history
+        → IsLegal site (history ++ record { signed = signed; event = reopening_by desks press (store_after history) } ∷ []) }
+    // An edition that is planned over those that stand, and made by signers that vouch for it, may be written, and so
+    // published, where nothing is stopped and the press's journal is open.
+    ensures editions { (site : Bases) (history : History) (signed : List Signature) (clock : ℕ) (edition : Edition)
+        (old new : List SignerState) → IsLegal site history
+        → let store = signing (store_after history) signed in
+        store.stopped ≡ false → store.press.shut ≡ false
+        → IsPlannedAndMade (ground_of site store) clock store.press.list edition old new
+        → MayBePublished site store edition }
+    ensures publications { (site : Bases) (history : History) (signed : List Signature) (edition : Edition)
+        → IsLegal site history → MayBePublished site (signing (store_after history) signed) edition
+        → IsLegal site (history ++ record { signed = signed; event = Publish edition } ∷ []) }
+{
+    steps_stay_steps();
+    what_is_planned_and_made_follows();
+}
+
+/// There are such histories.
+pub fn some_histories_are_legal()
+    ensures { (site : Bases) → IsLegal site worked }
+{}

@@ -1,0 +1,25 @@
+use Rattle.std.proofs.Common.{rules}
+use Rattle.std.specs.Ordering.{is_lt}
+use Rattle.std.proofs.lemmas.List.Sorted.{All-permutation}
+use Rattle.pub_set.specs.Objects.{uri_cmp}
+use Rattle.issue_drafts.specs.declared.draft.ManifestDraft.{ManifestDraft}
+use Rattle.issue_drafts.specs.Drafts as words
+use Rattle.issue_drafts.specs.Views.{manifest_of, IsPlaced}
+use Rattle.issue_drafts.specs.Drafting.{setting_in, keys_in}
+use Rattle.issue_drafts.specs.laws.UriOrder.{by-uri, compares-uris}
+use Rattle.issue_drafts.proofs.Sorting.{ordered-from}
+use Rattle.issue_drafts.proofs.ordered.manifest_drafts.Goals as goal
+
+pub returns-clause-ordered : goal.returns-clause-ordered
+returns-clause-ordered c =
+    let at = c.args.at.now in
+    ordered-from manifest_of (words.manifests (setting_in at) (keys_in at)) c.in_ok-drafts.drafts.items c.sort_by.new.self.items
+    c.in_ok-drafts.ensures.drafts c.requires.once c.in_ok-sort_by.ensures.permutation
+    (c.in_ok-sort_by.ensures.sorted (λ (a b : ManifestDraft). is_lt (uri_cmp a.uri b.uri)) (by-uri (λ (d : ManifestDraft). d.uri))
+    (compares-uris (λ (d : ManifestDraft). d.uri) (λ a r f called. search rules)))
+
+pub returns-clause-issuers : goal.returns-clause-issuers
+returns-clause-issuers c =
+    All-permutation (λ (d : ManifestDraft). IsPlaced c.args.at.now.rows.now d.issuer) c.in_ok-drafts.drafts.items
+    c.sort_by.new.self.items
+    c.in_ok-sort_by.ensures.permutation c.in_ok-drafts.ensures.placed

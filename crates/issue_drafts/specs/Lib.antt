@@ -1,0 +1,13 @@
+pub mod Certificates
+pub mod Drafting
+pub mod Drafts
+pub mod Files
+pub mod Finding
+pub mod Firsts
+pub mod Revoking
+pub mod Serials
+pub mod Tables
+pub mod Touching
+pub mod Views
+pub mod inner
+pub mod laws

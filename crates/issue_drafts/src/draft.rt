@@ -1,0 +1,41 @@
+//! The objects of an edition before they are signed.
+
+use key_roll::KeyRow;
+use origins::Origin;
+use pub_set::Uri;
+use res_sets::Resources;
+
+/// A key of the edition, and its place among the edition's keys. The place is an index.
+#[derive(Clone, Copy)]
+pub struct KeyAt<'a> {
+    pub place: usize,
+    pub row: &'a KeyRow,
+}
+
+/// What an object is to say.
+#[derive(Clone, Copy)]
+pub enum DraftKind<'a> {
+    Authority {
+        subject: KeyAt<'a>,
+        held: &'a Resources,
+    },
+    Route {
+        origin: Origin,
+    },
+    Crl,
+}
+
+/// An object to be made: where it is to stand, and the key that issues it.
+#[derive(Drop)]
+pub struct Draft<'a> {
+    pub uri: Uri,
+    pub issuer: KeyAt<'a>,
+    pub kind: DraftKind<'a>,
+}
+
+/// A manifest to be made.
+#[derive(Drop)]
+pub struct ManifestDraft<'a> {
+    pub uri: Uri,
+    pub issuer: KeyAt<'a>,
+}

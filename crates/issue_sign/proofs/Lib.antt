@@ -1,0 +1,11 @@
+pub mod Contents
+pub mod Ends
+pub mod Finishing
+pub mod Going
+pub mod Halts
+pub mod Halves
+pub mod Lists
+pub mod Places
+pub mod Routes
+pub mod Said
+pub mod SignedEnds

@@ -1,0 +1,65 @@
+-- What a call on a signer left, and what was made of its signature.
+use Rattle.std.proofs.Common.{◌≡◌, ℕ, ◌<◌, ◌^◌, inl, List, length, sym, ap, subst, ◌∙◌}
+use Rattle.sha1.specs.Sha1.{sha1}
+use Rattle.sha2.specs.Sha256.{sha256}
+use Rattle.der.specs.Object.{Spells}
+use Rattle.signer_api.specs.State.{SignerState}
+use Rattle.signer_ring.specs.Calls.{IsStopped}
+use Rattle.signer_ring.specs.declared.call_fault.CallFault.{CallFault}
+use Rattle.signer_ring.specs.declared.call_fault.CallFault.TheVariants.{SignerFault, Memory}
+use Rattle.cert_obj.specs.Values.{CertValue}
+use Rattle.cert_obj.specs.Formats as certificates
+use Rattle.crl_obj.specs.Values.{CrlValue}
+use Rattle.crl_obj.specs.Formats as crls
+use Rattle.cms_obj.specs.declared.values.ObjectKind.{ObjectKind}
+use Rattle.cms_obj.specs.Formats.{signed_object, object_of}
+use Rattle.issue_sign.specs.Signed.{framed, object_bytes, IsSigned, IsSignedOnce, IsEnd, IsCertificate, IsCrlOf}
+
+pub end-of : (e : CallFault) (signer : ℕ) (key bytes : List ℕ) (old new : List SignerState) → IsStopped signer old new e → IsEnd signer key bytes old new e
+end-of (SignerFault n) signer key bytes old new h = h
+end-of Memory signer key bytes old new h = inl h
+
+-- The same of bytes that are those ones.
+pub signed-as : (signer : ℕ) (key bytes other : List ℕ) (old new : List SignerState) (signature : List ℕ) → bytes ≡ other → IsSigned signer key bytes old new signature → IsSigned signer key other old new signature
+signed-as signer key bytes other old new signature e h =
+    subst (λ (b : List ℕ). IsSigned signer key b old new signature) e h
+
+pub signed-once-as : (signer : ℕ) (key bytes other : List ℕ) (old new : List SignerState) (signature : List ℕ) → bytes ≡ other → IsSignedOnce signer key bytes old new signature → IsSignedOnce signer key other old new signature
+signed-once-as signer key bytes other old new signature e h =
+    subst (λ (b : List ℕ). IsSignedOnce signer key b old new signature) e h
+
+pub framed-as : (out tbs other signature : List ℕ) → out ≡ framed tbs signature → tbs ≡ other → out ≡ framed other signature
+framed-as out tbs other signature is e = is ∙ ap (λ (b : List ℕ). framed b signature) e
+
+-- What is written is read back.
+pub certificate-read : (cert : CertValue) (tbs out signature : List ℕ) → out ≡ framed tbs signature → tbs ≡ certificates.signed_bytes cert → (length out < 2 ^ 32 → Spells certificates.signed_cert (record { cert = cert; digest = sha256 tbs; signature = signature }) out) → IsCertificate cert signature
+certificate-read cert tbs out signature is e h short =
+    let whole : out ≡ framed (certificates.signed_bytes cert) signature = framed-as out tbs (certificates.signed_bytes cert) signature is e in
+    let few : length out < 2 ^ 32 = subst (λ (b : List ℕ). length b < 2 ^ 32) (sym whole) short in
+    subst (λ (b : List ℕ). Spells certificates.signed_cert (record { cert = cert; digest = sha256 (certificates.signed_bytes cert); signature = signature }) b) whole
+    (subst (λ (b : List ℕ). Spells certificates.signed_cert (record { cert = cert; digest = sha256 b; signature = signature }) out) e (h few))
+
+pub crl-read : (crl : CrlValue) (tbs out signature : List ℕ) → out ≡ framed tbs signature → tbs ≡ crls.signed_bytes crl → (length out < 2 ^ 32 → Spells crls.signed_crl (record { crl = crl; digest = sha256 tbs; signature = signature }) out) → IsCrlOf crl signature
+crl-read crl tbs out signature is e h short =
+    let whole : out ≡ framed (crls.signed_bytes crl) signature = framed-as out tbs (crls.signed_bytes crl) signature is e in
+    let few : length out < 2 ^ 32 = subst (λ (b : List ℕ). length b < 2 ^ 32) (sym whole) short in
+    subst (λ (b : List ℕ). Spells crls.signed_crl (record { crl = crl; digest = sha256 (crls.signed_bytes crl); signature = signature }) b) whole
+    (subst (λ (b : List ℕ). Spells crls.signed_crl (record { crl = crl; digest = sha256 b; signature = signature }) out) e (h few))
+
+-- ---- objects
+
+pub object-as : (kind : ObjectKind) (content : List ℕ) (cert : CertValue) (certificate id last once signature out : List ℕ) (moment : ℕ) → out ≡ signed_object.spelling (object_of kind content certificate id moment signature) → certificate ≡ framed (certificates.signed_bytes cert) last → id ≡ sha1 once → moment ≡ cert.not_before → out ≡ object_bytes kind content cert last once signature
+object-as kind content cert certificate id last once signature out moment is made named at =
+    is
+    ∙ (ap (λ (b : List ℕ). signed_object.spelling (object_of kind content b id moment signature)) made
+    ∙ (ap (λ (b : List ℕ). signed_object.spelling (object_of kind content (framed (certificates.signed_bytes cert) last) b moment signature)) named
+    ∙ ap (λ (m : ℕ). signed_object.spelling (object_of kind content (framed (certificates.signed_bytes cert) last) (sha1 once) m signature)) at))
+
+pub object-read : (kind : ObjectKind) (content : List ℕ) (cert : CertValue) (certificate id last once signature out : List ℕ) (moment : ℕ) → out ≡ signed_object.spelling (object_of kind content certificate id moment signature) → certificate ≡ framed (certificates.signed_bytes cert) last → id ≡ sha1 once → moment ≡ cert.not_before → (length out < 2 ^ 32 → Spells signed_object (object_of kind content certificate id moment signature) out) → length (object_bytes kind content cert last once signature) < 2 ^ 32 → Spells signed_object (object_of kind content (framed (certificates.signed_bytes cert) last) (sha1 once) cert.not_before signature) (object_bytes kind content cert last once signature)
+object-read kind content cert certificate id last once signature out moment is made named at h short =
+    let whole = object-as kind content cert certificate id last once signature out moment is made named at in
+    let few : length out < 2 ^ 32 = subst (λ (b : List ℕ). length b < 2 ^ 32) (sym whole) short in
+    subst (λ (b : List ℕ). Spells signed_object (object_of kind content (framed (certificates.signed_bytes cert) last) (sha1 once) cert.not_before signature) b) whole
+    (subst (λ (m : ℕ). Spells signed_object (object_of kind content (framed (certificates.signed_bytes cert) last) (sha1 once) m signature) out) at
+    (subst (λ (b : List ℕ). Spells signed_object (object_of kind content (framed (certificates.signed_bytes cert) last) b moment signature) out) named
+    (subst (λ (b : List ℕ). Spells signed_object (object_of kind content b id moment signature) out) made (h few))))

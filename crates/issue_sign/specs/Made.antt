@@ -1,0 +1,98 @@
+-- What the signing of an edition's objects answers.
+use Rattle.std.specs.Prelude.{◌≡◌, ℕ, List, [], ◌∷◌, ◌++◌, map, All}
+use Rattle.std.specs.Option.{option_map_or}
+use Rattle.sha2.specs.Sha256.{sha256}
+use Rattle.signer_api.specs.State.{SignerState, CountsFault}
+use Rattle.signer_ring.specs.Ring.{ChangesOne}
+use Rattle.signer_ring.specs.Calls.{Call, signer_of, after_calls, IsVouched}
+use Rattle.issue_keys.specs.declared.fault.MakeFault.{MakeFault}
+use Rattle.issue_keys.specs.declared.fault.MakeFault.TheVariants.{SignerFault, KeyClash, Memory}
+use Rattle.issue_drafts.specs.Certificates.{IssueInput}
+use Rattle.issue_drafts.specs.Drafts.{Draft}
+use Rattle.issue_sign.specs.declared.object.Object.{Object}
+use Rattle.issue_sign.specs.Objects.{Answers, Signed, bytes_of, manifest_bytes}
+use Rattle.issue_sign.specs.Calls.{first_calls, second_calls, content_calls, last_calls}
+use Rattle.issue_sign.specs.SignInput.{SignInput}
+use Rattle.issue_sign.specs.Spelled.{IsSpelled}
+
+-- What the signers answered for an object.
+abbrev pub answers_of : Object → Answers
+answers_of o = record {
+  once = option_map_or (λ once. once.key.bytes) o.once [];
+  content = option_map_or (λ once. once.signature.bytes) o.once [];
+  last = o.signature.bytes;
+}
+
+-- Objects with what was answered for them, as far as there are answers.
+abbrev pub signed : List Draft → List Answers → List Signed
+signed [] answers = []
+signed (d ∷ drafts) [] = []
+signed (d ∷ drafts) (a ∷ answers) =
+    record { draft = d; answers = a } ∷ signed drafts answers
+
+-- ---- two ways of signing: that of manifests, and that of the others
+
+-- The calls for objects, and the bytes of each.
+pub record Way : Type 0 where
+  pub calls : List Signed → List Call
+  pub bytes : Signed → List ℕ
+
+abbrev pub of_drafts : IssueInput → SignInput → Way
+of_drafts s b = record {
+  calls = λ made. first_calls s b.keys b.all b.entries made ++ second_calls s b.keys b.all made;
+  bytes = bytes_of s b.keys b.all b.entries;
+}
+
+abbrev pub of_manifests : IssueInput → SignInput → Way
+of_manifests s b = record {
+  calls = λ made. content_calls s b.files made ++ last_calls s b.keys b.all made;
+  bytes = manifest_bytes s b.keys b.all b.files;
+}
+
+-- ---- at the end
+
+-- All of the objects are made. The signers made these calls, one after another, and no others,
+-- and vouch for what they signed.
+pub record AreMade
+    (s : IssueInput) (b : SignInput) (way : Way) (drafts : List Draft) (old new : List SignerState)
+    (objects : List Object) (made : List Signed) : Type 0 where
+  pub each : map (λ x. x.draft) made ≡ drafts
+  pub signers : new ≡ after_calls old (way.calls made)
+  pub vouched : All (IsVouched new) (way.calls made)
+  pub bytes : map (λ o. o.bytes) objects ≡ map way.bytes made
+  pub hashes : map (λ o. o.hash) objects ≡ map (λ x. sha256 (way.bytes x)) made
+  pub spelled : All (λ x. IsSpelled s b x.draft x.draft.kind x.answers) made
+
+-- ---- why it stopped
+
+-- Calls are the first of those for all these objects, and these ones are the others, whatever
+-- was to be answered to them.
+pub record AreBegun
+    (way : Way) (drafts : List Draft) (calls others : List Call) : Type 0 where
+  pub made : List Signed
+  pub each : map (λ x. x.draft) made ≡ drafts
+  pub whole : calls ++ others ≡ way.calls made
+
+-- The signer of the call that came next counted a fault, and nothing else changed.
+pub record IsFault
+    (way : Way) (drafts : List Draft) (old new : List SignerState) (number : ℕ) : Type 0 where
+  pub calls : List Call
+  pub next : Call
+  pub others : List Call
+  pub begun : AreBegun way drafts calls (next ∷ others)
+  pub signer : signer_of next ≡ number
+  pub fault : ChangesOne number CountsFault (after_calls old calls) new
+
+-- Memory ran out between two calls.
+pub record IsShort
+    (way : Way) (drafts : List Draft) (old new : List SignerState) : Type 0 where
+  pub calls : List Call
+  pub others : List Call
+  pub begun : AreBegun way drafts calls others
+  pub signers : new ≡ after_calls old calls
+
+abbrev pub IsStop :
+    Way → List Draft → List SignerState → List SignerState → MakeFault → Type 0
+IsStop way drafts old new (SignerFault signer) = IsFault way drafts old new signer
+IsStop way drafts old new (KeyClash id) = ⊥
+IsStop way drafts old new Memory = IsShort way drafts old new

@@ -1,0 +1,129 @@
+//! The first signatures: those of certificates, of CRLs and of the contents of ROAs (RFC 5280
+//! sections 4.1.1.3 and 5.1.1.3, RFC 6488 section 2.1.6).
+
+ghost use Rattle.std.specs.Prelude.{◌≡◌, ◌<◌, map, length, All, IfOk, IfErr};
+ghost use Rattle.moments.specs.Civil.{IsMoment};
+ghost use Rattle.signer_ring.specs.Ring.{Keeps};
+ghost use Rattle.issue_drafts.specs.Certificates.{input_of};
+ghost use Rattle.issue_drafts.specs.Views.{draft_of, kind_of};
+ghost use Rattle.issue_sign.specs.Calls.{first_call};
+ghost use Rattle.issue_sign.specs.SignInput.{SignInput, IsSignInput, AreDrafts, CanSign, CanBeMade};
+ghost use Rattle.issue_sign.specs.Made.{of_drafts, IsStop};
+ghost use Rattle.issue_sign.specs.inner.Steps.{IsCalled, IsHalt, IsWhole, call_of, half_answers, IsHalfOf, IsHalfOfKind, IsHalf, IsDraft, Pairs, AreHalves};
+
+use crate::edition::Edition;
+use crate::object::{Object, SignedContent};
+use crate::steps::{sign_certificate, sign_content, sign_crl};
+use crate::values::{Unsigned, unsigned_object};
+use cms_obj::ObjectKind;
+use issue_drafts::Draft;
+use issue_keys::MakeFault;
+use key_roll::KeyRow;
+use origins::Origin;
+use signer_api::Signer;
+use signer_ring::{Ring, vouched_stays};
+use std::alloc::Global;
+
+/// An object after its first signature: made, or a ROA of which the content alone is signed.
+#[derive(Drop)]
+pub enum Half {
+    Made {
+        object: Object,
+    },
+    Begun {
+        origin: Origin,
+        content: SignedContent,
+    },
+}
+
+/// Signs what is signed first for an object.
+fn sign_value<S: Signer>(
+    alloc: Global,
+    value: Unsigned,
+    moment: u64,
+    issuer: &KeyRow,
+    ring: &mut Ring<S>,
+) -> Result<Half, MakeFault>
+    requires signer { issuer.now.signer < length ring.old }
+    requires moment { IsMoment moment }
+    requires value { IsWhole value }
+    ensures half { IfOk result (IsHalfOf value) }
+    ensures called { IfOk result (λ half. IsCalled ring.old ring.new
+        (call_of moment issuer.now value (half_answers half))) }
+    ensures stopped { IfErr result (IsHalt (call_of moment issuer.now value) ring.old ring.new) }
+    ensures kept { Keeps ring.old ring.new }
+{
+    match value {
+        Unsigned::Certificate { cert } => Ok(Half::Made {
+            object: sign_certificate(alloc, &cert, issuer, ring)?,
+        }),
+        Unsigned::List { crl } => Ok(Half::Made {
+            object: sign_crl(alloc, &crl, issuer, ring)?,
+        }),
+        Unsigned::Roa { origin, content } => Ok(Half::Begun {
+            origin,
+            content: sign_content(alloc, ObjectKind::Roa, content, moment, issuer, ring)?,
+        }),
+    }
+}
+
+/// The first signature of a draft.
+fn sign_first<S: Signer>(
+    alloc: Global,
+    edition: &Edition<'_>,
+    draft: &Draft<'_>,
+    serial: u64,
+    ring: &mut Ring<S>,
+) -> Result<Half, MakeFault>
+    requires sign { CanSign edition.now }
+    requires draft { CanBeMade edition.now draft.now }
+    requires signer { draft.now.issuer.row.now.signer < length ring.old }
+    ensures kind { IfOk result (IsHalfOfKind draft.now.kind) }
+    ensures half { IfOk result (λ half. (b : SignInput) → IsSignInput edition.now b → IsDraft b draft.now serial
+        → IsHalf (input_of edition.now.input.now) b (draft_of draft.now) (kind_of draft.now.kind) half) }
+    ensures called { IfOk result (λ half. (b : SignInput) → IsSignInput edition.now b → IsDraft b draft.now serial
+        → IsCalled ring.old ring.new (first_call (input_of edition.now.input.now) b.keys b.all b.entries
+        (draft_of draft.now) (kind_of draft.now.kind) (half_answers half))) }
+    ensures stopped { IfErr result (λ fault. (b : SignInput) → IsSignInput edition.now b → IsDraft b draft.now serial
+        → IsHalt (first_call (input_of edition.now.input.now) b.keys b.all b.entries
+        (draft_of draft.now) (kind_of draft.now.kind)) ring.old ring.new fault) }
+    ensures kept { Keeps ring.old ring.new }
+{
+    let value = unsigned_object(alloc, edition, draft, serial)?;
+    let moment = edition.input.work.moment;
+    sign_value(alloc, value, moment, draft.issuer.row, ring)
+}
+
+/// Signs certificates, CRLs and the contents of ROAs, in the drafts' order. `serials` has one for
+/// each draft; a CRL has 0.
+pub fn sign_firsts<S: Signer>(
+    alloc: Global,
+    edition: &Edition<'_>,
+    drafts: &[Draft<'_>],
+    serials: &[u64],
+    ring: &mut Ring<S>,
+) -> Result<Vec<Half>, MakeFault>
+    requires sign { CanSign edition.now }
+    requires drafts { All (CanBeMade edition.now) drafts.now }
+    requires signers { All (λ d. d.issuer.row.now.signer < length ring.old) drafts.now }
+    requires serials { length serials.now ≡ length drafts.now }
+    ensures each { IfOk result (λ halves. length halves.items ≡ length drafts.now) }
+    ensures kinds { IfOk result (λ halves. Pairs (λ d h. IsHalfOfKind d.kind h) drafts.now halves.items) }
+    ensures halves { IfOk result (λ halves. (b : SignInput)
+        → IsSignInput edition.now b → AreDrafts b drafts.now serials.now
+        → AreHalves (input_of edition.now.input.now) b drafts.now halves.items ring.old ring.new) }
+    ensures stopped { IfErr result (λ fault. (b : SignInput)
+        → IsSignInput edition.now b → AreDrafts b drafts.now serials.now
+        → IsStop (of_drafts (input_of edition.now.input.now) b) (map draft_of drafts.now)
+        ring.old ring.new fault) }
+    ensures kept { Keeps ring.old ring.new }
+{
+    vouched_stays();
+    let mut halves = Vec::with_capacity(alloc, drafts.len())?;
+    for draft in drafts {
+        let place = halves.len();
+        let half = sign_first(alloc, edition, draft, serials[place], ring)?;
+        halves.push(half)?;
+    }
+    Ok(halves)
+}

@@ -1,0 +1,21 @@
+//! The signing of an edition's objects by the signers of a ring (RFC 5280 sections 4.1 and 5.1, RFC
+//! 6488 section 2).
+#![tactic(auto)]
+
+mod edition;
+mod firsts;
+mod manifests;
+mod object;
+mod roas;
+mod signed_bytes;
+mod signed_objects;
+mod signing;
+mod steps;
+mod values;
+
+pub use edition::Edition;
+pub use manifests::sign_manifests;
+pub use object::Object;
+pub use signed_bytes::{SignedBytes, sign_certificate};
+pub use signed_objects::{sign_content, sign_crl, sign_object};
+pub use signing::sign_drafts;

@@ -1,0 +1,48 @@
+//! Objects, and contents that wait for the certificate of the key that signed them (RFC 6488
+//! section 2).
+
+ghost use Rattle.std.specs.Prelude.{◌≡◌};
+ghost use Rattle.sha2.specs.Sha256.{sha256};
+
+use crate::signed_bytes::SignedBytes;
+use pub_set::Content;
+use sha2::{Digest, Sha256};
+use signer_api::{OneUse, Signature};
+
+/// An object that is made, with the signatures that it took.
+#[derive(Debug, Drop)]
+pub struct Object {
+    pub bytes: Content,
+    /// The SHA-256 of the bytes.
+    pub hash: [u8; 32],
+    /// The key that signed the content once, of a ROA or a manifest, with that signature.
+    pub once: Option<OneUse>,
+    /// The issuer's signature of the certificate or of the CRL.
+    pub signature: Signature,
+}
+
+impl Object {
+    /// The object of these bytes.
+    pub fn new(signed: SignedBytes, once: Option<OneUse>) -> Object
+        ensures bytes { result.bytes ≡ signed.bytes.items }
+        ensures hash { result.hash ≡ sha256 signed.bytes.items }
+        ensures once { result.once ≡ once }
+        ensures signature { result.signature ≡ signed.signature }
+    {
+        let SignedBytes { bytes, signature } = signed;
+        let hash = Sha256::digest(&bytes);
+        Object {
+            bytes: Content::new(bytes),
+            hash,
+            once,
+            signature,
+        }
+    }
+}
+
+/// The content of a ROA or of a manifest, and the one-use key that signed it.
+#[derive(Debug, Drop)]
+pub struct SignedContent {
+    pub content: Vec<u8>,
+    pub once: OneUse,
+}

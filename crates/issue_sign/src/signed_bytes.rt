@@ -1,0 +1,74 @@
+//! The signing of certificates (RFC 5280 section 4.1.1).
+
+ghost use Rattle.std.specs.Prelude.{◌≡◌, ◌<◌, length, IfOk, IfErr};
+ghost use Rattle.signer_ring.specs.Ring.{Keeps};
+ghost use Rattle.signer_ring.specs.Calls.{IsStopped};
+ghost use Rattle.cert_obj.specs.Values.{IsCert, cert_value};
+ghost use Rattle.cert_obj.specs.Formats as certificates;
+ghost use Rattle.issue_sign.specs.Signed.{framed, IsSigned, IsEnd, IsCertificate};
+
+use cert_obj::Cert;
+use signer_api::{PublicKey, Signature, Signer};
+use signer_ring::{CallFault, Ring};
+use std::alloc::Global;
+
+/// An object that is signed, with the signature.
+#[derive(Debug, Drop)]
+pub struct SignedBytes {
+    pub bytes: Vec<u8>,
+    pub signature: Signature,
+}
+
+/// What the type says: a signature is 256 bytes.
+pub fn is_whole(bytes: &[u8; 256])
+    ensures { length bytes.now ≡ 256 }
+{}
+
+/// A key's signature of bytes. The signer of that number, from 0, signs their SHA-256 (RFC 7935
+/// section 2).
+pub fn sign<S: Signer>(
+    alloc: Global,
+    signer: u32,
+    key: &PublicKey,
+    bytes: &[u8],
+    ring: &mut Ring<S>,
+) -> Result<Signature, CallFault>
+    requires { signer < length ring.old }
+    ensures signed { IfOk result (λ signature.
+        IsSigned signer key.now.bytes bytes.now ring.old ring.new signature.bytes) }
+    ensures stopped { IfErr result (IsStopped signer ring.old ring.new) }
+    ensures kept { Keeps ring.old ring.new }
+{
+    let signature = signer_ring::sign(alloc, ring, signer, key, bytes)?;
+    is_whole(&signature.bytes);
+    Ok(signature)
+}
+
+/// A certificate that a key signs (RFC 5280 section 4.1).
+pub fn sign_certificate<S: Signer>(
+    alloc: Global,
+    cert: &Cert,
+    signer: u32,
+    key: &PublicKey,
+    ring: &mut Ring<S>,
+) -> Result<SignedBytes, CallFault>
+    requires signer { signer < length ring.old }
+    requires cert { IsCert (cert_value cert.now) }
+
+    // The certificate with the key's signature, which is all that the signer did.
+    ensures bytes { IfOk result (λ made. made.bytes.items
+        ≡ framed (certificates.signed_bytes (cert_value cert.now)) made.signature.bytes) }
+    ensures spelled { IfOk result (λ made. IsCertificate (cert_value cert.now) made.signature.bytes) }
+    ensures signed { IfOk result (λ made. IsSigned signer key.now.bytes
+        (certificates.signed_bytes (cert_value cert.now)) ring.old ring.new made.signature.bytes) }
+
+    ensures stopped { IfErr result
+        (IsEnd signer key.now.bytes (certificates.signed_bytes (cert_value cert.now)) ring.old ring.new) }
+    ensures kept { Keeps ring.old ring.new }
+{
+    let tbs = cert.tbs(alloc)?;
+    let signed = tbs.as_slice();
+    let signature = sign(alloc, signer, key, signed, ring)?;
+    let bytes = cert_obj::write(alloc, signed, &signature)?;
+    Ok(SignedBytes { bytes, signature })
+}

@@ -1,0 +1,114 @@
+//! What is signed first for the objects of an edition (RFC 5280 sections 4.1.2 and 5.1.2, RFC 6488
+//! section 2.1.3).
+
+ghost use Rattle.std.specs.Prelude.{◌≡◌, ◌<◌, ◌^◌, true, length, IfOk};
+ghost use Rattle.std.specs.List.{HoldsAt};
+ghost use Rattle.cert_obj.specs.Values.{IsCert, cert_value, is_uri};
+ghost use Rattle.crl_obj.specs.Values.{IsCrl, crl_value};
+ghost use Rattle.payloads.specs.RoaFormats.{IsRoa};
+ghost use Rattle.issue_values.specs.Certificates.{IsEditionMoment};
+ghost use Rattle.issue_values.specs.Bodies.{roa_of};
+ghost use Rattle.issue_drafts.specs.Certificates.{input_of};
+ghost use Rattle.issue_drafts.specs.Views.{draft_of, kind_of, IsPlaced};
+ghost use Rattle.issue_sign.specs.Objects.{certificate_with, roa_content, crl_of};
+ghost use Rattle.issue_sign.specs.SignInput.{SignInput, IsSignInput, CanSign, CanIssue, CanBeMade};
+ghost use Rattle.issue_sign.specs.inner.Steps.{IsWhole, IsOfKind, IsValueOf, IsDraft};
+
+use crate::edition::Edition;
+use cert_obj::Cert;
+use crl_obj::Crl;
+use issue_drafts::{Draft, DraftKind, KeyAt};
+use issue_values::{anchor_certificate, authority_certificate, key_crl, roa_body};
+use origins::Origin;
+use res_sets::Resources;
+use std::alloc::{AllocError, Global};
+
+/// What is signed first for an object: a certificate or a CRL, or the content of a ROA.
+#[derive(Drop)]
+pub enum Unsigned {
+    Certificate { cert: Cert },
+    List { crl: Crl },
+    Roa { origin: Origin, content: Vec<u8> },
+}
+
+/// The certificate of an authority's key.
+fn certificate(
+    alloc: Global,
+    edition: &Edition<'_>,
+    issuer: &KeyAt<'_>,
+    subject: &KeyAt<'_>,
+    held: &Resources,
+    serial: u64,
+) -> Result<Cert, AllocError>
+    requires moment { IsEditionMoment edition.now.input.now.work.now.moment }
+    requires issuer { CanIssue edition.now issuer.now }
+    requires subject { subject.now.place < length edition.now.publishers.now }
+    ensures spelled { IfOk result (λ cert. IsCert (cert_value cert)) }
+    ensures value { IfOk result (λ cert. (b : SignInput) → IsSignInput edition.now b
+        → IsPlaced b.rows issuer.now → IsPlaced b.rows subject.now
+        → cert_value cert ≡ certificate_with (input_of edition.now.input.now) b.keys
+        issuer.now.row.now subject.now.row.now held.now serial) }
+{
+    let (site, moment) = (edition.input.site, edition.input.work.moment);
+    let by = &edition.publishers[issuer.place];
+    let of = &edition.publishers[subject.place];
+    if by.id.bytes == of.id.bytes {
+        anchor_certificate(alloc, site, moment, by, held, serial)
+    } else {
+        authority_certificate(alloc, site, moment, by, of, held, serial)
+    }
+}
+
+/// The CRL of a key.
+fn crl(alloc: Global, edition: &Edition<'_>, issuer: &KeyAt<'_>) -> Result<Crl, AllocError>
+    requires sign { CanSign edition.now }
+    requires issuer { CanIssue edition.now issuer.now }
+    requires entries { issuer.now.place < length edition.now.revoked.now }
+    ensures spelled { IfOk result (λ crl. IsCrl (crl_value crl)) }
+    ensures value { IfOk result (λ crl. (b : SignInput) → IsSignInput edition.now b → IsPlaced b.rows issuer.now
+        → crl_value crl ≡ crl_of (input_of edition.now.input.now) b.entries issuer.now.row.now) }
+{
+    let moment = edition.input.work.moment;
+    let by = &edition.publishers[issuer.place];
+    let entries = edition.revoked[issuer.place].as_slice();
+    key_crl(alloc, moment, by, issuer.row.number + 1, entries)
+}
+
+/// The content of a ROA.
+fn roa_content(alloc: Global, origin: &Origin) -> Result<Vec<u8>, AllocError>
+    ensures spelled { IfOk result (λ content. IsRoa (roa_of origin.now)) }
+    ensures content { IfOk result (λ content. content.items ≡ roa_content origin.now) }
+{
+    let body = roa_body(alloc, origin)?;
+    body.write(alloc)
+}
+
+/// What is signed first for a draft.
+pub fn unsigned_object(
+    alloc: Global,
+    edition: &Edition<'_>,
+    draft: &Draft<'_>,
+    serial: u64,
+) -> Result<Unsigned, AllocError>
+    requires sign { CanSign edition.now }
+    requires draft { CanBeMade edition.now draft.now }
+    ensures whole { IfOk result IsWhole }
+    ensures kind { IfOk result (IsOfKind draft.now.kind) }
+    ensures value { IfOk result (λ u. (b : SignInput) → IsSignInput edition.now b → IsDraft b draft.now serial
+        → IsValueOf (input_of edition.now.input.now) b (draft_of draft.now) (kind_of draft.now.kind) u) }
+{
+    match draft.kind {
+        DraftKind::Authority { subject, held } => {
+            let cert = certificate(alloc, edition, &draft.issuer, &subject, held, serial)?;
+            Ok(Unsigned::Certificate { cert })
+        }
+        DraftKind::Route { origin } => {
+            let content = roa_content(alloc, &origin)?;
+            Ok(Unsigned::Roa { origin, content })
+        }
+        DraftKind::Crl => {
+            let crl = crl(alloc, edition, &draft.issuer)?;
+            Ok(Unsigned::List { crl })
+        }
+    }
+}

@@ -1,9 +1,0 @@
-use Rattle.std.proofs.Common.{sym, subst}
-use Rattle.krill_top.specs.Offices.{OfficeValue, StandsIn}
-use Rattle.krill_top.proofs.Answering.{if_ok_so}
-use Rattle.krill_top.proofs.office.Office.history.Goals as goal
-
-pub returns : goal.returns
-returns g c = if_ok_so c.history.result _ _ c.history.ensures (λ text is vouched world stands.
-    let s = subst (λ (o : OfficeValue g.row.D.Denot). StandsIn vouched o world) (sym c.self.view_is) stands in
-    is world.seen s.desks)

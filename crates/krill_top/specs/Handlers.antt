@@ -1,8 +1,0 @@
--- What a session's handler answers over.
-use Rattle.line_loop.specs.declared.traits.Clock.{Ghosts as ClockGhosts}
-use Rattle.krill_top.specs.declared.handler.Handler.{Handler}
-use Rattle.krill_top.specs.Offices.{TimedOffice}
-
--- its office, and what its clock tells
-abbrev pub timed : {D G C : Type 0} → ClockGhosts C → Handler D G C → TimedOffice D
-timed clock_of handler = record { office = handler.office; clock = clock_of.readings handler.clock }

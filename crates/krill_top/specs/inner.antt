@@ -1,0 +1,7 @@
+-- Scaffolding: words that only private contracts, invariants and proofs need.
+pub mod Instances
+pub mod Handlers
+pub mod Opened
+pub mod Gathered
+pub mod Pressing
+pub mod Started

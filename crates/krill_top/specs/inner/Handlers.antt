@@ -1,0 +1,9 @@
+-- What a session's handler answers over.
+use Rattle.line_loop.specs.declared.traits.Clock.{Ghosts as ClockGhosts}
+use Rattle.krill_top.specs.declared.handler.Handler.{Handler}
+use Rattle.krill_top.specs.inner.Instances.{TimedInstance}
+
+-- its instance, and what its clock tells
+abbrev pub timed : {D G C : Type 0} → ClockGhosts C → Handler D G C → TimedInstance D
+timed clock_of handler =
+    record { instance = handler.instance; clock = clock_of.readings handler.clock }

@@ -1,5 +1,0 @@
-use Rattle.std.proofs.lemmas.Option.{slice_get-get_or}
-use Rattle.point_lists.proofs.listing.hash_at.Goals as goal
-
-pub returns : goal.returns
-returns c = slice_get-get_or c.args.hashes.now c.args.place _ c.requires

@@ -1,6 +1,0 @@
-use Rattle.point_lists.proofs.Filed.{some-name}
-use Rattle.point_lists.proofs.listing.name_in.Goals as goal
-
-pub unwrap-requires : goal.unwrap-requires
-unwrap-requires c = some-name c.strip_prefix.result c.args.folder.now c.args.uri.now
-    c.strip_prefix.ensures.cases c.requires

@@ -1,6 +1,0 @@
-use Rattle.std.proofs.Common.{◌≡◌, ◌++◌, filter, take}
-use Rattle.point_lists.specs.Entries.{lasts}
-use Rattle.point_lists.proofs.revoking.push_standing.Given as goal
-
-abbrev pub invariant-loop-row : goal.invariant-loop-row
-invariant-loop-row l = l.all.items ≡ l.fn.all.items ++ filter (lasts l.cutoff) (take l.row-index l.revoked)

@@ -1,7 +1,0 @@
-use Rattle.std.proofs.Common.{◌≡◌, take}
-use Rattle.std.specs.Prelude.{map}
-use Rattle.edition_keys.specs.Keys.{id_of}
-use Rattle.press_state.proofs.ended.ids_of.Given as goal
-
-abbrev pub invariant-loop-row : goal.invariant-loop-row
-invariant-loop-row l = map (λ id. id.bytes) l.ids.items ≡ map id_of (take l.row-index l.rows)

@@ -1,9 +1,0 @@
-pub mod Moments
-pub mod Gathering
-pub mod Joining
-pub mod Standing
-pub mod StandingLaws
-pub mod Stock
-pub mod Calling
-pub mod Ended
-pub mod Sheets

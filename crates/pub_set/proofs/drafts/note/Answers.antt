@@ -1,6 +1,0 @@
-use Rattle.pub_set.proofs.Drafting.{drafted-insert}
-use Rattle.pub_set.proofs.drafts.note.Goals as goal
-
-pub returns-in-Ok-clause-noted : goal.returns-in-Ok-clause-noted
-returns-in-Ok-clause-noted c =
-    rw (← c.into_string.ensures) (λ held at. drafted-insert held c.args.draft.now c.insert.new.self c.into_string.result c.args.left c.in-Ok.ensures.updates at)

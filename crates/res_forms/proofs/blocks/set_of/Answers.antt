@@ -1,5 +1,0 @@
-use Rattle.res_forms.specs.SetLaws.{set_told}
-use Rattle.res_forms.proofs.blocks.set_of.Goals as goal
-
-pub returns-clause-found : goal.returns-clause-found
-returns-clause-found c = set_told c.args.family c.args.ranges.items c.from_sorted.result c.from_sorted.ensures.canonical c.from_sorted.ensures.value

@@ -1,6 +1,0 @@
-use Rattle.std.proofs.Common.{arith}
-use Rattle.res_forms.specs.LeadingLaws.{ones_kept}
-use Rattle.res_forms.proofs.leading.kept_of_last.Goals as goal
-
-pub returns : goal.returns
-returns c = let kept = ones_kept c.args.bits 128 c.args.n c.requires c.ranges.n.fits in grind (arith, kept)

@@ -1,9 +1,0 @@
-use Rattle.std.proofs.Common.{rules}
-use Rattle.der_forms.specs.Place.{place}
-use Rattle.der_forms.specs.PlaceLaws.{part-place}
-use Rattle.res_forms.specs.FormatLaws.{leading-law}
-use Rattle.res_forms.proofs.leading.leading.Goals as goal
-
-pub returns-in-Some-clause-good : goal.returns-in-Some-clause-good
-returns-in-Some-clause-good c =
-    ((leading-law c.args.size c.requires).taken c.in-Some.prefix (place c.args.part) (place c.in_ok-string.rest) (part-place c.args.part) (search rules)).0

@@ -1,2 +1,0 @@
--- The prefix that a range is.
-pub use Rattle.res_sets.specs.PrefixLaws.{range_of, span_length-some, span_length-found, length_told}

@@ -1,0 +1,4 @@
+-- Scaffolding: words that only private contracts, invariants and proofs need.
+pub mod Told
+pub mod Views
+pub mod Noted

@@ -1,0 +1,4 @@
+mod Turns
+mod Groups
+pub mod AnchorFits
+pub mod Distinct

@@ -1,0 +1,41 @@
+//! Cases of publications: commands to the authorities of a tree, and the editions that a press makes of them at given
+//! clocks. Each line is a case, and its answers are printed behind its name. The file `stdout`
+//! beside `src` has the answers of an independent program, or counts that the rules give, never this one's own.
+
+mod audits;
+mod desks;
+mod gathering;
+mod hours;
+mod numbered;
+mod shown;
+mod signers;
+mod stage;
+mod steps;
+mod superseded;
+mod trials;
+
+use anyhow::{Context, Result, bail};
+use std::alloc::Global;
+
+/// The answers to a case: the kind of the signers, the starts, the numbers of calls that fail, and the steps.
+fn answer(alloc: Global, fields: &[&str]) -> Result<String> {
+    match fields {
+        [_, "Rehearsal", starts, _, steps @ ..] => {
+            steps::answers(alloc, signers::rehearsals(alloc, starts)?, steps)
+        }
+        [_, "MemorySigner", start, fails, steps @ ..] => {
+            steps::answers(alloc, signers::in_memory(alloc, start, fails)?, steps)
+        }
+        _ => bail!("no such signers"),
+    }
+}
+
+/// Prints the answer to the case of a line.
+pub fn print_case(rt: &HostRuntime, line: &str) -> Result<()> {
+    let alloc = rt.alloc();
+    let fields: Vec<&str> = line.split('\t').collect(alloc)?;
+    let name = fields.first().copied().unwrap_or("");
+    let answer = answer(alloc, &fields).context(format_args!("{name}"))?;
+    println!(rt; "{name}{answer}")?;
+    Ok(())
+}

@@ -1,0 +1,105 @@
+//! A press, the desks, and the last edition's changes.
+
+use crate::publications::audits::audited;
+use crate::publications::desks::Desks;
+use crate::publications::hours;
+use crate::publications::numbered::{adding, removing};
+use crate::publications::shown::{edition_text, fault_text};
+use crate::publications::trials::{Edition, Trial};
+use anyhow::{Result, bail};
+use key_ids::Site;
+use signer_api::Signer;
+use signer_ring::Ring;
+use std::alloc::Global;
+use test_forms::digest_text;
+
+/// A press, the desks, the repository, and the last edition's changes as a text.
+#[derive(Drop)]
+pub struct Stage<S: Signer> {
+    trial: Trial<S>,
+    desks: Desks,
+    site: Site,
+    changes: String,
+}
+
+fn site(alloc: Global) -> Result<Site> {
+    Ok(Site::read(
+        alloc,
+        "rsync://rpki.example/repo/",
+        "https://rpki.example/rrdp/",
+    )?)
+}
+
+impl<S: Signer> Stage<S> {
+    /// A press of these signers that published nothing, and desks without commands.
+    pub fn new(alloc: Global, signers: Vec<S>) -> Result<Stage<S>> {
+        if signers.len() > 8 {
+            bail!("too many signers");
+        }
+        Ok(Stage {
+            trial: Trial::new(alloc, site(alloc)?, Ring::new(signers))?,
+            desks: Desks::new(alloc)?,
+            site: site(alloc)?,
+            changes: String::new(alloc),
+        })
+    }
+
+    /// Takes in the command of a line.
+    pub fn take_line(&mut self, alloc: Global, line: &str) -> Result<()> {
+        self.desks.take_line(alloc, line)
+    }
+
+    /// Adds so many numbered origins.
+    pub fn add(&mut self, alloc: Global, count: u64) -> Result<String> {
+        self.desks.take(alloc, 0, adding(alloc, 0, count)?)?;
+        Ok(String::new(alloc))
+    }
+
+    /// Removes them.
+    pub fn remove(&mut self, alloc: Global, count: u64) -> Result<String> {
+        self.desks.take(alloc, 0, removing(alloc, 0, count)?)?;
+        Ok(String::new(alloc))
+    }
+
+    /// Publishes, and tells of the edition, or why there is none.
+    pub fn count(&mut self, alloc: Global, clock: u64) -> Result<String> {
+        match self.trial.publish(alloc, clock, &self.desks)? {
+            Ok(edition) => self.edition(alloc, edition),
+            Err(fault) => fault_text(alloc, &fault),
+        }
+    }
+
+    /// The same with the digest of the set.
+    pub fn publish(&mut self, alloc: Global, clock: u64) -> Result<String> {
+        let before = self.serial();
+        let mut text = self.count(alloc, clock)?;
+        if self.serial() != before {
+            let digest = digest_text(alloc, &self.trial.published_state().parts().set)?;
+            write!(text, ", {digest}")?;
+        }
+        Ok(text)
+    }
+
+    fn serial(&self) -> u64 {
+        self.trial.published_state().parts().serial
+    }
+
+    // Has the set of an edition audited, and tells of the edition.
+    fn edition(&mut self, alloc: Global, edition: Edition) -> Result<String> {
+        let _sound = audited(alloc, self.trial.published_state(), &self.site)?;
+        let text = edition_text(alloc, &edition)?;
+        self.changes = edition.changes;
+        Ok(text)
+    }
+
+    /// The changes of the last edition.
+    pub fn changes(&self, alloc: Global) -> Result<String> {
+        Ok(String::from_str(alloc, self.changes.as_str())?)
+    }
+
+    /// So many editions of the trust anchor, one each hour.
+    pub fn hours(&mut self, alloc: Global, count: u64, clock: u64) -> Result<String> {
+        let (trial, desks) = (&mut self.trial, &mut self.desks);
+        hours::run(alloc, trial, desks, &self.site, count, clock)
+    }
+}

@@ -1,0 +1,78 @@
+//! The steps of a case.
+//!
+//! A step is a line with a command, or one of these:
+//! - `add COUNT`, `remove COUNT`: the trust anchor's first so many numbered origins;
+//! - `publish CLOCK`: an edition, of which the numbers and the digest of the set are printed;
+//! - `count CLOCK`: the same without the digest;
+//! - `changes`: the changes of the last edition are printed;
+//! - `hours COUNT CLOCK`: so many editions, one each hour.
+
+use crate::publications::stage::Stage;
+use anyhow::{Context, Result, bail};
+use signer_api::Signer;
+use std::alloc::Global;
+use test_forms::number_of;
+
+/// A step that is no line with a command.
+#[derive(Clone, Copy)]
+enum Step {
+    Add { count: u64 },
+    Remove { count: u64 },
+    Publish { clock: u64 },
+    Count { clock: u64 },
+    Changes,
+    Hours { count: u64, clock: u64 },
+}
+
+fn read(words: &[&str]) -> Result<Step> {
+    match words {
+        ["changes"] => Ok(Step::Changes),
+        [word, number] => read_one(word, number_of(number)?),
+        ["hours", count, clock] => Ok(Step::Hours {
+            count: number_of(count)?,
+            clock: number_of(clock)?,
+        }),
+        _ => bail!("no such step"),
+    }
+}
+
+// A step with one number.
+fn read_one(word: &str, number: u64) -> Result<Step> {
+    match word {
+        "add" => Ok(Step::Add { count: number }),
+        "remove" => Ok(Step::Remove { count: number }),
+        "publish" => Ok(Step::Publish { clock: number }),
+        "count" => Ok(Step::Count { clock: number }),
+        _ => bail!("no such step: {word}"),
+    }
+}
+
+/// What the steps come to, each answer behind a tab.
+pub fn answers<S: Signer>(alloc: Global, signers: Vec<S>, steps: &[&str]) -> Result<String> {
+    let mut stage = Stage::new(alloc, signers)?;
+    let mut text = String::new(alloc);
+    for step in steps {
+        let told = told(alloc, &mut stage, step).context(format_args!("{step}"))?;
+        if !told.is_empty() {
+            write!(text, "\t{told}")?;
+        }
+    }
+    Ok(text)
+}
+
+// What a step comes to, and nothing where it tells nothing.
+fn told<S: Signer>(alloc: Global, stage: &mut Stage<S>, step: &str) -> Result<String> {
+    if step.starts_with("{") {
+        stage.take_line(alloc, step)?;
+        return Ok(String::new(alloc));
+    }
+    let words: Vec<&str> = step.split(' ').collect(alloc)?;
+    match read(&words)? {
+        Step::Add { count } => stage.add(alloc, count),
+        Step::Remove { count } => stage.remove(alloc, count),
+        Step::Publish { clock } => stage.publish(alloc, clock),
+        Step::Count { clock } => stage.count(alloc, clock),
+        Step::Changes => stage.changes(alloc),
+        Step::Hours { count, clock } => stage.hours(alloc, count, clock),
+    }
+}

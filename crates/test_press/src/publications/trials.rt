@@ -1,0 +1,105 @@
+//! A press that is tried.
+
+ghost use Rattle.std.specs.Prelude.{◌<◌, All, IsTrue};
+
+use crate::publications::desks::Desks;
+use crate::publications::gathering::{gathered, names_have_signers};
+use crate::publications::shown::changes_text;
+use anyhow::{Result, bail};
+use editions::{Gathered, Published, PublishedState};
+use key_ids::Site;
+use key_roll::KeyRow;
+use press_core::{FreshRefused, Press, PressFault};
+use pub_set::Change;
+use signer_api::Signer;
+use signer_ring::Ring;
+use std::alloc::{AllocError, Global};
+use std::marker::Model;
+
+/// An edition: what it is known by, how much it puts and withdraws, and its changes as a text.
+#[derive(Drop)]
+pub struct Edition {
+    pub published: Published,
+    pub puts: usize,
+    pub withdrawals: usize,
+    pub changes: String,
+}
+
+/// What a publication comes to.
+pub type Told = std::result::Result<Edition, PressFault>;
+
+/// A press, and how many signers it has.
+#[derive(Drop)]
+pub struct Trial<S: Signer> {
+    press: Press<S>,
+    signers: u32,
+}
+
+impl<S: Signer> Model for Trial<S> {
+    ghost use Rattle.std.specs.Prelude.{◌≡◌, length};
+    ghost use Rattle.press_core.specs.Press.{PressValue};
+
+    ghost Value = { PressValue };
+
+    ghost view = { λ trial. trial.press };
+
+    ghost invariant = { λ trial. length trial.press.ring ≡ trial.signers };
+}
+
+impl<S: Signer> Trial<S> {
+    /// A press that published nothing.
+    pub fn new(alloc: Global, site: Site, ring: Ring<S>) -> Result<Trial<S>, AllocError> {
+        let signers = ring.len();
+        match Press::fresh(alloc, site, ring) {
+            Ok(press) => Ok(Trial { press, signers }),
+            Err(FreshRefused { fault, .. }) => Err(fault),
+        }
+    }
+
+    /// What stands.
+    pub fn published_state(&self) -> &PublishedState {
+        self.press.published_state()
+    }
+
+    /// Publishes at that clock what the desks accepted.
+    pub fn publish(&mut self, alloc: Global, now: u64, desks: &Desks) -> Result<Told> {
+        let at = self.press.published_state();
+        let gathered = gathered(alloc, at, desks)?;
+        if !rows_have_signers(at.parts().rows.as_slice(), self.signers) {
+            bail!("a live key without a signer");
+        }
+        if !names_have_signers(alloc, at, &gathered, self.signers)? {
+            bail!("a name without a signer");
+        }
+        let prepared = match self.press.prepare(alloc, now, gathered) {
+            Ok(prepared) => prepared,
+            Err(fault) => return Ok(Err(fault)),
+        };
+        let changes = changes_text(alloc, prepared.changes())?;
+        let (puts, withdrawals) = counts(prepared.changes());
+        let published = self.press.commit(prepared);
+        self.press.retire_keys();
+        Ok(Ok(Edition {
+            published,
+            puts,
+            withdrawals,
+            changes,
+        }))
+    }
+}
+
+// Whether the live keys use only so many signers.
+fn rows_have_signers(rows: &[KeyRow], signers: u32) -> bool
+    ensures { IsTrue result → All (λ row. row.signer < signers) rows.now }
+{
+    rows.iter().all(|row| row.signer < signers)
+}
+
+// How many changes put, and how many withdraw.
+fn counts(changes: &[Change]) -> (usize, usize) {
+    let puts = changes
+        .iter()
+        .filter(|change| matches!(change, Change::Put { .. }))
+        .count();
+    (puts, changes.len().saturating_sub(puts))
+}

@@ -1,5 +1,0 @@
-use Rattle.std.proofs.Common.{◌+◌, ◌≤◌}
-use Rattle.word_cases.proofs.run.Given as goal
-
-abbrev pub invariant-loop-step : goal.invariant-loop-step
-invariant-loop-step g l = l.stand ≤ l.count + l.step-index

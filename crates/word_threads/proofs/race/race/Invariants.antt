@@ -1,6 +1,0 @@
-use Rattle.std.proofs.Common.{[], replicate}
-use Rattle.word_threads.proofs.race.race.Given as goal
-
--- as many empty entries as the count says
-abbrev pub ghosts-new : goal.ghosts-new
-ghosts-new g a = record { list = replicate a.count [] }

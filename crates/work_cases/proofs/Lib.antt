@@ -1,2 +1,0 @@
-pub mod AnchorFits
-pub mod Distinct

@@ -1,4 +1,0 @@
-pub mod Clear
-pub mod Following
-pub mod Names
-pub mod Planned
