@@ -61,7 +61,8 @@ impl Config {
     ghost use Rattle.authority_book.specs.Verdict.{IsAccepted, most_authorities, most_children, most_origins};
     ghost use Rattle.authority_book.specs.Fold.{empty_settings, after, fold_of, needs, Taken};
 
-    /// The configuration of a desk before its first command.
+    /// The configuration of a desk before its first command. Desks are numbered from 0, which is
+    /// the trust anchor's.
     pub fn new(alloc: Global, desk: u32) -> Result<Config, AllocError>
         ensures { IfOk result (λ config. config.settings ≡ empty_settings desk) }
     {

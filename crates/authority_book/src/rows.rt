@@ -10,6 +10,7 @@ use std::alloc::{AllocError, Global};
 #[derive(Clone, Copy, Debug, PartialEq, Eq)]
 pub struct NameRow {
     pub name: Name,
+    /// The signer of its keys, numbered from 0.
     pub signer: u32,
 }
 

@@ -28,7 +28,7 @@ const MOST_ORIGINS: u64 = 1024;
 
 /// The verdict on a command where `signers` signers are at hand: the first refusal that holds.
 ///
-/// It takes no memory.
+/// It takes no memory. Signers are numbered from 0.
 pub fn verdict(config: &Config, command: &Command, signers: u32) -> Result<(), Refusal>
     ensures verdict { result ≡ verdict_of config.now.settings command.now (Some signers) }
     ensures accepted { OnOk result (IsAccepted config.now.settings command.now) }

@@ -95,11 +95,12 @@ fn subject(alloc: Global, part: Part<'_>, issuer: &[u8; 20]) -> Result<SubjectRe
     Ok(SubjectRead { id, key, extended })
 }
 
-/// What stands behind the issuer's name (RFC 6487 sections 4.5 to 4.8). Times are seconds since
-/// 1970.
+/// What stands behind the issuer's name (RFC 6487 sections 4.5 to 4.8).
 #[derive(Drop)]
 pub struct BodyRead {
+    /// Seconds since 1970 (RFC 6487 section 4.6.1).
     pub not_before: u64,
+    /// Seconds since 1970 (RFC 6487 section 4.6.2).
     pub not_after: u64,
     pub subject: SubjectRead,
 }

@@ -27,5 +27,5 @@ pub const ORIGIN_SIZE: usize = 23;
 /// How many bytes a range has.
 pub const RANGE_SIZE: usize = 32;
 
-/// The greatest length of a name.
+/// The greatest length of a name, in bytes.
 pub const NAME_LEN: u32 = 64;

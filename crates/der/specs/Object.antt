@@ -1,4 +1,4 @@
--- A whole object.
+-- A whole object (X.690 section 8.1).
 use Rattle.std.specs.Prelude.{◌≡◌, ℕ, ◌+◌, ◌<◌, ◌≤◌, ◌^◌, nat_lt, List, ◌++◌, length, take, Result, Err, ⊤, if◌then◌else◌}
 use Rattle.der.specs.Grammar.{AreBytes}
 use Rattle.der.specs.declared.shape_fault.ShapeFault.{ShapeFault}

@@ -1,4 +1,4 @@
-//! Why an element could not be read.
+//! Why an element could not be read (X.690 section 8.1).
 
 use thiserror::Error;
 

@@ -1,4 +1,5 @@
--- The moment of the next edition, and the numbers that can't count further.
+-- The moment of the next edition, and the numbers that can't count further. Moments are in
+-- seconds since 1970.
 use Rattle.std.specs.Prelude.{ℕ, ◌+◌, ◌^◌, ◌<◌, ◌||◌, Bool, max, nat_lt, nat_le, find, All}
 use Rattle.std.specs.Prelude.{List, [], ◌∷◌, Option, None, Some, if◌then◌else◌}
 use Rattle.std.specs.List.{flat_map}

@@ -13,9 +13,10 @@ use key_roll::KeyRow;
 use signer_api::PublicKey;
 use std::alloc::{AllocError, Global};
 
-/// A key that ended, and the signer that holds it. Signers are numbered from 0.
+/// A key that ended, and the signer that holds it.
 #[derive(Clone, Copy, Debug, PartialEq, Eq)]
 pub struct EndedKey {
+    /// Numbered from 0.
     pub signer: u32,
     pub key: PublicKey,
 }

@@ -3,9 +3,10 @@
 use authority_book::Command;
 use items::Items;
 
-/// Commands of a desk that an edition takes in. Desks are numbered from 0.
+/// Commands of a desk that an edition takes in.
 #[derive(Drop)]
 pub struct Gathered {
+    /// Numbered from 0, which is the trust anchor's.
     pub desk: u32,
     /// How many commands of the desk came before them.
     pub from: u64,

@@ -1,4 +1,4 @@
-//! Who gets number resources from whom.
+//! Who gets number resources from whom (RFC 6492 section 3.3).
 
 ghost use Rattle.std.specs.Prelude.{◌≡◌, ◌≤◌, length, option_map};
 ghost use Rattle.authority_book.specs.Listed as listed;

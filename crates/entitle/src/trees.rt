@@ -1,4 +1,4 @@
-//! Certified sets and owed origins.
+//! Certified sets and owed origins (RFC 6487 section 7.2, RFC 9582 section 5).
 
 use origins::Origin;
 use res_sets::Resources;

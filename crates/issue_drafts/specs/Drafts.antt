@@ -1,4 +1,4 @@
--- Which objects an edition makes, where, and with which serials.
+-- Which objects an edition makes, where, and with which serials (RFC 6487, RFC 9582, RFC 9286).
 use Rattle.std.specs.Prelude.{ℕ, ◌+◌, Bool, true, false, ◌&&◌, List, ◌++◌, count_by}
 use Rattle.std.specs.Prelude.{Option, option_map, option_and_then, IsPermutation}
 use Rattle.std.specs.List.{filter_map}

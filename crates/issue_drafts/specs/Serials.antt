@@ -1,4 +1,4 @@
--- The serials that an edition gives.
+-- The serials that an edition gives (RFC 5280 section 4.1.2.2).
 use Rattle.std.specs.Prelude.{ℕ, if◌then◌else◌, List}
 use Rattle.issue_drafts.specs.Drafts.{Draft, has_serial, serial_at}
 

@@ -17,7 +17,7 @@ use names::Name;
 use pub_set::Uri;
 use std::alloc::{AllocError, Global};
 
-/// The name of a desk's authority.
+/// The name of a desk's authority. Desks are numbered from 0.
 pub fn name_of(names: &[NameRow], desk: u32) -> Name
     requires { desk < length names.now }
     ensures { result ≡ name_at names.now desk }

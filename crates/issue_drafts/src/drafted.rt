@@ -1,4 +1,4 @@
-//! The draft of each object that the work asks for.
+//! The draft of each object that the work asks for (RFC 6487, RFC 9582, RFC 9286).
 
 ghost use Rattle.std.specs.Prelude.{◌≡◌, IfOk, IfSome, Option, option_map};
 ghost use Rattle.issue_drafts.specs.Finding.{Keys, key_named};

@@ -1,5 +1,6 @@
-//! The objects of an edition before they are signed: where its keys publish, where each object is to stand, its
-//! issuer and serial, and what each publication point lists.
+//! The objects of an edition before they are signed: where its keys publish (RFC 6481 section 2),
+//! where each object is to stand, its issuer and serial (RFC 5280 section 4.1.2.2), and what each
+//! publication point lists (RFC 9286 section 4.2.1).
 #![tactic(auto)]
 
 mod certificates;

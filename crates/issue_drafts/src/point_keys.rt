@@ -1,4 +1,4 @@
-//! Which keys get a new CRL and manifest.
+//! Which keys get a new CRL and manifest (RFC 9286 section 5.1).
 
 ghost use Rattle.std.specs.Prelude.{◌≡◌, ◌≢◌, All, AllPairs, map, IsPermutation, IfOk};
 ghost use Rattle.issue_keys.specs.Keys.{id_of};

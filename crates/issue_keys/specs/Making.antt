@@ -1,4 +1,4 @@
--- The making of an edition's new keys.
+-- The making of an edition's new keys (RFC 6489 section 2).
 use Rattle.std.specs.Prelude.{◌≡◌, ℕ, Bool, true, false, List, [], ◌∷◌, ◌++◌, map, ◌⊎◌}
 use Rattle.std.specs.List.{list_any}
 use Rattle.std.specs.Str.{bytes_eq}

@@ -10,10 +10,11 @@ use std::alloc::AllocError;
 use std::cmp::Ordering;
 use std::marker::Model;
 
-/// A place under a key. The place is an index in the list that is indexed.
+/// A place under a key.
 #[derive(Clone, Copy, Debug, PartialEq, Eq)]
 pub struct Placed {
     pub key: KeyId,
+    /// An index from 0 in the list whose items are found by it.
     pub place: usize,
 }
 

@@ -1,4 +1,5 @@
-//! The keys of an edition: those that it makes, those that stay, and how they are found by their identifiers.
+//! The keys of an edition: those that it makes, those that stay (RFC 6489 section 2), and how they
+//! are found by their identifiers (RFC 6487 section 4.8.2).
 #![tactic(auto)]
 
 mod entries;

@@ -1,4 +1,4 @@
-//! The making of an edition's objects.
+//! The making of an edition's objects (RFC 6487 section 4, RFC 5280 section 5, RFC 6488 section 2).
 
 ghost use Rattle.std.specs.Prelude.{List, ℕ, length, IfOk, IfErr};
 ghost use Rattle.signer_ring.specs.Ring.{Keeps};

@@ -1,4 +1,5 @@
--- The work of an edition: exactly what is wanted and doesn't stand already, and what has to go.
+-- The work of an edition: exactly what is wanted and doesn't stand already, and what has to go
+-- (RFC 6481 section 2).
 use Rattle.std.specs.Prelude.{◌≡◌, Bool, false, not, List, filter, map, Option, None, Some, if◌then◌else◌}
 use Rattle.std.specs.List.{filter_map, list_any}
 use Rattle.std.specs.Str.{bytes_eq}

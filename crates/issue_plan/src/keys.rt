@@ -19,28 +19,29 @@ use std::alloc::{AllocError, Global};
 /// A key that an authority has in the next edition.
 #[derive(Clone, Copy)]
 pub struct NextKey {
-    /// The authority's desk.
+    /// The authority's desk, numbered from 0.
     pub desk: u32,
-    /// The signer that holds the key, or is to make it.
+    /// The signer that holds the key, or is to make it, numbered from 0.
     pub signer: u32,
     pub name: KeyName,
     pub role: Role,
-    /// As in the key's row.
+    /// As in the key's row, in seconds since 1970.
     pub since: u64,
-    /// As in the key's row.
+    /// As in the key's row: how many rollovers are done.
     pub done: u32,
     /// Whether a live key has another role, `since` or `done` than before.
     pub is_changed: bool,
 }
 
-/// What an authority asks of its keys: its desk, the number of its signer, how many rollovers it was
-/// told to begin and to activate, and the moment. In seconds since 1970.
+/// What an authority asks of its keys: its desk and its signer, numbered from 0, how many rollovers it
+/// was told to begin and to activate, and the moment.
 #[derive(Clone, Copy)]
 pub struct Asked {
     pub desk: u32,
     pub signer: u32,
     pub inits: u32,
     pub activates: u32,
+    /// In seconds since 1970.
     pub moment: u64,
 }
 

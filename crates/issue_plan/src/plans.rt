@@ -1,4 +1,4 @@
-//! The work of an edition.
+//! The work of an edition (RFC 6481 section 2, RFC 6489 section 2).
 
 ghost use Rattle.std.specs.Prelude.{◌≡◌, map, filter, IfOk};
 ghost use Rattle.std.specs.List.{filter_map};
@@ -97,10 +97,10 @@ fn dropped(alloc: Global, keys: &[NextKey], rows: &[KeyRow]) -> Result<Vec<KeyId
 /// Keys and points are in the order of the desks and of the roles, ROAs in that of the desks and of
 /// the origins, what is withdrawn and the keys that end in that in which they are given.
 ///
-/// Of what stands before the edition `rows` has the live keys, by desk and role, and `issued` the
-/// objects. `configs` has a configuration for each desk, of which the first is the trust anchor's,
-/// `tree` a set for each desk, and `owed` the origins by desk. `site` is where all of it is
-/// published, and `moment` in seconds since 1970.
+/// Of what stands before the edition `rows` has the live keys, and `issued` the objects. `configs` has
+/// the desks' configurations in the order of the desks, the trust anchor's first, `tree` a set for
+/// each name, and `owed` the origins with their desks. `site` is where all of it is published, and
+/// `moment` is in seconds since 1970.
 pub fn plan(
     alloc: Global,
     rows: &[KeyRow],

@@ -1,4 +1,4 @@
--- The calls on signers that an edition makes, in their order.
+-- The calls on signers that an edition makes, in their order (RFC 7935 section 2).
 use Rattle.std.specs.Prelude.{ℕ, List, [], map, Option, None, Some}
 use Rattle.std.specs.List.{filter_map}
 use Rattle.cert_obj.specs.Formats as certificates

@@ -1,4 +1,5 @@
--- The bytes of an edition's objects, and what is signed for them.
+-- The bytes of an edition's objects, and what is signed for them (RFC 5280 sections 4.1 and 5.1,
+-- RFC 6488 section 2).
 use Rattle.std.specs.Prelude.{ℕ, ◌+◌, if◌then◌else◌, List, []}
 use Rattle.origins.specs.declared.Origin.{Origin}
 use Rattle.res_sets.specs.declared.holdings.Resources.{Resources}

@@ -83,7 +83,7 @@ fn roa_content(alloc: Global, origin: &Origin) -> Result<Vec<u8>, AllocError>
     body.write(alloc)
 }
 
-/// What is signed first for a draft.
+/// What is signed first for a draft. Only a certificate has `serial` in it.
 pub fn unsigned_object(
     alloc: Global,
     edition: &Edition<'_>,

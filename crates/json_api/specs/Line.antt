@@ -1,4 +1,4 @@
--- What a line says: the table, over the value that `serde_json` reads.
+-- What a line says: the table, over the value that `serde_json` reads (RFC 8259 section 4).
 use Rattle.std.specs.Prelude.{◌≡◌, ℕ, ◌<◌, ◌≤◌, ◌^◌, ◌⊎◌, List, [], ◌∷◌, length, codes, Bool, true, ◌&&◌, ◌||◌, Option, Some, None, IsSomeAnd, ⊤, IsUtf8, Result, Err, option_and_then}
 use Rattle.std.specs.Str.{bytes_eq}
 use Rattle.serde_json.specs.Data.{Data, Items, no_items, item, Members, no_members, member}

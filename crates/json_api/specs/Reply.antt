@@ -1,4 +1,4 @@
--- The texts of the replies: compact JSON, the members in byte order.
+-- The texts of the replies: compact JSON, the members in byte order (RFC 8259 section 4).
 use Rattle.std.specs.Prelude.{ℕ, List, ◌++◌, codes, decimal}
 use Rattle.json.specs.Print.{quoted}
 use Rattle.json_api.specs.declared.reply.Published.{Published}

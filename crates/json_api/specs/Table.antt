@@ -1,4 +1,4 @@
--- The table of lines: a row for each `command`, and what an object is by it.
+-- The table of lines: a row for each `command`, and what an object is by it (RFC 8259 section 4).
 use Rattle.std.specs.Prelude.{ℕ, ◌==◌, List, [], ◌∷◌, map, Bool, false, ◌||◌, Option, Some, None, Result, Ok, Err, codes, if◌then◌else◌}
 use Rattle.serde_json.specs.Data.{Data, Members, no_members, member}
 use Rattle.serde_json.specs.Find.{as_object}

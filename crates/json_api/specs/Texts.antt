@@ -1,4 +1,5 @@
--- The texts of the replies that tell of authorities: compact JSON, the members in byte order.
+-- The texts of the replies that tell of authorities: compact JSON, the members in byte order (RFC
+-- 8259 section 4).
 use Rattle.std.specs.Prelude.{ℕ, ◌+◌, Bool, true, false, List, [], ◌∷◌, ◌++◌, map, Option, None, Some, codes, decimal}
 use Rattle.json.specs.Print.{quoted}
 use Rattle.res_sets.specs.declared.holdings.Resources.{Resources}

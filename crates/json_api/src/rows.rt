@@ -1,4 +1,5 @@
-//! The rows of the table: each takes its fields out of the slots, and makes a line of them.
+//! The rows of the table: each takes its fields out of the slots, and makes a line of them (RFC
+//! 8259 section 4).
 
 ghost use Rattle.std.specs.Prelude.{◌≡◌, ◌≢◌, Err, OnOk};
 ghost use Rattle.json_api.specs.Table.{anchor, fields_of, line_at};

@@ -1,4 +1,4 @@
-//! What a line's members hold, field by field.
+//! What a line's members hold, field by field (RFC 8259 section 4).
 
 ghost use Rattle.std.specs.Prelude.{◌≡◌, ◌≢◌, [], ℕ, ◌<◌, Err, Some, None, slice_set, get_or, length};
 ghost use Rattle.json_api.specs.Names.{name_of, place_of, field_named};

@@ -31,7 +31,7 @@ pub fn is_role(role: Role, other: Role) -> bool
 /// A live key of an authority.
 #[derive(Debug, Drop)]
 pub struct KeyRow {
-    /// The authority's desk. The trust anchor has desk 0.
+    /// The authority's desk. Numbered from 0, which is the trust anchor's.
     pub desk: u32,
     /// The signer that holds the key. Signers are numbered from 0.
     pub signer: u32,

@@ -1,4 +1,5 @@
-//! The work of an edition.
+//! The work of an edition. Keys come and go as RFC 6489 section 2 has it, and each has what RFC
+//! 6481 section 2.2 wants published.
 
 use crate::rows::Role;
 use items::Items;
@@ -40,12 +41,12 @@ pub enum KeyName {
 /// A key to make for an authority.
 #[derive(Clone, Copy, Debug, PartialEq, Eq)]
 pub struct NewKey {
-    /// The authority's desk.
+    /// The authority's desk, numbered from 0.
     pub desk: u32,
     /// The signer that is to make it. Signers are numbered from 0.
     pub signer: u32,
     pub role: Role,
-    /// As in the key's row.
+    /// As in the key's row, in seconds since 1970.
     pub since: u64,
     /// As in the key's row.
     pub done: u32,
@@ -56,7 +57,7 @@ pub struct NewKey {
 pub struct RoleWork {
     pub key: KeyId,
     pub role: Role,
-    /// As in the key's row.
+    /// As in the key's row, in seconds since 1970.
     pub since: u64,
     /// As in the key's row.
     pub done: u32,

@@ -1,4 +1,4 @@
-//! The text of a moment.
+//! The text of a moment (RFC 5280 section 4.1.2.5).
 
 ghost use Rattle.std.specs.Prelude.{◌≡◌, ◌+◌, ◌/◌, ◌%◌, ◌<◌, ◌≤◌, ◌↔◌, Bool, true, false, take, drop, [], ◌∷◌, IsTrue, if◌then◌else◌};
 ghost use Rattle.moments.specs.Civil.{IsCivil, IsMoment};
@@ -124,7 +124,8 @@ fn utc_text(seconds: u64) -> TimeText
     }
 }
 
-/// The time of a certificate or a CRL: UTCTime through 2049, and GeneralizedTime later.
+/// The time of a certificate or a CRL: UTCTime through 2049, and GeneralizedTime later (RFC 5280
+/// section 4.1.2.5). The moment is in seconds since 1970.
 pub fn cert_time(seconds: u64) -> TimeText
     requires { IsMoment seconds }
     ensures general { result.general ≡ is_general seconds }
@@ -138,7 +139,7 @@ pub fn cert_time(seconds: u64) -> TimeText
     }
 }
 
-/// The moment as a GeneralizedTime.
+/// The moment, in seconds since 1970, as a GeneralizedTime (RFC 5280 section 4.1.2.5.2).
 pub fn general(seconds: u64) -> TimeText
     requires { IsMoment seconds }
     ensures general { IsTrue result.general }

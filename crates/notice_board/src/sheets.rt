@@ -22,7 +22,7 @@ pub struct Sheet {
 /// What an edition says of an authority.
 #[derive(Debug, Drop)]
 pub struct SheetRow {
-    /// The authority's desk. The trust anchor has desk 0.
+    /// The authority's desk. Numbered from 0, which is the trust anchor's.
     pub desk: u32,
     /// The resources that the authority is certified for.
     pub certified: Resources,

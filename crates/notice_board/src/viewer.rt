@@ -66,7 +66,7 @@ impl Viewer {
         self.serial
     }
 
-    /// The row of that desk on the sheet that is shown.
+    /// The row of that desk on the sheet that is shown. Desks are numbered from 0.
     pub fn row(&mut self, alloc: Global, desk: u32) -> Result<SheetRow, AllocError>
         ensures seen { IsPrefix self.old self.new }
         ensures never_falls { last_serial self.old ≤ last_serial self.new }

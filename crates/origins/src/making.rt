@@ -24,7 +24,8 @@ impl Prefix {
 }
 
 impl Origin {
-    /// The origin of these, if the maximum lies between the prefix's length and the family's.
+    /// The origin of these, if the maximum lies between the prefix's length and the family's. `max`
+    /// is in bits, `asn` the number of the AS.
     pub fn new(prefix: Prefix, max: u8, asn: u32) -> Option<Origin>
         ensures { MatchOption result (¬ IsMaximum prefix.v6 prefix.length max)
             (λ origin. (origin.prefix ≡ prefix) × (origin.max ≡ max) × (origin.asn ≡ asn)) }

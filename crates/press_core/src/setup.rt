@@ -32,6 +32,7 @@ use std::alloc::{AllocError, Global};
 /// its commands are taken in.
 #[derive(Drop)]
 pub struct EditionInput {
+    /// In seconds since 1970.
     pub moment: u64,
     pub cut: Vec<u64>,
     pub configs: Vec<Config>,

@@ -1,4 +1,4 @@
--- Sets of objects: lists by rising URI, read as maps from URIs to bytes.
+-- Sets of objects: lists by rising URI, read as maps from URIs to bytes (RFC 8181 section 2.2).
 use Rattle.std.specs.Prelude.{◌≡◌, ℕ, ◌<◌, ◌≤◌, Bool, if◌then◌else◌, List, [], ◌∷◌}
 use Rattle.std.specs.Prelude.{length, take, drop, slice_index_or}
 use Rattle.std.specs.Prelude.{Option, None, Some, Result, Ok, Err}

@@ -1,4 +1,4 @@
-//! Overlays carried out on the list of objects.
+//! Overlays carried out on the list of objects (RFC 8181 section 2.2).
 
 ghost use Rattle.std.specs.Prelude.{◌≡◌, ◌+◌, ◌<◌, ◌≤◌, ◌++◌, [], ℕ, List, OnOk, OnErr};
 ghost use Rattle.std.specs.Vec.{vec_capacity, vec_len};

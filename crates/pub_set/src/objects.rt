@@ -1,4 +1,4 @@
-//! Sets of objects by URI.
+//! Sets of objects by URI. A query of changes is RFC 8181's (section 2.2).
 
 ghost use Rattle.std.specs.Prelude.{◌≡◌, ◌↔◌, ◌++◌, ◌∷◌, [], length, option_copied, None, IsTrue, IfOk, IfErr, OnOk, OnErr};
 ghost use Rattle.pub_set.specs.Objects.{content_at, uri_cmp, IsAscending, IsBehind, IsPlace};

@@ -10,19 +10,21 @@ use sha2::{Digest, Sha256};
 use std::alloc::{AllocError, AllocFailed};
 use thiserror::Error;
 
-/// The URI doesn't begin with the publisher's base.
+/// The URI doesn't begin with the publisher's base (RFC 8181, section 2.5: `permission_failure`).
 pub const PERMISSION_FAILURE: u32 = 1;
 
-/// An object is put without a hash, and one is there.
+/// An object is put without a hash, and one is there (RFC 8181, section 2.5:
+/// `object_already_present`).
 pub const OBJECT_ALREADY_PRESENT: u32 = 2;
 
-/// A hash is given, and no object is there.
+/// A hash is given, and no object is there (RFC 8181, section 2.5: `no_object_present`).
 pub const NO_OBJECT_PRESENT: u32 = 3;
 
-/// Another hash is given than that of the object that is there.
+/// Another hash is given than that of the object that is there (RFC 8181, section 2.5:
+/// `no_object_matching_hash`).
 pub const NO_OBJECT_MATCHING_HASH: u32 = 4;
 
-/// Why a query is refused.
+/// Why a query is refused (RFC 8181, section 2.5).
 #[derive(Debug, Drop, Error)]
 pub enum QueryRefused {
     /// The code of the first faulty change, and its URI.

@@ -1,4 +1,4 @@
-//! The element that is all the bytes.
+//! The element that is all the bytes (X.690 section 8.1).
 
 ghost use Rattle.std.specs.Prelude.{◌≡◌};
 ghost use Rattle.std.specs.Option.{option_map};

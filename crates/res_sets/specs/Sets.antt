@@ -1,4 +1,4 @@
--- Sets of numbers of one family, said of their members.
+-- Sets of numbers of one family, said of their members (RFC 3779 sections 2 and 3).
 use Rattle.std.specs.Prelude.{◌≡◌, ℕ, ◌<◌, ◌≤◌, Bool, ◌&&◌, ◌||◌, not, nat_lt, IsTrue, List, [], ◌∷◌, ◌++◌}
 use Rattle.res_sets.specs.declared.numbers.Family.{Family}
 use Rattle.res_sets.specs.declared.numbers.Range.{Range}

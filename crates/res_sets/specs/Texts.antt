@@ -1,4 +1,5 @@
--- What the texts of sets spell.
+-- What the texts of sets spell. AS numbers are written as RFC 5396 has them, IPv6 addresses as
+-- RFC 4291 section 2.2 does.
 use Rattle.std.specs.Prelude.{◌≡◌, ℕ, ◌++◌, ◌<◌, Result, Ok, Err, List, [], ◌∷◌, zero, suc, ⊤}
 use Rattle.std.specs.Bool.{MatchBool}
 use Rattle.std.specs.List.{list_any, before_first, after_first}

@@ -1,4 +1,4 @@
-//! Texts of sets, printed.
+//! Texts of sets, printed (RFC 5396, RFC 5952 section 4).
 
 ghost use Rattle.std.specs.Prelude.{◌≡◌, ℕ, ◌++◌, ◌^◌, ◌<◌, ◌≤◌, codes, if◌then◌else◌, IsTrue, IfOk, OnOk};
 ghost use Rattle.std.specs.String.{string_bytes};

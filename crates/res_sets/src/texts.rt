@@ -1,4 +1,5 @@
-//! Texts of sets: blocks separated by commas.
+//! Texts of sets: blocks separated by commas. AS numbers are written as RFC 5396 has them, IPv6
+//! addresses as RFC 4291 section 2.2 does.
 
 ghost use Rattle.std.specs.Prelude.{◌≡◌, ◌≢◌, ℕ, ◌^◌, ◌<◌, ◌≤◌, List, IfOk, OnOk, IfErr};
 ghost use Rattle.ip_text.specs.Reader.{Reads};

@@ -1,4 +1,4 @@
--- What an audit answers.
+-- What an audit answers (RFC 6487 section 7, RFC 9286 section 6).
 use Rattle.std.specs.Prelude.{◌≡◌, ℕ, List, Result, Ok, Err, ⊤}
 use Rattle.key_ids.specs.Uris.{Bases}
 use Rattle.pub_set.specs.declared.objects.Object.{Object}

@@ -40,6 +40,7 @@ pub fn names_issuer(issuer: &Authority, cert: &Cert) -> bool
     are_same(&cert.issuer.bytes, &issuer.id.bytes)
 }
 
+/// Whether the moment, in seconds since 1970, lies in the validity (RFC 5280 section 4.1.2.5).
 pub fn is_valid_at(moment: u64, cert: &Cert) -> bool
     ensures { result ≡ is_valid_at moment (cert_value cert.now) }
 {

@@ -1,4 +1,4 @@
-//! Why a set isn't sound.
+//! Why a set isn't sound (RFC 6487 section 7, RFC 9286 section 6).
 
 ghost use Rattle.std.specs.Prelude.{◌≡◌};
 ghost use Rattle.rp_rules.specs.Checks.{found};

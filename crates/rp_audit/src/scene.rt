@@ -18,13 +18,13 @@ use sha2::{Digest as Hasher, Sha256};
 use signer_api::PublicKey;
 use std::alloc::Global;
 
-/// A set, the site that it is of, the anchor's key, and the moment. The moment is in seconds since
-/// 1970.
+/// A set, the site that it is of, the anchor's key, and the moment.
 #[derive(Clone, Copy)]
 pub struct Scene<'a> {
     pub set: &'a ObjectSet,
     pub site: &'a Site,
     pub anchor: &'a PublicKey,
+    /// In seconds since 1970.
     pub moment: u64,
 }
 

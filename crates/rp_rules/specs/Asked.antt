@@ -1,4 +1,5 @@
--- The signatures of a set that a walk may ask for, each under the key by which it is asked.
+-- The signatures of a set that a walk may ask for, each under the key by which it is asked (RFC
+-- 6487 section 7.2, RFC 6488 section 3).
 use Rattle.std.specs.Prelude.{◌≡◌, ℕ, List, [], ◌∷◌, ◌++◌, Option, None, Some, map, ◌⊎◌}
 use Rattle.std.specs.List.{Contains, flat_map}
 use Rattle.key_ids.specs.Uris.{anchor_uri}

@@ -1,4 +1,4 @@
--- The numbers and the names of the rules.
+-- The numbers and the names of the rules (RFC 6487 section 7, RFC 9286 section 6).
 use Rattle.std.specs.Prelude.{ℕ, List, codes}
 use Rattle.rp_rules.specs.declared.rules.Rule.{Rule}
 use Rattle.rp_rules.specs.declared.rules.Rule.TheVariants as rule

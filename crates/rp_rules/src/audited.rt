@@ -59,7 +59,7 @@ impl Audited {
     ghost use Rattle.rp_rules.specs.Views.{yielded_values, point_values};
     ghost use Rattle.rp_rules.specs.Sound.{IsAudit};
 
-    /// What was found of a sound set.
+    /// What was found of a sound set. `objects` is how many objects it has.
     pub fn of_sound(origins: Vec<YieldedOrigin>, points: Vec<AuditedPoint>, objects: u64) -> Audited
         requires { IsAudit (record {
           origins = yielded_values origins.items;

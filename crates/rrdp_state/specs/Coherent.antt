@@ -1,4 +1,4 @@
--- When whoever fetches the files finds what the notification names.
+-- When whoever fetches the files finds what the notification names (RFC 8182 section 3.4).
 use Rattle.std.specs.Prelude.{◌≡◌, ◌⊎◌, ℕ, List, [], ◌∷◌, drop, Some, None}
 use Rattle.std.specs.List.{AllByRecursion}
 use Rattle.sha2.specs.Sha256.{sha256}

@@ -1,4 +1,5 @@
--- Editions of a repository, the newest first, and the snapshot and the delta of each.
+-- Editions of a repository, the newest first, and the snapshot and the delta of each (RFC 8182
+-- section 3.3.2).
 use Rattle.std.specs.Prelude.{ℕ, zero, suc, ◌+◌, ◌==◌, List, [], ◌∷◌, ◌++◌, length, Option, None, Some, if◌then◌else◌}
 use Rattle.pub_set.specs.declared.objects.Object.{Object}
 use Rattle.pub_set.specs.declared.steps.Change.{Change}

@@ -1,4 +1,5 @@
--- The notification of editions, and what an export of the newest one does.
+-- The notification of editions, and what an export of the newest one does (RFC 8182 section
+-- 3.3.2).
 use Rattle.std.specs.Prelude.{◌≡◌, ◌≢◌, ℕ, ◌+◌, Bool, ◌==◌, ◌&&◌, not, false, List, [], ◌∷◌, ◌++◌, length, drop, take, map, filter, if◌then◌else◌}
 use Rattle.std.specs.List.{list_any, AllByRecursion}
 use Rattle.sha2.specs.Sha256.{sha256}

@@ -1,4 +1,4 @@
--- What is kept of editions for the next one and for their export.
+-- What is kept of editions for the next one and for their export (RFC 8182 section 3.3).
 use Rattle.std.specs.Prelude.{◌≡◌, ◌+◌, List, [], ◌∷◌, length, drop, None, Some}
 use Rattle.rrdp_state.specs.Editions.{Edition, FollowEachOther, edition_texts}
 use Rattle.rrdp_state.specs.Named.{named_deltas}

@@ -25,6 +25,7 @@ pub struct DeltaRef {
 #[derive(Debug, Drop)]
 pub struct SnapshotFile {
     pub session: Uuid,
+    /// The serial of its edition.
     pub serial: u64,
     pub set: ObjectSet,
 }
@@ -33,6 +34,7 @@ pub struct SnapshotFile {
 #[derive(Debug, Drop)]
 pub struct DeltaFile {
     pub session: Uuid,
+    /// The serial of the edition to which it leads.
     pub serial: u64,
     pub changes: Changes,
 }

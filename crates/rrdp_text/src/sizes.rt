@@ -1,5 +1,5 @@
-//! How long the texts are, in bytes, so that each is written into memory reserved once. None where a
-//! length passes 64 bits.
+//! How long the texts are, in bytes, so that each is written into memory reserved once. None where a length passes
+//! 64 bits. The texts are those of RFC 8182 section 3.5.
 
 use crate::files::{DeltaRef, FileRef};
 use base64::encoded_len;

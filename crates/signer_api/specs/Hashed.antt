@@ -1,4 +1,5 @@
 -- Keys and signatures that are made of hashes. They have the form of RSA's and not its strength.
+-- What RSA keys are, RFC 7935 section 3 says.
 use Rattle.std.specs.Prelude.{ℕ, zero, suc, List, [], ◌∷◌, ◌++◌, bit_or, slice_index, slice_set}
 use Rattle.std.specs.Int.{w64, to_be_bytes}
 use Rattle.sha2.specs.Sha256.{sha256}

@@ -51,7 +51,7 @@ impl<S: Signer> Ring<S> {
         signers
     }
 
-    /// Makes a key with one signer, which keeps it.
+    /// Makes a key with one signer, which keeps it. Signers are numbered from 0.
     pub fn make_key(&mut self, alloc: Global, signer: u32) -> Result<PublicKey, RingFault>
         ensures called { CallsOne (λ key. with_key key.bytes) signer result self.old self.new }
         ensures kept { Keeps self.old self.new }
@@ -88,7 +88,8 @@ impl<S: Signer> Ring<S> {
         )
     }
 
-    /// Signs a digest with a new key of one signer, which doesn't keep it.
+    /// Signs a digest with a new key of one signer, which doesn't keep it. Signers are numbered
+    /// from 0.
     pub fn sign_once(
         &mut self,
         alloc: Global,
@@ -139,7 +140,8 @@ impl<S: Signer> Ring<S> {
         Ok(false)
     }
 
-    /// Drops a key of one signer, if it holds it. Nothing where there is no such signer.
+    /// Drops a key of one signer, if it holds it. Nothing where there is no such signer. Signers
+    /// are numbered from 0.
     pub fn drop_key(&mut self, signer: u32, key: &PublicKey)
         ensures absent { length self.old ≤ signer → self.new ≡ self.old }
         ensures dropped { signer < length self.old → ChangesOne signer (DropsKey key.now.bytes) self.old self.new }
