@@ -14,7 +14,7 @@ use Rattle.issue_make.specs.declared.outcome.Made.{Made}
 use Rattle.issue_plan.specs.Keys.{next_keys}
 use Rattle.issue_plan.specs.Wanted.{PlanInput}
 use Rattle.issue_plan.specs.Work as plan
-use Rattle.issue_make.specs.Work as making
+use Rattle.issue_make.specs.CanMake as making
 use Rattle.issue_make.specs.Made.{IsMade, calls_of}
 use Rattle.editions.specs.Names.{AreTree}
 use Rattle.editions.specs.Edition.{Edition, state_after, set_after}

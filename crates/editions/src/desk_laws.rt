@@ -11,12 +11,12 @@ ghost use Rattle.pub_set.specs.Objects.{found_at};
 ghost use Rattle.issue_values.specs.Bodies.{AreRevoked};
 ghost use Rattle.issue_drafts.specs.Finding.{Keys};
 ghost use Rattle.issue_drafts.specs.Certificates.{IssueInput};
-ghost use Rattle.issue_make.specs.Outcome.{AreKeys};
+ghost use Rattle.issue_make.specs.Trace.{AreKeys};
 ghost use Rattle.issue_plan.specs.Keys.{Basis, next_keys};
 ghost use Rattle.issue_plan.specs.Wanted.{PlanInput};
 ghost use Rattle.issue_plan.specs.Work.{IsWork, IsPlan};
-ghost use Rattle.issue_make.specs.Plans.{puts};
-ghost use Rattle.issue_make.specs.Work.{IsCertified};
+ghost use Rattle.issue_make.specs.ObjectPlan.{puts};
+ghost use Rattle.issue_make.specs.CanMake.{IsCertified};
 ghost use Rattle.editions.specs.Names.{AreTree};
 ghost use Rattle.editions.specs.inner.PlannedWork.{AreThere, AreOfDesks, NamesAreOf, AreApart, AreNamed};
 

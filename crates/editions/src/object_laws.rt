@@ -11,7 +11,7 @@ ghost use Rattle.pub_set.specs.declared.steps.Change.{Change};
 ghost use Rattle.pub_set.specs.Objects.{Rise};
 ghost use Rattle.pub_set.specs.Changes.{Contents, uri_of, change_at, after_all};
 ghost use Rattle.issue_drafts.specs.Certificates.{IssueInput};
-ghost use Rattle.issue_make.specs.Outcome.{
+ghost use Rattle.issue_make.specs.Trace.{
   IssuingTrace,
   AreKeys,
   IsIssuingTrace,

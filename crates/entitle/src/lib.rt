@@ -8,5 +8,6 @@ mod owing;
 mod trees;
 
 pub use certifying::certified;
-pub use owing::owed;
+pub use links::names_of;
+pub use owing::{is_certified, owed};
 pub use trees::{Owed, Tree};

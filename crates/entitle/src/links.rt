@@ -1,6 +1,7 @@
 //! Who gets number resources from whom (RFC 6492 section 3.3).
 
-ghost use Rattle.std.specs.Prelude.{◌≡◌, ◌≤◌, length, option_map};
+ghost use Rattle.std.specs.Prelude.{◌≡◌, ◌≤◌, All, length, option_map};
+ghost use Rattle.names.specs.Name.{IsName};
 ghost use Rattle.authority_book.specs.Listed as listed;
 ghost use Rattle.authority_book.specs.Verdict.{most_authorities};
 ghost use Rattle.entitle.specs.Certified as certified;
@@ -27,6 +28,7 @@ pub fn is_anchor(name: &Name) -> bool
 pub fn names_of(configs: &[Config]) -> &[NameRow]
     ensures names { result.now ≡ certified.names_of (certified.settings_of configs.now) }
     ensures limit { length result.now ≤ most_authorities }
+    ensures plain { All (λ row. IsName row.name) result.now }
 {
     match configs.first() {
         Some(anchor) => anchor.names(),

@@ -52,7 +52,7 @@ fn push_owed(
         × (owed.new.items ≡ owed.old.items ++ at_desk desk own)) }
 {
     for origin in origins {
-        if is_held(set, &origin.prefix) {
+        if is_certified(set, &origin.prefix) {
             owed.push(Owed {
                 desk,
                 origin: *origin,
@@ -62,8 +62,8 @@ fn push_owed(
     Ok(())
 }
 
-// Whether each address of the prefix is in the set.
-fn is_held(set: &Resources, prefix: &Prefix) -> bool
+/// Whether each address of the prefix is in the set.
+pub fn is_certified(set: &Resources, prefix: &Prefix) -> bool
     ensures { IsTrue result ↔ HasEach (has set.now) prefix.now }
 {
     let range = Range {

@@ -23,7 +23,7 @@ use Rattle.key_ids.specs.Uris.{Bases, anchor_uri, file_uri, cert_uri, crl_uri, m
 use Rattle.key_roll.specs.declared.work.CertWork.{CertWork}
 use Rattle.key_roll.specs.declared.work.RoaWork.{RoaWork}
 use Rattle.key_roll.specs.declared.work.PointWork.{PointWork}
-use Rattle.issue_values.specs.Publishing.{roa_uri}
+use Rattle.issue_values.specs.Publishers.{roa_uri}
 use Rattle.issue_keys.specs.Keys.{id_of}
 use Rattle.issue_drafts.specs.Finding.{Keys, key_named}
 use Rattle.issue_drafts.specs.Certificates.{IssueInput, is_key, name_at, made_uri}

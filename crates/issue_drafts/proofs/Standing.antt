@@ -10,7 +10,7 @@ use Rattle.key_roll.specs.declared.rows.KeyRow.{KeyRow}
 use Rattle.key_roll.specs.declared.work.CertWork.{CertWork}
 use Rattle.key_roll.specs.declared.work.KeyName.{KeyName}
 use Rattle.key_roll.specs.declared.work.KeyName.TheVariants.{Live, Fresh}
-use Rattle.issue_values.specs.Publishing.{Publishing, publishing}
+use Rattle.issue_values.specs.Publishers.{Publishing, publishing}
 use Rattle.issue_values.specs.declared.publishers.Publisher.{Publisher}
 use Rattle.issue_keys.specs.Keys.{id_of}
 use Rattle.issue_drafts.specs.Finding.{Keys, key_named, keys_at}

@@ -13,7 +13,7 @@ use Rattle.key_roll.specs.declared.issued.What.TheVariants.{Authority, Route, Po
 use Rattle.key_roll.specs.declared.work.Work.{Work}
 use Rattle.key_roll.specs.declared.work.CertWork.{CertWork}
 use Rattle.key_roll.specs.declared.work.KeyName.{KeyName}
-use Rattle.issue_values.specs.Publishing.{Publishing}
+use Rattle.issue_values.specs.Publishers.{Publishing}
 use Rattle.issue_keys.specs.Keys.{id_of}
 use Rattle.issue_keys.specs.Indexes.{has_id}
 use Rattle.issue_drafts.specs.Finding.{Keys, key_of, key_named}

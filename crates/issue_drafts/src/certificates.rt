@@ -2,7 +2,7 @@
 
 ghost use Rattle.std.specs.Prelude.{◌≡◌, ◌<◌, length, map, All, Some, None, IfOk, option_map, option_copied, string_bytes};
 ghost use Rattle.issue_keys.specs.Indexes.{IsIndex};
-ghost use Rattle.issue_values.specs.Publishing.{publishing};
+ghost use Rattle.issue_values.specs.Publishers.{publishing};
 ghost use Rattle.issue_drafts.specs.Finding.{key_of, key_named, keys_at, Finds};
 ghost use Rattle.issue_drafts.specs.Certificates.{input_of, name_at, made_uri, subject_key, issuer_for, certified_key, standing_for, certificate_of, publishing_of};
 

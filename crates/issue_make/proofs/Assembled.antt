@@ -13,10 +13,10 @@ use Rattle.issue_keys.specs.Making.{making, AreMade}
 use Rattle.issue_drafts.specs.Finding.{Keys, keys_at, all_keys}
 use Rattle.issue_drafts.specs.Certificates.{IssueInput}
 use Rattle.issue_sign.specs.Calls.{first_calls, second_calls, content_calls, last_calls}
-use Rattle.issue_make.specs.Outcome.{all_of, row_after}
+use Rattle.issue_make.specs.Trace.{all_of, row_after}
 use Rattle.issue_make.specs.declared.outcome.Made.{Made}
 use Rattle.issue_make.specs.inner.Naming.{CanName}
-use Rattle.issue_make.specs.Work.{CanMake}
+use Rattle.issue_make.specs.CanMake.{CanMake}
 use Rattle.issue_make.specs.inner.Ready.{AreReady}
 use Rattle.issue_make.specs.inner.Finished.{signing_of, IsFinished}
 use Rattle.issue_make.specs.Made.{calls_of, IsMade}
@@ -49,7 +49,7 @@ is-made s live rows n old between new made are f =
     grouped (map making c.keys.fresh) (first_calls s c.keys (all_of s c) c.entries c.objects) (second_calls s c.keys (all_of s c) c.objects)
     (content_calls s c.files c.listed) (last_calls s c.keys (all_of s c) c.listed) in record {
       trace = c;
-      is_course = f.is_course;
+      is_trace = f.is_trace;
       signers = f.signers ∙ (ap (λ (ring : List SignerState). after_calls ring (signing_of s c))
           (are.signers ∙ ap (λ (l : List KeyRow). after_calls old (map making l)) fresh)
           ∙ (calls-on old (map making c.keys.fresh) (signing_of s c) ∙ ap (after_calls old) (sym calls)));

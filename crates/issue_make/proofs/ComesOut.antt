@@ -19,12 +19,12 @@ use Rattle.issue_drafts.specs.declared.draft.Draft as code
 use Rattle.issue_drafts.specs.declared.draft.ManifestDraft as listed
 use Rattle.issue_drafts.specs.Revoking.{has_point}
 use Rattle.issue_sign.specs.Objects.{Entries, Signed}
-use Rattle.issue_sign.specs.SignInput.{SignInput}
+use Rattle.issue_sign.specs.SignInput.{SignInputValue}
 use Rattle.issue_sign.specs.Made.{answers_of, signed, of_drafts, of_manifests}
-use Rattle.issue_make.specs.Plans.{puts, IsObjectPlan}
-use Rattle.issue_make.specs.inner.Signing.{basis_of, AreSigned}
+use Rattle.issue_make.specs.ObjectPlan.{puts, IsObjectPlan}
+use Rattle.issue_make.specs.inner.Signing.{sign_input_of, AreSigned}
 use Rattle.issue_make.specs.inner.Outcomes.{uris_in, AreWhole, CanComeOut}
-use Rattle.issue_make.specs.Work.{CanMake}
+use Rattle.issue_make.specs.CanMake.{CanMake}
 use Rattle.issue_make.specs.declared.plans.ObjectPlan.{ObjectPlan}
 use Rattle.issue_make.specs.declared.objects.Objects.{Objects}
 use Rattle.issue_make.proofs.Conditions.{AreRows, keys-are, serials-of, numbers-of}
@@ -71,7 +71,7 @@ uris-apart s keys rows plan p once =
 whole : (s : IssueInput) (keys : Keys) (rows : List KeyRow) (entries : Entries) (plan : ObjectPlan) (old new : List SignerState)
     (objects : Objects) → IsObjectPlan s keys rows plan → AreSigned s keys rows entries plan old new objects → AreWhole plan objects
 whole s keys rows entries plan old new objects p are =
-    let basis : SignInput = basis_of s keys rows entries are.files in
+    let basis : SignInputValue = sign_input_of s keys rows entries are.files in
     let made : List Signed = signed (map draft_of plan.drafts.items) (map answers_of objects.drafted.items) in
     let lists : List Signed = signed (map manifest_of plan.manifests.items) (map answers_of objects.listed.items) in
     let first = as-many-made s basis (of_drafts s basis) (map draft_of plan.drafts.items) old are.between objects.drafted.items made

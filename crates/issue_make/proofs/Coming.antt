@@ -7,7 +7,7 @@ use Rattle.issue_drafts.specs.Serials.{given_serial}
 use Rattle.issue_drafts.specs.Views.{draft_of, manifest_of}
 use Rattle.issue_drafts.specs.declared.draft.Draft as code
 use Rattle.issue_drafts.specs.declared.draft.ManifestDraft as manifests
-use Rattle.issue_make.specs.Outcome.{IssuingTrace, all_of}
+use Rattle.issue_make.specs.Trace.{IssuingTrace, all_of}
 use Rattle.issue_make.specs.inner.Putting.{IsOf}
 use Rattle.issue_make.specs.declared.publishing.Numbered.{Numbered}
 use Rattle.issue_make.specs.inner.Outcomes.{IsOfPlan}

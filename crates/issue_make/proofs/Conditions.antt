@@ -11,10 +11,10 @@ use Rattle.issue_keys.specs.Keys.{id_of, with_role, kept_rows}
 use Rattle.issue_drafts.specs.Finding.{keys_at, Finds}
 use Rattle.issue_drafts.specs.declared.finder.KeyFinder.{KeyFinder}
 use Rattle.issue_drafts.specs.Certificates.{IssueInput}
-use Rattle.issue_make.specs.Outcome.{AreKeys}
+use Rattle.issue_make.specs.Trace.{AreKeys}
 use Rattle.issue_drafts.specs.Drafts.{Draft}
-use Rattle.issue_make.specs.Plans.{puts, CanPlanObjects}
-use Rattle.issue_make.specs.Work.{CanMake}
+use Rattle.issue_make.specs.ObjectPlan.{puts, CanPlanObjects}
+use Rattle.issue_make.specs.CanMake.{CanMake}
 pub use Rattle.issue_make.specs.inner.Ready.{AreRows}
 use Rattle.issue_make.proofs.Planned.{front-pairs}
 use Rattle.issue_make.proofs.KeyRows.{all-kept, all-fresh, desks-rise, keys-apart}

@@ -4,7 +4,7 @@ use Rattle.key_roll.specs.declared.rows.KeyRow.{KeyRow}
 use Rattle.issue_drafts.specs.Finding.{keys_at, Finds}
 use Rattle.issue_drafts.specs.declared.finder.KeyFinder.{KeyFinder}
 use Rattle.issue_drafts.specs.Certificates.{IssueInput}
-use Rattle.issue_make.specs.Plans.{CanPlanObjects, IsObjectPlan}
+use Rattle.issue_make.specs.ObjectPlan.{CanPlanObjects, IsObjectPlan}
 use Rattle.issue_make.specs.inner.Ready.{AreReady, IsReady}
 use Rattle.issue_make.specs.declared.plans.ObjectPlan.{ObjectPlan}
 use Rattle.issue_make.proofs.Conditions.{can-plan}

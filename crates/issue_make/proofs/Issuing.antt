@@ -22,7 +22,7 @@ use Rattle.issue_drafts.specs.declared.draft.ManifestDraft.{ManifestDraft}
 use Rattle.issue_sign.specs.declared.object.Object.{Object}
 use Rattle.issue_sign.specs.Objects.{Signed, bytes_of, manifest_bytes}
 use Rattle.issue_make.specs.declared.publishing.Numbered.{Numbered}
-use Rattle.issue_make.specs.Outcome.{IssuingTrace, all_of, made_of, final_bytes, serial_of}
+use Rattle.issue_make.specs.Trace.{IssuingTrace, all_of, made_of, final_bytes, serial_of}
 use Rattle.issue_make.specs.inner.Putting.{row_of, with_serials, draft_rows, next_serials, hashes_of}
 use Rattle.issue_make.specs.inner.Putting.{contents_of, rows_of, uris_of, HavePlaces, IsWhole, IsOf}
 use Rattle.issue_make.proofs.Lists.{get_or-zip2, map-zip2, map-agree, all-back}

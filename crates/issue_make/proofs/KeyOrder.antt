@@ -16,7 +16,7 @@ use Rattle.key_roll.specs.declared.rows.Role.TheVariants.{New, Current, Old}
 use Rattle.issue_drafts.specs.Certificates.{IssueInput}
 use Rattle.issue_drafts.specs.Drafts.{serial_behind}
 use Rattle.issue_drafts.specs.Revoking.{has_point}
-use Rattle.issue_make.specs.Outcome.{IssuingTrace, all_of, row_after, rank, is_before}
+use Rattle.issue_make.specs.Trace.{IssuingTrace, all_of, row_after, rank, is_before}
 use Rattle.issue_make.specs.inner.Keys.{row_with, with_points, with_next, rows_with, AreAfter}
 use Rattle.issue_make.proofs.Lists.{get_or-zip2}
 

@@ -15,7 +15,7 @@ use Rattle.std.proofs.Math.Seq.{take-append_seam, drop-append_seam}
 use Rattle.hex.specs.Hex.{encode_lower}
 use Rattle.payloads.specs.ManifestFormats.{is_name}
 use Rattle.key_ids.specs.Uris.{anchor_uri, cert_uri, crl_uri}
-use Rattle.issue_values.specs.Publishing.{roa_uri}
+use Rattle.issue_values.specs.Publishers.{roa_uri}
 use Rattle.origins.specs.Origin.{origin_text}
 use Rattle.key_roll.specs.declared.rows.KeyRow.{KeyRow}
 use Rattle.key_roll.specs.declared.work.CertWork.{CertWork}
@@ -31,9 +31,9 @@ use Rattle.issue_drafts.specs.declared.draft.Draft as code
 use Rattle.issue_drafts.specs.declared.draft.ManifestDraft as listed
 use Rattle.issue_drafts.specs.Revoking.{is_touched}
 use Rattle.issue_drafts.specs.Files.{IsListable, AreListable, folder_at, is_kept, is_made_under}
-use Rattle.issue_make.specs.Plans.{puts, IsObjectPlan}
-use Rattle.issue_make.specs.Work.{CanMake}
-use Rattle.issue_make.specs.Work as works
+use Rattle.issue_make.specs.ObjectPlan.{puts, IsObjectPlan}
+use Rattle.issue_make.specs.CanMake.{CanMake}
+use Rattle.issue_make.specs.CanMake as works
 use Rattle.issue_make.specs.declared.plans.ObjectPlan.{ObjectPlan}
 use Rattle.issue_make.proofs.Names.{key-name, origin-name}
 use Rattle.issue_make.proofs.Parts.{all-of-map, all-filter-map}

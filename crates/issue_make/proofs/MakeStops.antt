@@ -15,10 +15,10 @@ use Rattle.issue_drafts.specs.Finding.{Keys}
 use Rattle.issue_drafts.specs.Certificates.{IssueInput}
 use Rattle.issue_drafts.specs.Views.{draft_of, manifest_of}
 use Rattle.issue_sign.specs.Objects.{Entries, Signed}
-use Rattle.issue_sign.specs.SignInput.{SignInput}
+use Rattle.issue_sign.specs.SignInput.{SignInputValue}
 use Rattle.issue_sign.specs.Made.{answers_of, signed, of_drafts, of_manifests}
 use Rattle.issue_make.specs.Made.{IsSigning, IsBegun, IsStop}
-use Rattle.issue_make.specs.inner.Signing.{basis_of, AreSigned, IsSigningStop}
+use Rattle.issue_make.specs.inner.Signing.{sign_input_of, AreSigned, IsSigningStop}
 use Rattle.issue_make.specs.declared.plans.ObjectPlan.{ObjectPlan}
 use Rattle.issue_make.specs.declared.objects.Objects.{Objects}
 use Rattle.issue_make.proofs.Stops.{drafts-sign, manifests-sign, calls-on}
@@ -92,7 +92,7 @@ pub stop-signed : (s : IssueInput) (live : List KeyRow) (old between new : List 
     → AreMade s.work.new_keys live old between fresh → AreSigned s keys rows entries plan between new objects
     → IsStop s live old new Memory
 stop-signed s live old between new fresh keys rows entries plan objects made are =
-    let basis : SignInput = basis_of s keys rows entries are.files in
+    let basis : SignInputValue = sign_input_of s keys rows entries are.files in
     let drafted : List Signed = signed (map draft_of plan.drafts.items) (map answers_of objects.drafted.items) in
     let listed : List Signed = signed (map manifest_of plan.manifests.items) (map answers_of objects.listed.items) in
     let first : List Call = (of_drafts s basis).calls drafted in

@@ -14,7 +14,7 @@ use Rattle.key_roll.specs.declared.rows.KeyRow.{KeyRow}
 use Rattle.key_roll.specs.declared.work.CertWork.{CertWork}
 use Rattle.key_roll.specs.declared.work.RoaWork.{RoaWork}
 use Rattle.key_roll.specs.declared.work.PointWork.{PointWork}
-use Rattle.issue_values.specs.Publishing.{Publishing, publishing, roa_uri}
+use Rattle.issue_values.specs.Publishers.{Publishing, publishing, roa_uri}
 use Rattle.issue_values.specs.declared.publishers.Publisher.{Publisher}
 use Rattle.issue_keys.specs.Keys.{id_of}
 use Rattle.issue_drafts.specs.Finding.{Keys, keys_at, all_keys, key_named}
@@ -29,8 +29,8 @@ use Rattle.issue_drafts.specs.declared.draft.ManifestDraft as manifests
 use Rattle.issue_drafts.specs.declared.draft.DraftKind.{DraftKind}
 use Rattle.issue_drafts.specs.declared.draft.DraftKind.TheVariants as variants
 use Rattle.issue_make.specs.inner.Naming.{CanName}
-use Rattle.issue_make.specs.Plans.{puts}
-use Rattle.issue_make.specs.Work.{IsCertified}
+use Rattle.issue_make.specs.ObjectPlan.{puts}
+use Rattle.issue_make.specs.CanMake.{IsCertified}
 use Rattle.issue_make.specs.inner.Ready.{IsReady}
 use Rattle.issue_make.specs.inner.Signing.{CanIssueIn, CanBe, CanBeSigned}
 use Rattle.issue_make.specs.declared.plans.ObjectPlan.{ObjectPlan}

@@ -2,7 +2,7 @@
 use Rattle.std.proofs.Common.{◌≡◌, ℕ, List, [], ◌∷◌, length, map, refl, sym, ap, subst, ◌∙◌, arith}
 use Rattle.std.specs.List.{All, zip}
 use Rattle.std.proofs.lemmas.List.{length-map}
-use Rattle.issue_values.specs.Publishing.{publishing}
+use Rattle.issue_values.specs.Publishers.{publishing}
 use Rattle.payloads.specs.declared.values.ListedFile.{ListedFile}
 use Rattle.payloads.specs.ManifestFormats.{file_view}
 use Rattle.key_roll.specs.declared.rows.KeyRow.{KeyRow}
@@ -18,26 +18,26 @@ use Rattle.issue_sign.specs.Objects.{Entries, Files}
 use Rattle.signer_api.specs.State.{SignerState}
 use Rattle.issue_drafts.specs.Files.{AreMerged, kept_files, made_files}
 use Rattle.issue_sign.specs.Objects.{Signed}
-use Rattle.issue_sign.specs.SignInput.{SignInput, IsSignInput, AreDrafts, AreManifests}
+use Rattle.issue_sign.specs.SignInput.{SignInputValue, IsSignInput, AreDrafts, AreManifests}
 use Rattle.issue_sign.specs.Made.{Way, AreMade}
 use Rattle.issue_sign.specs.declared.object.Object.{Object}
-use Rattle.issue_sign.specs.declared.edition.Edition.{Edition}
-use Rattle.issue_make.specs.Plans.{IsObjectPlan}
-use Rattle.issue_make.specs.inner.Signing.{basis_of}
+use Rattle.issue_sign.specs.declared.sign_input.SignInput.{SignInput}
+use Rattle.issue_make.specs.ObjectPlan.{IsObjectPlan}
+use Rattle.issue_make.specs.inner.Signing.{sign_input_of}
 use Rattle.issue_make.specs.declared.plans.ObjectPlan.{ObjectPlan}
 use Rattle.issue_make.proofs.Parts.{all-of-map}
 
-pub is-basis : (edition : Edition) (keys : Keys) (rows : List KeyRow) (entries : Entries) (files : Files) (plan : ObjectPlan)
-    → edition.publishers.now ≡ plan.publishers.items → edition.revoked.now ≡ plan.revoked.items
-    → IsObjectPlan (input_of edition.input.now) keys rows plan → plan.revoked.items ≡ map entries rows
-    → IsSignInput edition (basis_of (input_of edition.input.now) keys rows entries files)
-is-basis edition keys rows entries files plan published revoked p is =
+pub is-basis : (sign_input : SignInput) (keys : Keys) (rows : List KeyRow) (entries : Entries) (files : Files) (plan : ObjectPlan)
+    → sign_input.publishers.now ≡ plan.publishers.items → sign_input.revoked.now ≡ plan.revoked.items
+    → IsObjectPlan (input_of sign_input.input.now) keys rows plan → plan.revoked.items ≡ map entries rows
+    → IsSignInput sign_input (sign_input_of (input_of sign_input.input.now) keys rows entries files)
+is-basis sign_input keys rows entries files plan published revoked p is =
     record { publishers = ap (map publishing) published ∙ p.publishers; entries = revoked ∙ is }
 
 pub are-drafts : (s : IssueInput) (keys : Keys) (rows : List KeyRow) (entries : Entries) (files : Files) (plan : ObjectPlan)
     (ds : List code.Draft) (given : List ℕ)
     → ds ≡ plan.drafts.items → given ≡ plan.serials.given.items → IsObjectPlan s keys rows plan
-    → AreDrafts (basis_of s keys rows entries files) ds given
+    → AreDrafts (sign_input_of s keys rows entries files) ds given
 are-drafts s keys rows entries files plan ds given e f p = record {
   issuers = subst (λ (l : List code.Draft). All (λ d. IsPlaced rows d.issuer) l) (sym e) p.issuers;
   subjects = subst (λ (l : List code.Draft). All (λ d. IsSubjectPlaced rows d.kind) l) (sym e) p.subjects;
@@ -52,7 +52,7 @@ pub are-manifests : (s : IssueInput) (keys : Keys) (rows : List KeyRow) (entries
     (R : KeyRow → List (List ℕ × List ℕ) → Type 0) (ms listed : List manifests.ManifestDraft) (next : List ℕ) (lists : List (List ListedFile))
     → ms ≡ plan.manifests.items → listed ≡ plan.manifests.items → next ≡ plan.serials.next.items → IsObjectPlan s keys rows plan
     → (table : IsTable R (map (λ m. m.issuer.row.now) listed) (map (map file_view) lists))
-    → AreManifests (basis_of s keys rows entries table.of) ms next lists
+    → AreManifests (sign_input_of s keys rows entries table.of) ms next lists
 are-manifests s keys rows entries plan R ms listed next lists e h f p table = record {
   issuers = subst (λ (l : List manifests.ManifestDraft). All (λ d. IsPlaced rows d.issuer) l) (sym e) p.manifest_issuers;
   serials = f ∙ p.next;
@@ -70,7 +70,7 @@ as-many files ms lists is =
     omega arith
 
 -- As many objects as drafts.
-pub as-many-made : (s : IssueInput) (b : SignInput) (way : Way) (drafts : List words.Draft) (old new : List SignerState)
+pub as-many-made : (s : IssueInput) (b : SignInputValue) (way : Way) (drafts : List words.Draft) (old new : List SignerState)
     (objects : List Object) (made : List Signed) → AreMade s b way drafts old new objects made → length objects ≡ length drafts
 as-many-made s b way drafts old new objects made are =
     let one : length (map (λ (o : Object). o.bytes) objects) ≡ length objects = length-map objects (λ (o : Object). o.bytes) in

@@ -13,7 +13,7 @@ use Rattle.issue_drafts.specs.Certificates.{IssueInput}
 use Rattle.issue_drafts.specs.laws.UriOrder.{rise-sorted}
 use Rattle.issue_sign.specs.declared.object.Object.{Object}
 use Rattle.issue_make.specs.declared.publishing.Numbered.{Numbered}
-use Rattle.issue_make.specs.Outcome.{IssuingTrace, made_of, wanted_at, IsIssued}
+use Rattle.issue_make.specs.Trace.{IssuingTrace, made_of, wanted_at, IsIssued}
 use Rattle.issue_make.specs.inner.Putting.{withdrawal_by, puts_by, contents_of, rows_of, uris_of, IsWhole, IsOf}
 use Rattle.issue_make.proofs.Issuing.{rows-are, contents-are, all-uris, rows-many}
 use Rattle.issue_make.proofs.Wanted.{changes-apart, rows-apart, changes-wanted, rows-issued, rows-count}

@@ -12,7 +12,7 @@ use Rattle.issue_drafts.specs.Drafts.{Draft, Kind}
 use Rattle.issue_drafts.specs.Drafts.Kind.{Certificate, Roa, Crl, Manifest}
 use Rattle.issue_sign.specs.Objects.{Answers, Signed}
 use Rattle.issue_sign.specs.Calls.{first_call, second_call, first_calls, second_calls, content_calls, last_calls}
-use Rattle.issue_sign.specs.SignInput.{SignInput}
+use Rattle.issue_sign.specs.SignInput.{SignInputValue}
 use Rattle.issue_sign.specs.Made.{Way, IsStop}
 use Rattle.issue_make.specs.Made.{IsSigning}
 use Rattle.issue_make.specs.inner.Signing.{IsSigningStop}
@@ -23,26 +23,26 @@ all-map : {X : Type 0} (f : X → Call) (xs : List X) → ((x : X) → IsSigning
 all-map f [] signs = λ k d lt. absurd (omega arith)
 all-map f (x ∷ xs) signs = All-cons IsSigning (f x) (map f xs) (signs x) (all-map f xs signs)
 
-first-signs : (s : IssueInput) (b : SignInput) (d : Draft) (k : Kind) (a : Answers)
+first-signs : (s : IssueInput) (b : SignInputValue) (d : Draft) (k : Kind) (a : Answers)
     → IsSigning (first_call s b.keys b.all b.entries d k a)
 first-signs s b d (Certificate subject held) a = tt
 first-signs s b d (Roa origin) a = tt
 first-signs s b d Crl a = tt
 first-signs s b d Manifest a = tt
 
-second-signs : (s : IssueInput) (b : SignInput) (d : Draft) (k : Kind) (a : Answers) (rest : List Call) → All IsSigning rest
+second-signs : (s : IssueInput) (b : SignInputValue) (d : Draft) (k : Kind) (a : Answers) (rest : List Call) → All IsSigning rest
     → All IsSigning (cons_option (second_call s b.keys b.all d k a) rest)
 second-signs s b d (Certificate subject held) a rest all = all
 second-signs s b d (Roa origin) a rest all = All-cons IsSigning _ rest tt all
 second-signs s b d Crl a rest all = all
 second-signs s b d Manifest a rest all = all
 
-seconds-sign : (s : IssueInput) (b : SignInput) (made : List Signed) → All IsSigning (second_calls s b.keys b.all made)
+seconds-sign : (s : IssueInput) (b : SignInputValue) (made : List Signed) → All IsSigning (second_calls s b.keys b.all made)
 seconds-sign s b [] = λ k d lt. absurd (omega arith)
 seconds-sign s b (x ∷ made) =
     second-signs s b x.draft x.draft.kind x.answers (second_calls s b.keys b.all made) (seconds-sign s b made)
 
-pub drafts-sign : (s : IssueInput) (b : SignInput) (made : List Signed)
+pub drafts-sign : (s : IssueInput) (b : SignInputValue) (made : List Signed)
     → All IsSigning (first_calls s b.keys b.all b.entries made ++ second_calls s b.keys b.all made)
 drafts-sign s b made =
     All-append IsSigning (first_calls s b.keys b.all b.entries made) (second_calls s b.keys b.all made)
@@ -50,7 +50,7 @@ drafts-sign s b made =
     (λ x. first-signs s b x.draft x.draft.kind x.answers))
     (seconds-sign s b made)
 
-pub manifests-sign : (s : IssueInput) (b : SignInput) (made : List Signed)
+pub manifests-sign : (s : IssueInput) (b : SignInputValue) (made : List Signed)
     → All IsSigning (content_calls s b.files made ++ last_calls s b.keys b.all made)
 manifests-sign s b made =
     All-append IsSigning (content_calls s b.files made) (last_calls s b.keys b.all made)

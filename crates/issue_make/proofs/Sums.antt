@@ -12,7 +12,7 @@ use Rattle.issue_drafts.specs.declared.draft.DraftKind as kinds
 use Rattle.issue_drafts.specs.declared.draft.DraftKind.TheVariants as variants
 use Rattle.issue_drafts.specs.declared.draft.ManifestDraft.{ManifestDraft}
 use Rattle.issue_sign.specs.Objects.{Signed}
-use Rattle.issue_make.specs.Outcome.{IssuingTrace, made_of, signatures_of}
+use Rattle.issue_make.specs.Trace.{IssuingTrace, made_of, signatures_of}
 
 -- What is summed of images.
 sum-images : {A B : Type 0} (f : B → ℕ) (g : A → B) (xs : List A)

@@ -25,11 +25,11 @@ use Rattle.issue_sign.specs.Calls.{content_calls, last_calls}
 use Rattle.issue_sign.specs.Spelled as signing
 use Rattle.issue_sign.specs.Made.{answers_of, signed, of_drafts, of_manifests}
 use Rattle.issue_sign.specs.declared.object.Object.{Object}
-use Rattle.issue_make.specs.Outcome.{IssuingTrace, IsIssuingTrace, AreEntries, AreListed, AreFiles, hashed, made_of, IsSpelled}
+use Rattle.issue_make.specs.Trace.{IssuingTrace, IsIssuingTrace, AreEntries, AreListed, AreFiles, hashed, made_of, IsSpelled}
 use Rattle.issue_make.specs.declared.outcome.Made.{Made}
-use Rattle.issue_make.specs.Plans.{puts}
+use Rattle.issue_make.specs.ObjectPlan.{puts}
 use Rattle.issue_make.specs.Made.{IsSigning}
-use Rattle.issue_make.specs.inner.Signing.{basis_of, AreSigned, IsSigningStop}
+use Rattle.issue_make.specs.inner.Signing.{sign_input_of, AreSigned, IsSigningStop}
 use Rattle.issue_make.specs.inner.Outcomes.{IsOfPlan, IsOfKeys, IsOutcome}
 use Rattle.issue_make.specs.inner.Ready.{IsReady}
 use Rattle.issue_make.specs.inner.Finished.{signing_of, IsFinished}
@@ -52,7 +52,7 @@ zip-hashes {X} {Y} {Z} f g xs ys zs e h =
 -- What can be read back of a basis can be of a trace of the same.
 spelled-same : (s : IssueInput) (keys : Keys) (rows : List KeyRow) (entries : Entries) (files : Files) (objects listed : List Signed)
     (d : words.Draft) (kind : Kind) (a : Answers)
-    → signing.IsSpelled s (basis_of s keys rows entries files) d kind a
+    → signing.IsSpelled s (sign_input_of s keys rows entries files) d kind a
     → IsSpelled s (record { keys = keys; objects = objects; listed = listed; entries = entries; files = files }) d kind a
 spelled-same s keys rows entries files objects listed d (Certificate subject held) a is = is
 spelled-same s keys rows entries files objects listed d (Roa origin) a is = is
@@ -110,16 +110,16 @@ module _ (s : IssueInput) (live rows : List KeyRow) (n signers : ℕ) (plan : Ob
   -- ---- the calls
 
   abbrev first : List Call
-  first = (of_drafts s (basis_of s (keys_at rows n) rows ready.is_plan.entries.of are.files)).calls
+  first = (of_drafts s (sign_input_of s (keys_at rows n) rows ready.is_plan.entries.of are.files)).calls
       (signed (map draft_of plan.drafts.items) (map answers_of objects.drafted.items))
 
   abbrev second : List Call
-  second = (of_manifests s (basis_of s (keys_at rows n) rows ready.is_plan.entries.of are.files)).calls
+  second = (of_manifests s (sign_input_of s (keys_at rows n) rows ready.is_plan.entries.of are.files)).calls
       (signed (map manifest_of plan.manifests.items) (map answers_of objects.listed.items))
 
   calls-are : first ++ second ≡ signing_of s trace
   calls-are =
-      let b = basis_of s (keys_at rows n) rows ready.is_plan.entries.of are.files in
+      let b = sign_input_of s (keys_at rows n) rows ready.is_plan.entries.of are.files in
       let made = signed (map manifest_of plan.manifests.items) (map answers_of objects.listed.items) in
       sym (append_assoc first (content_calls s b.files made) (last_calls s b.keys b.all made))
 
@@ -141,7 +141,7 @@ module _ (s : IssueInput) (live rows : List KeyRow) (n signers : ℕ) (plan : Ob
   -- Memory ran out behind them.
   pub stop-made : IsSigningStop old new Memory
   stop-made =
-      let b = basis_of s (keys_at rows n) rows ready.is_plan.entries.of are.files in (
+      let b = sign_input_of s (keys_at rows n) rows ready.is_plan.entries.of are.files in (
         signing_of s trace,
         subst (All IsSigning) calls-are
             (All-append IsSigning first second
@@ -155,13 +155,13 @@ module _ (s : IssueInput) (live rows : List KeyRow) (n signers : ℕ) (plan : Ob
       let made = signed (map draft_of plan.drafts.items) (map answers_of objects.drafted.items) in
       let listed = signed (map manifest_of plan.manifests.items) (map answers_of objects.listed.items) in
       let same : (x : Signed)
-      → signing.IsSpelled s (basis_of s (keys_at rows n) rows ready.is_plan.entries.of are.files) x.draft x.draft.kind x.answers
+      → signing.IsSpelled s (sign_input_of s (keys_at rows n) rows ready.is_plan.entries.of are.files) x.draft x.draft.kind x.answers
       → IsSpelled s trace x.draft x.draft.kind x.answers =
       λ x. spelled-same s (keys_at rows n) rows ready.is_plan.entries.of are.files made listed x.draft x.draft.kind x.answers in
       All-append (λ (x : Signed). IsSpelled s trace x.draft x.draft.kind x.answers) made listed
-      (All-weaker (λ (x : Signed). signing.IsSpelled s (basis_of s (keys_at rows n) rows ready.is_plan.entries.of are.files) x.draft x.draft.kind x.answers)
+      (All-weaker (λ (x : Signed). signing.IsSpelled s (sign_input_of s (keys_at rows n) rows ready.is_plan.entries.of are.files) x.draft x.draft.kind x.answers)
       (λ (x : Signed). IsSpelled s trace x.draft x.draft.kind x.answers) same made are.drafted.spelled)
-      (All-weaker (λ (x : Signed). signing.IsSpelled s (basis_of s (keys_at rows n) rows ready.is_plan.entries.of are.files) x.draft x.draft.kind x.answers)
+      (All-weaker (λ (x : Signed). signing.IsSpelled s (sign_input_of s (keys_at rows n) rows ready.is_plan.entries.of are.files) x.draft x.draft.kind x.answers)
       (λ (x : Signed). IsSpelled s trace x.draft x.draft.kind x.answers) same listed are.listed.spelled)
 
   -- ---- what they come to
@@ -195,7 +195,7 @@ module _ (s : IssueInput) (live rows : List KeyRow) (n signers : ℕ) (plan : Ob
       → IsFinished s live rows (keys_at rows n) old new made
   is-finished made stays outcome = record {
     trace = trace;
-    is_course = is-trace;
+    is_trace = is-trace;
     over = refl;
     signers = calls-made;
     vouched = calls-vouched stays;

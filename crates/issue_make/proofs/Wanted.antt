@@ -24,7 +24,7 @@ use Rattle.issue_drafts.specs.laws.UriOrder.{found-permuted}
 use Rattle.pub_set.specs.laws.UriLaws.{same_is as same-is}
 use Rattle.issue_sign.specs.declared.object.Object.{Object}
 use Rattle.issue_sign.specs.Objects.{Signed}
-use Rattle.issue_make.specs.Outcome.{IssuingTrace, made_of, put_of, wanted_at, or_else, IsIssued, Says}
+use Rattle.issue_make.specs.Trace.{IssuingTrace, made_of, put_of, wanted_at, or_else, IsIssued, Says}
 use Rattle.issue_make.specs.inner.Putting.{hash_in, put_by, puts_by, contents_of, withdrawal_by, what_of}
 use Rattle.issue_make.proofs.Lists.{map-zip2, get_or-zip2}
 use Rattle.issue_make.proofs.Issuing.{row_for, content_for}

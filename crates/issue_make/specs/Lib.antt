@@ -1,5 +1,5 @@
 pub mod Made
-pub mod Outcome
-pub mod Plans
-pub mod Work
+pub mod Trace
+pub mod ObjectPlan
+pub mod CanMake
 pub mod inner

@@ -17,9 +17,9 @@ use Rattle.issue_drafts.specs.Finding.{all_keys}
 use Rattle.issue_drafts.specs.Certificates.{IssueInput}
 use Rattle.issue_make.specs.declared.outcome.Made.{Made}
 use Rattle.issue_sign.specs.Calls.{first_calls, second_calls, content_calls, last_calls}
-use Rattle.issue_make.specs.Outcome.{IssuingTrace, IsIssuingTrace, all_of, made_of, wanted_at}
-use Rattle.issue_make.specs.Outcome.{IsIssued}
-use Rattle.issue_make.specs.Outcome.{IsSpelled, row_after, is_before, signatures_of}
+use Rattle.issue_make.specs.Trace.{IssuingTrace, IsIssuingTrace, all_of, made_of, wanted_at}
+use Rattle.issue_make.specs.Trace.{IsIssued}
+use Rattle.issue_make.specs.Trace.{IsSpelled, row_after, is_before, signatures_of}
 
 -- All calls of the making, in their order.
 abbrev pub calls_of : IssueInput → IssuingTrace → List Call
@@ -33,7 +33,7 @@ calls_of s trace =
 pub record IsMade
     (s : IssueInput) (live : List KeyRow) (old new : List SignerState) (made : Made) : Type 0 where
   pub trace : IssuingTrace
-  pub is_course : IsIssuingTrace s live trace
+  pub is_trace : IsIssuingTrace s live trace
   -- the signers made these calls, one after another, and no others; what they signed they vouch
   -- for
   pub signers : new ≡ after_calls old (calls_of s trace)

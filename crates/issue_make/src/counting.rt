@@ -2,7 +2,7 @@
 
 ghost use Rattle.std.specs.Prelude.{◌≡◌, ◌≤◌, map, sum_by};
 ghost use Rattle.issue_drafts.specs.Views.{kind_of, draft_of, manifest_of};
-ghost use Rattle.issue_make.specs.Outcome.{IssuingTrace, made_of, signatures_of};
+ghost use Rattle.issue_make.specs.Trace.{IssuingTrace, made_of, signatures_of};
 
 use issue_drafts::{Draft, DraftKind, ManifestDraft};
 

@@ -3,7 +3,7 @@
 ghost use Rattle.std.specs.Prelude.{◌≡◌, ◌≤◌, ◌++◌, map, length, slice_index, IfOk, OnOk};
 ghost use Rattle.issue_values.specs.Certificates.{IsEditionMoment};
 ghost use Rattle.issue_drafts.specs.Views.{kind_of, draft_of, manifest_of};
-ghost use Rattle.issue_make.specs.Outcome.{life_of};
+ghost use Rattle.issue_make.specs.Trace.{life_of};
 ghost use Rattle.issue_make.specs.inner.Putting.{what_of, row_of, draft_rows, next_serials, hashes_of, HavePlaces};
 
 use issue_drafts::{Draft, DraftKind, ManifestDraft};

@@ -6,7 +6,7 @@ ghost use Rattle.std.specs.Ordering.{is_lt};
 ghost use Rattle.issue_drafts.specs.Drafts.{serial_behind};
 ghost use Rattle.issue_drafts.specs.Certificates.{IssueInput};
 ghost use Rattle.issue_drafts.specs.Revoking.{has_point};
-ghost use Rattle.issue_make.specs.Outcome.{IssuingTrace, all_of, row_after, rank, is_before};
+ghost use Rattle.issue_make.specs.Trace.{IssuingTrace, all_of, row_after, rank, is_before};
 ghost use Rattle.issue_make.specs.inner.Keys.{row_with, rows_with, AreAfter};
 
 use items::Items;

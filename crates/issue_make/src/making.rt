@@ -4,8 +4,7 @@ ghost use Rattle.std.specs.Prelude.{List, ℕ, length, IfOk, IfErr};
 ghost use Rattle.signer_ring.specs.Ring.{Keeps};
 ghost use Rattle.key_roll.specs.declared.rows.KeyRow.{KeyRow};
 ghost use Rattle.issue_drafts.specs.Finding.{keys_at};
-ghost use Rattle.issue_drafts.specs.Certificates as publishers;
-ghost use Rattle.issue_make.specs.Work.{input_of, CanMake};
+ghost use Rattle.issue_make.specs.CanMake.{input_of, CanMake};
 ghost use Rattle.issue_make.specs.inner.Ready.{AreReady, IsReady, AreSomehowReady, IsSomehowReady};
 ghost use Rattle.issue_make.specs.inner.Signing.{IsSigningStop};
 ghost use Rattle.issue_make.specs.inner.Finished.{IsFinished};
@@ -13,7 +12,7 @@ ghost use Rattle.issue_make.specs.Made.{IsMade, IsStop};
 
 use crate::keys::{EditionKeys, edition_keys};
 use crate::naming::can_all_be_named;
-use crate::objects::sign;
+use crate::objects::sign_objects;
 use crate::outcome::Made;
 use crate::outcomes::outcome;
 use crate::plans::{ObjectPlan, plan_objects};
@@ -27,23 +26,23 @@ use signer_ring::{Ring, vouched_stays};
 use std::alloc::Global;
 
 /// Signs the objects of a plan, and says what they come to.
-fn finish<S: Signer>(
+fn sign_and_assemble<S: Signer>(
     alloc: Global,
     input: &IssueInput<'_>,
     rows: &[KeyRow],
     plan: ObjectPlan<'_>,
     ring: &mut Ring<S>,
 ) -> Result<Made, MakeFault>
-    requires { IsSomehowReady (publishers.input_of input.now) rows.now (length ring.old) plan }
+    requires { IsSomehowReady (input_of input.now) rows.now (length ring.old) plan }
     ensures made { IfOk result (λ made. (live : List KeyRow) (n : ℕ)
-        → IsReady (publishers.input_of input.now) live rows.now n (length ring.old) plan.entry
-        → IsFinished (publishers.input_of input.now) live rows.now (keys_at rows.now n)
+        → IsReady (input_of input.now) live rows.now n (length ring.old) plan.entry
+        → IsFinished (input_of input.now) live rows.now (keys_at rows.now n)
         ring.old ring.new made) }
     ensures stopped { IfErr result (IsSigningStop ring.old ring.new) }
     ensures kept { Keeps ring.old ring.new }
 {
     vouched_stays();
-    let objects = sign(alloc, input, &plan, ring)?;
+    let objects = sign_objects(alloc, input, &plan, ring)?;
     let made = outcome(alloc, input, rows, plan, objects)?;
     Ok(made)
 }
@@ -55,19 +54,19 @@ fn make_objects<S: Signer>(
     keys: &EditionKeys,
     ring: &mut Ring<S>,
 ) -> Result<Made, MakeFault>
-    requires { AreSomehowReady (publishers.input_of input.now) keys.now.rows.items
+    requires { AreSomehowReady (input_of input.now) keys.now.rows.items
         keys.now.first_fresh (length ring.old) }
     ensures made { IfOk result (λ made. (live : List KeyRow)
-        → AreReady (publishers.input_of input.now) live keys.now.rows.items
+        → AreReady (input_of input.now) live keys.now.rows.items
         keys.now.first_fresh (length ring.old)
-        → IsFinished (publishers.input_of input.now) live keys.now.rows.items
+        → IsFinished (input_of input.now) live keys.now.rows.items
         (keys_at keys.now.rows.items keys.now.first_fresh) ring.old ring.new made) }
     ensures stopped { IfErr result (IsSigningStop ring.old ring.new) }
     ensures kept { Keeps ring.old ring.new }
 {
     let finder = KeyFinder::new(alloc, &keys.rows, keys.first_fresh)?;
     let plan = plan_objects(alloc, input, &keys.rows, &finder)?;
-    finish(alloc, input, &keys.rows, plan, ring)
+    sign_and_assemble(alloc, input, &keys.rows, plan, ring)
 }
 
 /// Makes the objects of the work in that input.
@@ -77,11 +76,11 @@ fn make_in<S: Signer>(
     rows: &[KeyRow],
     ring: &mut Ring<S>,
 ) -> Result<Made, MakeFault>
-    requires { CanMake (publishers.input_of input.now) rows.now (length ring.old) }
+    requires { CanMake (input_of input.now) rows.now (length ring.old) }
     ensures made { IfOk result
-        (IsMade (publishers.input_of input.now) rows.now ring.old ring.new) }
+        (IsMade (input_of input.now) rows.now ring.old ring.new) }
     ensures stopped { IfErr result
-        (IsStop (publishers.input_of input.now) rows.now ring.old ring.new) }
+        (IsStop (input_of input.now) rows.now ring.old ring.new) }
     ensures kept { Keeps ring.old ring.new }
 {
     let keys = edition_keys(alloc, input.work, rows, ring)?;
@@ -103,16 +102,16 @@ pub fn make<S: Signer>(
     ring: &mut Ring<S>,
 ) -> Result<Made, MakeFault>
     // The work can be made by these signers, whichever keys they make.
-    requires { CanMake (input_of work.now names.now issued.now site.now) rows.now (length ring.old) }
+    requires { CanMake (input_with work.now names.now issued.now site.now) rows.now (length ring.old) }
 
     // The objects, the changes and the rows are those of the work, and the signers made the calls for
     // them, in their order, and no others.
     ensures made { IfOk result
-        (IsMade (input_of work.now names.now issued.now site.now) rows.now ring.old ring.new) }
+        (IsMade (input_with work.now names.now issued.now site.now) rows.now ring.old ring.new) }
 
     // A signer failed, or a key clashed, exactly as it says; or memory ran out.
     ensures stopped { IfErr result
-        (IsStop (input_of work.now names.now issued.now site.now) rows.now ring.old ring.new) }
+        (IsStop (input_with work.now names.now issued.now site.now) rows.now ring.old ring.new) }
 
     // What the signers vouched for they vouch for on every answer.
     ensures kept { Keeps ring.old ring.new }

@@ -6,13 +6,13 @@ ghost use Rattle.key_roll.specs.declared.rows.KeyRow.{KeyRow};
 ghost use Rattle.issue_drafts.specs.Finding.{Keys};
 ghost use Rattle.issue_drafts.specs.Certificates.{input_of};
 ghost use Rattle.issue_sign.specs.Objects.{Entries};
-ghost use Rattle.issue_make.specs.Plans.{IsObjectPlan};
+ghost use Rattle.issue_make.specs.ObjectPlan.{IsObjectPlan};
 ghost use Rattle.issue_make.specs.inner.Signing.{CanBeSigned, AreSigned, IsSigningStop};
 
 use crate::plans::ObjectPlan;
 use issue_drafts::{IssueInput, files};
 use issue_keys::MakeFault;
-use issue_sign::{Edition, Object, sign_drafts, sign_manifests};
+use issue_sign::{Object, SignInput, sign_drafts, sign_manifests};
 use signer_api::Signer;
 use signer_ring::Ring;
 use std::alloc::{AllocError, Global};
@@ -38,7 +38,7 @@ fn hashes_of(alloc: Global, objects: &[Object]) -> Result<Vec<[u8; 32]>, AllocEr
 }
 
 /// Signs the objects of a plan: the manifests, which list the others, behind them.
-pub fn sign<S: Signer>(
+pub fn sign_objects<S: Signer>(
     alloc: Global,
     input: &IssueInput<'_>,
     plan: &ObjectPlan<'_>,
@@ -59,16 +59,16 @@ pub fn sign<S: Signer>(
     // What the signers vouched for they vouch for on every answer.
     ensures kept { Keeps ring.old ring.new }
 {
-    let edition = Edition {
+    let sign_input = SignInput {
         input,
         publishers: &plan.publishers,
         revoked: &plan.revoked,
     };
     let (given, next) = (&plan.serials.given, &plan.serials.next);
-    let drafted = sign_drafts(alloc, &edition, &plan.drafts, given, ring)?;
+    let drafted = sign_drafts(alloc, &sign_input, &plan.drafts, given, ring)?;
     let hashes = hashes_of(alloc, &drafted)?;
     let (drafts, manifests) = (&plan.drafts, &plan.manifests);
     let files = files(alloc, input, drafts, &hashes, manifests, &plan.touched)?;
-    let listed = sign_manifests(alloc, &edition, manifests, next, files, ring)?;
+    let listed = sign_manifests(alloc, &sign_input, manifests, next, files, ring)?;
     Ok(Objects { drafted, listed })
 }

@@ -4,7 +4,7 @@ ghost use Rattle.std.specs.Prelude.{◌≢◌, ◌++◌, AllPairs, IfOk};
 ghost use Rattle.issue_values.specs.Certificates.{IsEditionMoment};
 ghost use Rattle.pub_set.specs.Objects.{Rise};
 ghost use Rattle.issue_drafts.specs.Certificates.{input_of};
-ghost use Rattle.issue_make.specs.Outcome.{IssuingTrace};
+ghost use Rattle.issue_make.specs.Trace.{IssuingTrace};
 ghost use Rattle.issue_make.specs.inner.Outcomes.{uris_in, AreWhole, CanComeOut, IsOfPlan, IsOfKeys, IsPublication, IsOutcome};
 
 use crate::counting::signatures;

@@ -3,7 +3,7 @@
 ghost use Rattle.std.specs.Prelude.{IfOk};
 ghost use Rattle.issue_drafts.specs.Finding.{keys_at};
 ghost use Rattle.issue_drafts.specs.Certificates.{input_of};
-ghost use Rattle.issue_make.specs.Plans.{CanPlanObjects, IsObjectPlan};
+ghost use Rattle.issue_make.specs.ObjectPlan.{CanPlanObjects, IsObjectPlan};
 
 use issue_drafts::{
     Draft, Drafting, IssueInput, KeyFinder, ManifestDraft, Serials, Touched, drafts, entries,

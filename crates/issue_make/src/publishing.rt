@@ -6,7 +6,7 @@ ghost use Rattle.issue_values.specs.Certificates.{IsEditionMoment};
 ghost use Rattle.pub_set.specs.Changes.{uri_of, change_at};
 ghost use Rattle.pub_set.specs.Objects.{Rise};
 ghost use Rattle.issue_drafts.specs.Certificates.{input_of};
-ghost use Rattle.issue_make.specs.Outcome.{IssuingTrace, made_of, wanted_at, IsIssued};
+ghost use Rattle.issue_make.specs.Trace.{IssuingTrace, made_of, wanted_at, IsIssued};
 ghost use Rattle.issue_make.specs.inner.Putting.{put_by, withdrawal_by, puts_by, contents_of, rows_of, uris_of, IsWhole, IsOf};
 
 use crate::issued::{push_draft_rows, push_manifest_rows};

@@ -1,5 +1,5 @@
 pub mod AnswerLemmas
 pub mod KeyLemmas
-pub mod PlaceLemmas
+pub mod UriLemmas
 pub mod Filters
 pub mod DropLemmas

@@ -4,10 +4,9 @@
 
 mod keys;
 mod lookups;
-mod places;
 mod plans;
+mod uris;
 mod wanted;
 
 pub use keys::NextKey;
-pub use lookups::names_of;
 pub use plans::plan;

@@ -1,7 +1,6 @@
-//! What stands at the place of a desk.
+//! What configurations and sets say of a desk: its name, its parent, what it is certified for.
 
-ghost use Rattle.std.specs.Prelude.{◌≡◌, All, option_map, slice_get};
-ghost use Rattle.names.specs.Name.{IsName};
+ghost use Rattle.std.specs.Prelude.{◌≡◌, option_map, slice_get};
 ghost use Rattle.entitle.specs.Certified as tree;
 ghost use Rattle.entitle.specs.Certified.{settings_of};
 ghost use Rattle.issue_plan.specs.Wanted as spec;
@@ -10,17 +9,6 @@ use authority_book::{Config, NameRow};
 use entitle::Tree;
 use names::Name;
 use res_sets::Resources;
-
-/// The names of the tree.
-pub fn names_of(configs: &[Config]) -> &[NameRow]
-    ensures names { result.now ≡ tree.names_of (settings_of configs.now) }
-    ensures plain { All (λ row. IsName row.name) result.now }
-{
-    match configs.first() {
-        Some(anchor) => anchor.names(),
-        None => &[],
-    }
-}
 
 /// The name of the desk's authority. Desks are numbered from 0.
 pub fn name_at(names: &[NameRow], desk: u32) -> Option<&NameRow>

@@ -8,11 +8,10 @@ ghost use Rattle.issue_plan.specs.Work as spec;
 ghost use Rattle.issue_plan.specs.Work.{IsPlan};
 
 use crate::keys::{NextKey, id_of, next_keys};
-use crate::lookups::names_of;
-use crate::places::{wanted_uris, withdrawn};
+use crate::uris::{wanted_uris, withdrawn};
 use crate::wanted::{certificates, points, roas};
 use authority_book::Config;
-use entitle::{Owed, Tree};
+use entitle::{Owed, Tree, names_of};
 use items::Items;
 use key_ids::{KeyId, Site};
 use key_roll::{Issued, KeyName, KeyRow, NewKey, RoleWork, Work};

@@ -11,7 +11,7 @@ use Rattle.cms_obj.specs.declared.values.ObjectKind.TheVariants as ObjectKinds
 use Rattle.payloads.specs.declared.values.ListedFile.{ListedFile}
 use Rattle.payloads.specs.ManifestFormats.{file_view}
 use Rattle.issue_values.specs.declared.publishers.Publisher.{Publisher}
-use Rattle.issue_values.specs.Publishing.{Publishing, publishing}
+use Rattle.issue_values.specs.Publishers.{Publishing, publishing}
 use Rattle.issue_values.specs.Certificates as values
 use Rattle.issue_sign.specs.Signed.{object_bytes, IsObject}
 use Rattle.key_roll.specs.declared.rows.KeyRow.{KeyRow}
@@ -22,12 +22,12 @@ use Rattle.issue_drafts.specs.Drafts.{Draft, serial_behind}
 use Rattle.issue_drafts.specs.Drafts.Kind.{Manifest}
 use Rattle.issue_drafts.specs.Views.{manifest_of, IsPlaced}
 use Rattle.issue_drafts.specs.declared.draft.ManifestDraft.{ManifestDraft}
-use Rattle.issue_sign.specs.declared.edition.Edition.{Edition}
+use Rattle.issue_sign.specs.declared.sign_input.SignInput.{SignInput}
 use Rattle.issue_sign.specs.declared.object.Object.{Object}
 use Rattle.issue_sign.specs.declared.object.SignedContent.{SignedContent}
 use Rattle.issue_sign.specs.Objects.{Answers, Signed, attributes, manifest_content, manifest_certificate, manifest_bytes}
 use Rattle.issue_sign.specs.Calls.{by_issuer, by_once, last_calls}
-use Rattle.issue_sign.specs.SignInput.{SignInput, IsSignInput, AreManifests}
+use Rattle.issue_sign.specs.SignInput.{SignInputValue, IsSignInput, AreManifests}
 use Rattle.issue_sign.specs.Spelled.{IsSpelled}
 use Rattle.issue_sign.specs.Made.{answers_of, signed, of_manifests, AreMade, IsShort, IsStop}
 use Rattle.issue_sign.specs.inner.Steps.{IsCalled, AreCalled, IsHalt, IsObjectOf, content_answers, Pairs}
@@ -40,10 +40,10 @@ use Rattle.issue_sign.proofs.Said.{publishes}
 use Rattle.issue_sign.proofs.Routes.{answers-of-once}
 use Rattle.issue_sign.proofs.Finishing.{Finishing, IsPlace, place, known_of, finishing-start, finishing-more, finishing-short, finishing-stop, finishing-end}
 
-abbrev pub content_of : IssueInput → SignInput → Signed → Call
+abbrev pub content_of : IssueInput → SignInputValue → Signed → Call
 content_of s b x = by_once x.draft.issuer (attributes s ObjectKinds.Manifest (manifest_content s b.files x.draft.issuer)) x.answers
 
-abbrev pub lasts_of : IssueInput → SignInput → List Signed → List Call
+abbrev pub lasts_of : IssueInput → SignInputValue → List Signed → List Call
 lasts_of s b made = last_calls s b.keys b.all made
 
 -- The manifest that was read is the one at its place.
@@ -54,7 +54,7 @@ manifest-here drafts i draft lt is = get_or-map manifest_of drafts i draft (mani
 -- ---- contents
 
 -- The files that were read are those of the manifest at their place.
-pub files-at : (b : SignInput) (drafts : List ManifestDraft) (next : List ℕ) (lists left : List (List ListedFile)) (k : ℕ) (draft : ManifestDraft)
+pub files-at : (b : SignInputValue) (drafts : List ManifestDraft) (next : List ℕ) (lists left : List (List ListedFile)) (k : ℕ) (draft : ManifestDraft)
     (list : List ListedFile) → AreManifests b drafts next lists → IsTurn ManifestDraft (List ListedFile) drafts lists k left draft list
     → map file_view list ≡ b.files draft.issuer.row.now
 files-at b drafts next lists left k draft list are t =
@@ -83,7 +83,7 @@ next-content drafts contents draft lt is =
       is = is;
     }
 
-pub contents-none : (s : IssueInput) (b : SignInput) (drafts : List ManifestDraft) (contents : List SignedContent) (old : List SignerState) → contents ≡ []
+pub contents-none : (s : IssueInput) (b : SignInputValue) (drafts : List ManifestDraft) (contents : List SignedContent) (old : List SignerState) → contents ≡ []
     → AreContents s b drafts contents old old
 contents-none s b drafts contents old e =
     subst (λ (l : List SignedContent). AreContents s b drafts l old old) (sym e)
@@ -92,7 +92,7 @@ contents-none s b drafts contents old e =
       pairs = pairs-nil (λ d c. IsContent s d.issuer.row.now (b.files d.issuer.row.now) c) drafts;
     })
 
-pub contents-more : Stays → (s : IssueInput) (b : SignInput) (drafts : List ManifestDraft) (contents : List SignedContent) (draft : ManifestDraft)
+pub contents-more : Stays → (s : IssueInput) (b : SignInputValue) (drafts : List ManifestDraft) (contents : List SignedContent) (draft : ManifestDraft)
     (files : List (List ℕ × List ℕ)) (c : SignedContent) (old now after : List SignerState) → IsNextContent drafts contents draft
     → files ≡ b.files draft.issuer.row.now → AreContents s b drafts contents old now → IsContent s draft.issuer.row.now files c
     → IsCalled now after (by_once draft.issuer.row.now (attributes s ObjectKinds.Manifest (manifest_text s draft.issuer.row.now files))
@@ -110,7 +110,7 @@ contents-more stays s b drafts contents draft files c old now after n e was is c
           (subst (λ (d : ManifestDraft). R d c) n.is (subst (λ (l : List (List ℕ × List ℕ)). IsContent s key l c) e is));
     }
 
-pub contents-short : (s : IssueInput) (b : SignInput) (drafts : List ManifestDraft) (contents : List SignedContent) (old now : List SignerState)
+pub contents-short : (s : IssueInput) (b : SignInputValue) (drafts : List ManifestDraft) (contents : List SignedContent) (old now : List SignerState)
     → length contents ≤ length drafts → AreContents s b drafts contents old now → IsShort (of_manifests s b) (map manifest_of drafts) old now
 contents-short s b drafts contents old now le are =
     let few = length-map contents content_answers in
@@ -119,7 +119,7 @@ contents-short s b drafts contents old now le are =
     first-short (of_manifests s b) (content_of s b) (lasts_of s b) (map manifest_of drafts) old now (map content_answers contents)
     (λ made. refl) fits are.calls.signers
 
-pub contents-stop : (s : IssueInput) (b : SignInput) (drafts : List ManifestDraft) (contents : List SignedContent) (draft : ManifestDraft)
+pub contents-stop : (s : IssueInput) (b : SignInputValue) (drafts : List ManifestDraft) (contents : List SignedContent) (draft : ManifestDraft)
     (files : List (List ℕ × List ℕ)) (old now after : List SignerState) (fault : MakeFault) → IsNextContent drafts contents draft
     → files ≡ b.files draft.issuer.row.now → AreContents s b drafts contents old now
     → IsHalt (by_once draft.issuer.row.now (attributes s ObjectKinds.Manifest (manifest_text s draft.issuer.row.now files))) now after fault
@@ -131,13 +131,13 @@ contents-stop s b drafts contents draft files old now after fault n e are halt =
     (subst (λ (l : List (List ℕ × List ℕ)). IsHalt (by_once key (attributes s ObjectKinds.Manifest (manifest_text s key l))) now after fault) e halt)
 
 -- What a manifest and its serial are to the basis.
-pub issuer-at : (b : SignInput) (drafts : List ManifestDraft) (next : List ℕ) (lists : List (List ListedFile)) (contents left : List SignedContent)
+pub issuer-at : (b : SignInputValue) (drafts : List ManifestDraft) (next : List ℕ) (lists : List (List ListedFile)) (contents left : List SignedContent)
     (k : ℕ) (draft : ManifestDraft) (c : SignedContent) → AreManifests b drafts next lists
     → IsTurn ManifestDraft SignedContent drafts contents k left draft c → IsPlaced b.rows draft.issuer
 issuer-at b drafts next lists contents left k draft c are t =
     all-at (λ (d : ManifestDraft). IsPlaced b.rows d.issuer) drafts k draft are.issuers t.few t.is
 
-pub serial-at : (b : SignInput) (drafts : List ManifestDraft) (next : List ℕ) (lists : List (List ListedFile)) (contents left : List SignedContent)
+pub serial-at : (b : SignInputValue) (drafts : List ManifestDraft) (next : List ℕ) (lists : List (List ListedFile)) (contents left : List SignedContent)
     (k : ℕ) (draft : ManifestDraft) (c : SignedContent) → AreManifests b drafts next lists
     → IsTurn ManifestDraft SignedContent drafts contents k left draft c → get_or next draft.issuer.place 0 ≡ serial_behind b.all draft.issuer.row.now
 serial-at b drafts next lists contents left k draft c are t =
@@ -146,24 +146,24 @@ serial-at b drafts next lists contents left k draft c are t =
 -- ---- one manifest
 
 -- What is known of the certificate of a manifest, whichever basis it is of.
-abbrev pub IsManifestCert : Edition → ManifestDraft → ℕ → List ℕ → Cert → Type 0
-IsManifestCert edition draft given key cert = (b : SignInput) → IsSignInput edition b → IsPlaced b.rows draft.issuer
-    → given ≡ serial_behind b.all draft.issuer.row.now → cert_value cert ≡ manifest_certificate (input_of edition.input.now) b.keys b.all
+abbrev pub IsManifestCert : SignInput → ManifestDraft → ℕ → List ℕ → Cert → Type 0
+IsManifestCert sign_input draft given key cert = (b : SignInputValue) → IsSignInput sign_input b → IsPlaced b.rows draft.issuer
+    → given ≡ serial_behind b.all draft.issuer.row.now → cert_value cert ≡ manifest_certificate (input_of sign_input.input.now) b.keys b.all
     (manifest_of draft) key
 
-pub certificate-made : {E : Type 0} (edition : Edition) (draft : ManifestDraft) (key : List ℕ) (given : ℕ) (by : Publisher) (r : Result Cert E)
-    → draft.issuer.place < length edition.publishers.now → by ≡ get_or edition.publishers.now draft.issuer.place by
-    → IfOk r (λ cert. cert_value cert ≡ values.manifest_certificate edition.input.now.site.now edition.input.now.work.now.moment
-    (publishing by) key given) → IfOk r (IsManifestCert edition draft given key)
-certificate-made edition draft key given by (Ok cert) lt is made = λ b basis placed serial.
+pub certificate-made : {E : Type 0} (sign_input : SignInput) (draft : ManifestDraft) (key : List ℕ) (given : ℕ) (by : Publisher) (r : Result Cert E)
+    → draft.issuer.place < length sign_input.publishers.now → by ≡ get_or sign_input.publishers.now draft.issuer.place by
+    → IfOk r (λ cert. cert_value cert ≡ values.manifest_certificate sign_input.input.now.site.now sign_input.input.now.work.now.moment
+    (publishing by) key given) → IfOk r (IsManifestCert sign_input draft given key)
+certificate-made sign_input draft key given by (Ok cert) lt is made = λ b basis placed serial.
     made
-    ∙ (ap (λ (p : Publishing). values.manifest_certificate edition.input.now.site.now edition.input.now.work.now.moment p key given)
-    (publishes edition b draft.issuer by basis placed lt is)
-    ∙ ap (λ (n : ℕ). values.manifest_certificate edition.input.now.site.now edition.input.now.work.now.moment
-    (publishing_of (input_of edition.input.now) b.keys draft.issuer.row.now) key n) serial)
-certificate-made edition draft key given by (Err e) lt is made = tt
+    ∙ (ap (λ (p : Publishing). values.manifest_certificate sign_input.input.now.site.now sign_input.input.now.work.now.moment p key given)
+    (publishes sign_input b draft.issuer by basis placed lt is)
+    ∙ ap (λ (n : ℕ). values.manifest_certificate sign_input.input.now.site.now sign_input.input.now.work.now.moment
+    (publishing_of (input_of sign_input.input.now) b.keys draft.issuer.row.now) key n) serial)
+certificate-made sign_input draft key given by (Err e) lt is made = tt
 
-manifest-done : (s : IssueInput) (b : SignInput) (draft : ManifestDraft) (c : SignedContent) (o : Object) (cert : CertValue) (old new : List SignerState)
+manifest-done : (s : IssueInput) (b : SignInputValue) (draft : ManifestDraft) (c : SignedContent) (o : Object) (cert : CertValue) (old new : List SignerState)
     → IsContent s draft.issuer.row.now (b.files draft.issuer.row.now) c
     → cert ≡ manifest_certificate s b.keys b.all (manifest_of draft) c.once.key.bytes → o.once ≡ Some c.once
     → IsObjectOf (object_bytes ObjectKinds.Manifest c.content.items cert o.signature.bytes c.once.key.bytes c.once.signature.bytes)
@@ -190,34 +190,34 @@ manifest-done s b draft c o cert old new content value once object called =
           (sym (answers-of-once o c once)) at;
     }
 
-pub manifest-finished : {E : Type 0} (edition : Edition) (draft : ManifestDraft) (given : ℕ) (c : SignedContent) (cert : Cert)
-    (old new : List SignerState) (r : Result Object E) → IsManifestCert edition draft given c.once.key.bytes cert
+pub manifest-finished : {E : Type 0} (sign_input : SignInput) (draft : ManifestDraft) (given : ℕ) (c : SignedContent) (cert : Cert)
+    (old new : List SignerState) (r : Result Object E) → IsManifestCert sign_input draft given c.once.key.bytes cert
     → IfOk r (λ o. IsObjectOf (object_bytes ObjectKinds.Manifest c.content.items
     (cert_value cert) o.signature.bytes c.once.key.bytes c.once.signature.bytes)
     (IsObject ObjectKinds.Manifest c.content.items (cert_value cert) o.signature.bytes c.once.key.bytes c.once.signature.bytes) o)
     → IfOk r (λ o. o.once ≡ Some c.once) → IfOk r
     (λ o. IsCalled old new (by_issuer draft.issuer.row.now (certificates.signed_bytes (cert_value cert)) o.signature.bytes))
-    → IfOk r (λ o. (b : SignInput) → IsSignInput edition b → IsPlaced b.rows draft.issuer → given ≡ serial_behind b.all draft.issuer.row.now
-    → IsContent (input_of edition.input.now) draft.issuer.row.now (b.files draft.issuer.row.now) c
-    → IsManifestOf (input_of edition.input.now) b (manifest_of draft) c o old new)
-manifest-finished edition draft given c cert old new (Ok o) value object once called = λ b basis placed serial content.
-    manifest-done (input_of edition.input.now) b draft c o (cert_value cert) old new content (value b basis placed serial) once object called
-manifest-finished edition draft given c cert old new (Err e) value object once called = tt
+    → IfOk r (λ o. (b : SignInputValue) → IsSignInput sign_input b → IsPlaced b.rows draft.issuer → given ≡ serial_behind b.all draft.issuer.row.now
+    → IsContent (input_of sign_input.input.now) draft.issuer.row.now (b.files draft.issuer.row.now) c
+    → IsManifestOf (input_of sign_input.input.now) b (manifest_of draft) c o old new)
+manifest-finished sign_input draft given c cert old new (Ok o) value object once called = λ b basis placed serial content.
+    manifest-done (input_of sign_input.input.now) b draft c o (cert_value cert) old new content (value b basis placed serial) once object called
+manifest-finished sign_input draft given c cert old new (Err e) value object once called = tt
 
-pub manifest-stopped : {T : Type 0} (edition : Edition) (draft : ManifestDraft) (given : ℕ) (c : SignedContent) (cert : Cert)
-    (old new : List SignerState) (r : Result T MakeFault) → IsManifestCert edition draft given c.once.key.bytes cert
+pub manifest-stopped : {T : Type 0} (sign_input : SignInput) (draft : ManifestDraft) (given : ℕ) (c : SignedContent) (cert : Cert)
+    (old new : List SignerState) (r : Result T MakeFault) → IsManifestCert sign_input draft given c.once.key.bytes cert
     → IfErr r (IsHalt (λ a. by_issuer draft.issuer.row.now (certificates.signed_bytes (cert_value cert)) a.last) old new)
-    → IfErr r (λ fault. (b : SignInput) → IsSignInput edition b → IsPlaced b.rows draft.issuer → given ≡ serial_behind b.all draft.issuer.row.now
-    → IsHalt (λ a. last_call (input_of edition.input.now) b (manifest_of draft) c.once.key.bytes a.last) old new fault)
-manifest-stopped edition draft given c cert old new (Ok x) value halt = tt
-manifest-stopped edition draft given c cert old new (Err fault) value halt = λ b basis placed serial.
+    → IfErr r (λ fault. (b : SignInputValue) → IsSignInput sign_input b → IsPlaced b.rows draft.issuer → given ≡ serial_behind b.all draft.issuer.row.now
+    → IsHalt (λ a. last_call (input_of sign_input.input.now) b (manifest_of draft) c.once.key.bytes a.last) old new fault)
+manifest-stopped sign_input draft given c cert old new (Ok x) value halt = tt
+manifest-stopped sign_input draft given c cert old new (Err fault) value halt = λ b basis placed serial.
     halt-as (λ a. by_issuer draft.issuer.row.now (certificates.signed_bytes (cert_value cert)) a.last)
-    (λ a. last_call (input_of edition.input.now) b (manifest_of draft) c.once.key.bytes a.last) old new fault
+    (λ a. last_call (input_of sign_input.input.now) b (manifest_of draft) c.once.key.bytes a.last) old new fault
     (λ a. ap (λ (v : CertValue). by_issuer draft.issuer.row.now (certificates.signed_bytes v) a.last) (value b basis placed serial)) halt
 
 -- ---- all manifests
 
-spread : (s : IssueInput) (b : SignInput) → IsSpread (lasts_of s b)
+spread : (s : IssueInput) (b : SignInputValue) → IsSpread (lasts_of s b)
 spread s b = record {
   nil = refl;
   append = map-append (λ (x : Signed). by_issuer x.draft.issuer
@@ -225,12 +225,12 @@ spread s b = record {
 }
 
 -- While the manifests are finished.
-abbrev pub AreEnding : IssueInput → SignInput → List ManifestDraft → List SignedContent → List Object → List SignedContent → List SignerState → List SignerState → Type 0
+abbrev pub AreEnding : IssueInput → SignInputValue → List ManifestDraft → List SignedContent → List Object → List SignedContent → List SignerState → List SignerState → Type 0
 AreEnding s b drafts contents objects left old now = Finishing (of_manifests s b) (content_of s b) (lasts_of s b) (known_of s b)
     (map manifest_of drafts) (map (content_of s b) (signed (map manifest_of drafts) (map content_answers contents))) objects
     (map content_answers left) old now
 
-pub manifests-start : (s : IssueInput) (b : SignInput) (drafts : List ManifestDraft) (contents : List SignedContent) (objects : List Object)
+pub manifests-start : (s : IssueInput) (b : SignInputValue) (drafts : List ManifestDraft) (contents : List SignedContent) (objects : List Object)
     (old now : List SignerState) → objects ≡ [] → length contents ≡ length drafts → AreContents s b drafts contents old now
     → AreEnding s b drafts contents objects contents old now
 manifests-start s b drafts contents objects old now e long are =
@@ -248,7 +248,7 @@ manifest-place drafts contents objects left draft c t =
     let few = t.few in
     place (map manifest_of drafts) objects (manifest_of draft) (omega arith) (manifest-here drafts (length objects) draft t.few t.is)
 
-pub manifest-more : Stays → (s : IssueInput) (b : SignInput) (drafts : List ManifestDraft) (contents : List SignedContent) (objects : List Object)
+pub manifest-more : Stays → (s : IssueInput) (b : SignInputValue) (drafts : List ManifestDraft) (contents : List SignedContent) (objects : List Object)
     (left : List SignedContent) (draft : ManifestDraft) (c : SignedContent) (o : Object) (old now after : List SignerState)
     → IsManifestTurn drafts contents objects left draft c → AreEnding s b drafts contents objects (c ∷ left) old now
     → IsManifestOf s b (manifest_of draft) c o now after → AreEnding s b drafts contents (objects ++ o ∷ []) left old after
@@ -264,7 +264,7 @@ manifest-more stays s b drafts contents objects left draft c o old now after t w
     (subst (λ (a : Answers). IsCalled now after (last_call s b d a.once o.signature.bytes)) (sym e) is.call))
     is.object
 
-pub manifest-stop : (s : IssueInput) (b : SignInput) (drafts : List ManifestDraft) (contents : List SignedContent) (objects : List Object)
+pub manifest-stop : (s : IssueInput) (b : SignInputValue) (drafts : List ManifestDraft) (contents : List SignedContent) (objects : List Object)
     (left : List SignedContent) (draft : ManifestDraft) (c : SignedContent) (old now after : List SignerState) (fault : MakeFault)
     → IsManifestTurn drafts contents objects left draft c → AreEnding s b drafts contents objects (c ∷ left) old now
     → IsHalt (λ a. last_call s b (manifest_of draft) c.once.key.bytes a.last) now after fault
@@ -275,7 +275,7 @@ manifest-stop s b drafts contents objects left draft c old now after fault t was
     objects (map content_answers left) (content_answers c) old now after (manifest_of draft) (λ a. last_call s b (manifest_of draft) c.once.key.bytes a.last) fault
     (λ made. refl) (spread s b) (manifest-place drafts contents objects left draft c t) was (λ a. refl) (λ a. refl) halt
 
-pub manifests-short : (s : IssueInput) (b : SignInput) (drafts : List ManifestDraft) (contents : List SignedContent) (objects : List Object)
+pub manifests-short : (s : IssueInput) (b : SignInputValue) (drafts : List ManifestDraft) (contents : List SignedContent) (objects : List Object)
     (left : List SignedContent) (old now : List SignerState) → AreEnding s b drafts contents objects left old now
     → IsStop (of_manifests s b) (map manifest_of drafts) old now Memory
 manifests-short s b drafts contents objects left old now was =
@@ -283,7 +283,7 @@ manifests-short s b drafts contents objects left old now was =
     (map (content_of s b) (signed (map manifest_of drafts) (map content_answers contents)))
     objects (map content_answers left) old now (λ made. refl) (spread s b) was
 
-pub manifests-end : (s : IssueInput) (b : SignInput) (drafts : List ManifestDraft) (contents : List SignedContent) (objects : List Object)
+pub manifests-end : (s : IssueInput) (b : SignInputValue) (drafts : List ManifestDraft) (contents : List SignedContent) (objects : List Object)
     (left : List SignedContent) (old now : List SignerState) → left ≡ [] → AreEnding s b drafts contents objects left old now
     → AreMade s b (of_manifests s b) (map manifest_of drafts) old now objects (signed (map manifest_of drafts) (map answers_of objects))
 manifests-end s b drafts contents objects left old now e was =

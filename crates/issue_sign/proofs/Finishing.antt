@@ -11,7 +11,7 @@ use Rattle.issue_drafts.specs.Certificates.{IssueInput}
 use Rattle.issue_drafts.specs.Drafts.{Draft}
 use Rattle.issue_sign.specs.declared.object.Object.{Object}
 use Rattle.issue_sign.specs.Objects.{Answers, Signed}
-use Rattle.issue_sign.specs.SignInput.{SignInput}
+use Rattle.issue_sign.specs.SignInput.{SignInputValue}
 use Rattle.issue_sign.specs.Spelled.{IsSpelled}
 use Rattle.issue_sign.specs.Made.{answers_of, signed, Way, AreMade, IsShort, IsStop}
 use Rattle.issue_sign.specs.inner.Steps.{AreCalled, IsHalt, IsObjectOf, Pairs}
@@ -110,10 +110,10 @@ lists way Known (d ∷ ds) (o ∷ objects) pairs =
       known = All-cons Known x (signed ds (map answers_of objects)) pairs.0.known rest.known;
     }
 
-abbrev pub known_of : IssueInput → SignInput → Signed → Type 0
+abbrev pub known_of : IssueInput → SignInputValue → Signed → Type 0
 known_of s b x = IsSpelled s b x.draft x.draft.kind x.answers
 
-pub finishing-end : (s : IssueInput) (b : SignInput) (way : Way) (f : Signed → Call) (second : List Signed → List Call) (ds : List Draft)
+pub finishing-end : (s : IssueInput) (b : SignInputValue) (way : Way) (f : Signed → Call) (second : List Signed → List Call) (ds : List Draft)
     (firsts : List Call) (objects : List Object) (left : List Answers) (old now : List SignerState) → IsWay way f second → left ≡ []
     → Finishing way f second (known_of s b) ds firsts objects left old now → AreMade s b way ds old now objects (signed ds (map answers_of objects))
 finishing-end s b way f second ds firsts objects left old now is e was =

@@ -10,7 +10,7 @@ use Rattle.issue_drafts.specs.Drafts.{Draft}
 use Rattle.issue_drafts.specs.Views.{draft_of, IsPlaced, IsSubjectPlaced}
 use Rattle.issue_drafts.specs.Serials.{given_serial}
 use Rattle.issue_drafts.specs.declared.draft.Draft as code
-use Rattle.issue_sign.specs.SignInput.{SignInput, AreDrafts}
+use Rattle.issue_sign.specs.SignInput.{SignInputValue, AreDrafts}
 use Rattle.issue_sign.specs.inner.Steps.{IsDraft, Pairs}
 use Rattle.issue_sign.proofs.Lists.{pairs-at}
 
@@ -30,7 +30,7 @@ pub draft-here : (drafts : List code.Draft) (i : ℕ) (draft : code.Draft) → i
     → get_or (map draft_of drafts) i (draft_of draft) ≡ draft_of draft
 draft-here drafts i draft lt is = get_or-map draft_of drafts i draft (draft_of draft) lt ∙ ap draft_of (sym is)
 
-pub is-draft : (b : SignInput) (drafts : List code.Draft) (serials : List ℕ) (i : ℕ) (draft : code.Draft) → AreDrafts b drafts serials → i < length drafts
+pub is-draft : (b : SignInputValue) (drafts : List code.Draft) (serials : List ℕ) (i : ℕ) (draft : code.Draft) → AreDrafts b drafts serials → i < length drafts
     → draft ≡ get_or drafts i draft → IsDraft b draft (get_or serials i 0)
 is-draft b drafts serials i draft are lt is = record {
   issuer = all-at (λ (d : code.Draft). IsPlaced b.rows d.issuer) drafts i draft are.issuers lt is;
@@ -41,7 +41,7 @@ is-draft b drafts serials i draft are lt is = record {
 }
 
 -- The same where the serial was read at a number that is that one.
-pub read-draft : (b : SignInput) (drafts : List code.Draft) (serials : List ℕ) (i at : ℕ) (draft : code.Draft) → at ≡ i → AreDrafts b drafts serials
+pub read-draft : (b : SignInputValue) (drafts : List code.Draft) (serials : List ℕ) (i at : ℕ) (draft : code.Draft) → at ≡ i → AreDrafts b drafts serials
     → i < length drafts → draft ≡ get_or drafts i draft → IsDraft b draft (get_or serials at 0)
 read-draft b drafts serials i at draft e are lt is =
     subst (λ (n : ℕ). IsDraft b draft (get_or serials n 0)) (sym e) (is-draft b drafts serials i draft are lt is)

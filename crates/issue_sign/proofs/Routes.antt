@@ -23,14 +23,14 @@ use Rattle.issue_drafts.specs.Drafts.{Draft, Kind}
 use Rattle.issue_drafts.specs.Drafts.Kind.{Roa}
 use Rattle.issue_drafts.specs.Views.{draft_of, kind_of}
 use Rattle.issue_drafts.specs.declared.draft.Draft as code
-use Rattle.issue_sign.specs.declared.edition.Edition.{Edition}
+use Rattle.issue_sign.specs.declared.sign_input.SignInput.{SignInput}
 use Rattle.issue_sign.specs.declared.object.Object.{Object}
 use Rattle.issue_sign.specs.declared.object.SignedContent.{SignedContent}
 use Rattle.issue_sign.specs.declared.firsts.Half.{Half}
 use Rattle.issue_sign.specs.declared.firsts.Half.TheVariants.{Made, Begun}
 use Rattle.issue_sign.specs.Objects.{Answers, Signed, bytes_by, roa_content, roa_certificate}
 use Rattle.issue_sign.specs.Calls.{by_issuer, first_call, second_call, second_calls}
-use Rattle.issue_sign.specs.SignInput.{SignInput, IsSignInput, AreDrafts}
+use Rattle.issue_sign.specs.SignInput.{SignInputValue, IsSignInput, AreDrafts}
 use Rattle.issue_sign.specs.Spelled.{IsSpelled}
 use Rattle.issue_sign.specs.Made.{answers_of, signed, of_drafts, AreMade, IsStop}
 use Rattle.issue_sign.specs.inner.Steps.{IsCalled, AreCalled, IsHalt, IsObjectOf, content_answers, half_answers, IsHalf, IsDraft}
@@ -54,12 +54,12 @@ answers-of-once o c e =
     } in a) e
 
 -- What is to be shown of a ROA, by its kind and what was answered.
-record IsDone (s : IssueInput) (b : SignInput) (d : Draft) (c : SignedContent) (o : Object) (old new : List SignerState) (kind : Kind) (a : Answers) : Type 0 where
+record IsDone (s : IssueInput) (b : SignInputValue) (d : Draft) (c : SignedContent) (o : Object) (old new : List SignerState) (kind : Kind) (a : Answers) : Type 0 where
   same : first_call s b.keys b.all b.entries d kind a ≡ first_call s b.keys b.all b.entries d kind (content_answers c)
   calls : AreCalled old new (option_to_list (second_call s b.keys b.all d kind a))
   object : IsObjectOf (bytes_by s b.keys b.all b.entries d kind a) (IsSpelled s b d kind a) o
 
-roa-done : (s : IssueInput) (b : SignInput) (d : Draft) (kind : Kind) (origin : Origin) (c : SignedContent) (o : Object) (cert : CertValue)
+roa-done : (s : IssueInput) (b : SignInputValue) (d : Draft) (kind : Kind) (origin : Origin) (c : SignedContent) (o : Object) (cert : CertValue)
     (old new : List SignerState) → kind ≡ Roa origin → IsRoa (roa_of origin) → c.content.items ≡ roa_content origin
     → cert ≡ roa_certificate s b.keys b.all d origin c.once.key.bytes → o.once ≡ Some c.once
     → IsObjectOf (object_bytes ObjectKinds.Roa c.content.items cert o.signature.bytes c.once.key.bytes c.once.signature.bytes)
@@ -86,41 +86,41 @@ roa-done s b d kind origin c o cert old new e roa content value once object call
     record { same = all.same; calls = all.calls; object = all.object }
 
 -- What is known of the certificate of a ROA, whichever basis it is of.
-abbrev pub IsRoaCert : Edition → code.Draft → ℕ → Origin → List ℕ → Cert → Type 0
-IsRoaCert edition draft given origin key cert = (b : SignInput) → IsSignInput edition b → IsDraft b draft given → kind_of draft.kind ≡ Roa origin
-    → cert_value cert ≡ roa_certificate (input_of edition.input.now) b.keys b.all (draft_of draft) origin key
+abbrev pub IsRoaCert : SignInput → code.Draft → ℕ → Origin → List ℕ → Cert → Type 0
+IsRoaCert sign_input draft given origin key cert = (b : SignInputValue) → IsSignInput sign_input b → IsDraft b draft given → kind_of draft.kind ≡ Roa origin
+    → cert_value cert ≡ roa_certificate (input_of sign_input.input.now) b.keys b.all (draft_of draft) origin key
 
-pub roa-finished : {E : Type 0} (edition : Edition) (draft : code.Draft) (given : ℕ) (origin : Origin) (c : SignedContent) (cert : Cert)
-    (old new : List SignerState) (r : Result Object E) → IsRoaCert edition draft given origin c.once.key.bytes cert
+pub roa-finished : {E : Type 0} (sign_input : SignInput) (draft : code.Draft) (given : ℕ) (origin : Origin) (c : SignedContent) (cert : Cert)
+    (old new : List SignerState) (r : Result Object E) → IsRoaCert sign_input draft given origin c.once.key.bytes cert
     → IfOk r (λ o. IsObjectOf (object_bytes ObjectKinds.Roa c.content.items
     (cert_value cert) o.signature.bytes c.once.key.bytes c.once.signature.bytes)
     (IsObject ObjectKinds.Roa c.content.items (cert_value cert) o.signature.bytes c.once.key.bytes c.once.signature.bytes) o)
     → IfOk r (λ o. o.once ≡ Some c.once) → IfOk r
     (λ o. IsCalled old new (by_issuer draft.issuer.row.now (certificates.signed_bytes (cert_value cert)) o.signature.bytes))
-    → IfOk r (λ o. (b : SignInput) → IsSignInput edition b → IsDraft b draft given → IsHalf (input_of edition.input.now) b (draft_of draft)
-    (kind_of draft.kind) (Begun origin c) → IsFinished (input_of edition.input.now) b (draft_of draft) (kind_of draft.kind)
+    → IfOk r (λ o. (b : SignInputValue) → IsSignInput sign_input b → IsDraft b draft given → IsHalf (input_of sign_input.input.now) b (draft_of draft)
+    (kind_of draft.kind) (Begun origin c) → IsFinished (input_of sign_input.input.now) b (draft_of draft) (kind_of draft.kind)
     (Begun origin c) o old new)
-roa-finished edition draft given origin c cert old new (Ok o) value object once called = λ b basis is half.
-    roa-done (input_of edition.input.now) b (draft_of draft) (kind_of draft.kind) origin c o (cert_value cert) old new half.0 half.1 half.2
+roa-finished sign_input draft given origin c cert old new (Ok o) value object once called = λ b basis is half.
+    roa-done (input_of sign_input.input.now) b (draft_of draft) (kind_of draft.kind) origin c o (cert_value cert) old new half.0 half.1 half.2
     (value b basis is half.0) once object called
-roa-finished edition draft given origin c cert old new (Err e) value object once called = tt
+roa-finished sign_input draft given origin c cert old new (Err e) value object once called = tt
 
-pub roa-stopped : {T : Type 0} (edition : Edition) (draft : code.Draft) (given : ℕ) (origin : Origin) (c : SignedContent) (cert : Cert)
-    (old new : List SignerState) (r : Result T MakeFault) → IsRoaCert edition draft given origin c.once.key.bytes cert
+pub roa-stopped : {T : Type 0} (sign_input : SignInput) (draft : code.Draft) (given : ℕ) (origin : Origin) (c : SignedContent) (cert : Cert)
+    (old new : List SignerState) (r : Result T MakeFault) → IsRoaCert sign_input draft given origin c.once.key.bytes cert
     → IfErr r (IsHalt (λ a. by_issuer draft.issuer.row.now (certificates.signed_bytes (cert_value cert)) a.last) old new)
-    → IfErr r (λ fault. (b : SignInput) → IsSignInput edition b → IsDraft b draft given → IsHalf (input_of edition.input.now) b (draft_of draft)
-    (kind_of draft.kind) (Begun origin c) → IsFinishHalt (input_of edition.input.now) b (draft_of draft) (Begun origin c) old new fault)
-roa-stopped edition draft given origin c cert old new (Ok x) value halt = tt
-roa-stopped edition draft given origin c cert old new (Err fault) value halt = λ b basis is half.
+    → IfErr r (λ fault. (b : SignInputValue) → IsSignInput sign_input b → IsDraft b draft given → IsHalf (input_of sign_input.input.now) b (draft_of draft)
+    (kind_of draft.kind) (Begun origin c) → IsFinishHalt (input_of sign_input.input.now) b (draft_of draft) (Begun origin c) old new fault)
+roa-stopped sign_input draft given origin c cert old new (Ok x) value halt = tt
+roa-stopped sign_input draft given origin c cert old new (Err fault) value halt = λ b basis is half.
     halt-as (λ a. by_issuer draft.issuer.row.now (certificates.signed_bytes (cert_value cert)) a.last)
     (λ a. by_issuer draft.issuer.row.now (certificates.signed_bytes
-    (roa_certificate (input_of edition.input.now) b.keys b.all (draft_of draft) origin c.once.key.bytes)) a.last)
+    (roa_certificate (input_of sign_input.input.now) b.keys b.all (draft_of draft) origin c.once.key.bytes)) a.last)
     old new fault
     (λ a. ap (λ (v : CertValue). by_issuer draft.issuer.row.now (certificates.signed_bytes v) a.last) (value b basis is half.0)) halt
 
 -- ---- any draft
 
-made-finished : (s : IssueInput) (b : SignInput) (d : Draft) (kind : Kind) (o : Object) (old : List SignerState) → IsHalf s b d kind (Made o)
+made-finished : (s : IssueInput) (b : SignInputValue) (d : Draft) (kind : Kind) (o : Object) (old : List SignerState) → IsHalf s b d kind (Made o)
     → IsFinished s b d kind (Made o) o old old
 made-finished s b d kind o old half = record {
   same = refl;
@@ -128,7 +128,7 @@ made-finished s b d kind o old half = record {
   object = half.1;
 }
 
-pub finished-as : (s : IssueInput) (b : SignInput) (d : Draft) (kind : Kind) (half : Half) (o : Object) (old : List SignerState) → half ≡ Made o
+pub finished-as : (s : IssueInput) (b : SignInputValue) (d : Draft) (kind : Kind) (half : Half) (o : Object) (old : List SignerState) → half ≡ Made o
     → IsHalf s b d kind half → IsFinished s b d kind half o old old
 finished-as s b d kind half o old e is =
     subst (λ (h : Half). IsFinished s b d kind h o old old) (sym e)
@@ -136,7 +136,7 @@ finished-as s b d kind half o old e is =
 
 -- ---- all drafts
 
-pub spread : (s : IssueInput) (b : SignInput) → IsSpread (seconds_of s b)
+pub spread : (s : IssueInput) (b : SignInputValue) → IsSpread (seconds_of s b)
 spread s b = record {
   nil = refl;
   append = filter_map-append (λ (x : Signed). second_call s b.keys b.all x.draft x.draft.kind x.answers);
@@ -147,11 +147,11 @@ one-call None = refl
 one-call (Some c) = refl
 
 -- While the drafts are finished.
-abbrev pub AreFinishing : IssueInput → SignInput → List code.Draft → List Half → List Object → List Half → List SignerState → List SignerState → Type 0
+abbrev pub AreFinishing : IssueInput → SignInputValue → List code.Draft → List Half → List Object → List Half → List SignerState → List SignerState → Type 0
 AreFinishing s b drafts halves objects left old now = Finishing (of_drafts s b) (first_of s b) (seconds_of s b) (known_of s b) (map draft_of drafts)
     (map (first_of s b) (signed (map draft_of drafts) (map half_answers halves))) objects (map half_answers left) old now
 
-pub drafts-start : (s : IssueInput) (b : SignInput) (drafts : List code.Draft) (halves : List Half) (objects : List Object) (old now : List SignerState)
+pub drafts-start : (s : IssueInput) (b : SignInputValue) (drafts : List code.Draft) (halves : List Half) (objects : List Object) (old now : List SignerState)
     → objects ≡ [] → length halves ≡ length drafts → AreHalves s b drafts halves old now → AreFinishing s b drafts halves objects halves old now
 drafts-start s b drafts halves objects old now e long are =
     finishing-start (of_drafts s b) (first_of s b) (seconds_of s b) (known_of s b) (map draft_of drafts) objects (map half_answers halves) old now
@@ -168,7 +168,7 @@ turn-place drafts halves objects left draft half t =
     let few = t.few in
     place (map draft_of drafts) objects (draft_of draft) (omega arith) (draft-here drafts (length objects) draft t.few t.is)
 
-pub turn-more : Stays → (s : IssueInput) (b : SignInput) (drafts : List code.Draft) (halves : List Half) (objects : List Object) (left : List Half)
+pub turn-more : Stays → (s : IssueInput) (b : SignInputValue) (drafts : List code.Draft) (halves : List Half) (objects : List Object) (left : List Half)
     (draft : code.Draft) (half : Half) (o : Object) (old now after : List SignerState) → IsDraftTurn drafts halves objects left draft half
     → AreFinishing s b drafts halves objects (half ∷ left) old now → IsFinished s b (draft_of draft) (kind_of draft.kind) half o now after
     → AreFinishing s b drafts halves (objects ++ o ∷ []) left old after
@@ -182,7 +182,7 @@ turn-more stays s b drafts halves objects left draft half o old now after t was 
     (one-call (second_call s b.keys b.all (draft_of draft) (kind_of draft.kind) (answers_of o))) is.calls)
     is.object
 
-pub turn-stop : (s : IssueInput) (b : SignInput) (drafts : List code.Draft) (halves : List Half) (objects : List Object) (left : List Half)
+pub turn-stop : (s : IssueInput) (b : SignInputValue) (drafts : List code.Draft) (halves : List Half) (objects : List Object) (left : List Half)
     (draft : code.Draft) (half : Half) (old now after : List SignerState) (fault : MakeFault) → IsDraftTurn drafts halves objects left draft half
     → AreFinishing s b drafts halves objects (half ∷ left) old now → IsHalf s b (draft_of draft) (kind_of draft.kind) half
     → IsFinishHalt s b (draft_of draft) half now after fault → IsStop (of_drafts s b) (map draft_of drafts) old after fault
@@ -199,14 +199,14 @@ turn-stop s b drafts halves objects left draft (Begun origin c) old now after fa
     (λ a. subst (λ (k : Kind). cons_option (second_call s b.keys b.all d k (with_last h a)) [] ≡ call a ∷ []) (sym is.0) refl)
     halt
 
-pub drafts-short : (s : IssueInput) (b : SignInput) (drafts : List code.Draft) (halves : List Half) (objects : List Object) (left : List Half)
+pub drafts-short : (s : IssueInput) (b : SignInputValue) (drafts : List code.Draft) (halves : List Half) (objects : List Object) (left : List Half)
     (old now : List SignerState) → AreFinishing s b drafts halves objects left old now → IsStop (of_drafts s b) (map draft_of drafts) old now Memory
 drafts-short s b drafts halves objects left old now was =
     finishing-short (of_drafts s b) (first_of s b) (seconds_of s b) (known_of s b) (map draft_of drafts)
     (map (first_of s b) (signed (map draft_of drafts) (map half_answers halves)))
     objects (map half_answers left) old now (λ made. refl) (spread s b) was
 
-pub drafts-end : (s : IssueInput) (b : SignInput) (drafts : List code.Draft) (halves : List Half) (objects : List Object) (left : List Half)
+pub drafts-end : (s : IssueInput) (b : SignInputValue) (drafts : List code.Draft) (halves : List Half) (objects : List Object) (left : List Half)
     (old now : List SignerState) → left ≡ [] → AreFinishing s b drafts halves objects left old now
     → AreMade s b (of_drafts s b) (map draft_of drafts) old now objects (signed (map draft_of drafts) (map answers_of objects))
 drafts-end s b drafts halves objects left old now e was =

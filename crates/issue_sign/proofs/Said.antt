@@ -13,7 +13,7 @@ use Rattle.cert_obj.specs.Values.{CertValue, cert_value}
 use Rattle.crl_obj.specs.declared.values.Crl.{Crl}
 use Rattle.crl_obj.specs.Values.{CrlValue, crl_value}
 use Rattle.issue_values.specs.declared.publishers.Publisher.{Publisher}
-use Rattle.issue_values.specs.Publishing.{Publishing, publishing}
+use Rattle.issue_values.specs.Publishers.{Publishing, publishing}
 use Rattle.issue_values.specs.Certificates as values
 use Rattle.issue_values.specs.Bodies.{crl_value_of}
 use Rattle.key_roll.specs.declared.rows.RevokedRow.{RevokedRow}
@@ -27,21 +27,21 @@ use Rattle.issue_drafts.specs.declared.draft.KeyAt.{KeyAt}
 use Rattle.issue_drafts.specs.declared.draft.Draft as code
 use Rattle.issue_drafts.specs.declared.draft.DraftKind.{DraftKind}
 use Rattle.issue_drafts.specs.declared.draft.DraftKind.TheVariants as kinds
-use Rattle.issue_sign.specs.declared.edition.Edition.{Edition}
+use Rattle.issue_sign.specs.declared.sign_input.SignInput.{SignInput}
 use Rattle.issue_sign.specs.declared.values.Unsigned.TheVariants as unsigned
 use Rattle.issue_sign.specs.Objects.{certificate_with, crl_of, number_of, roa_certificate}
-use Rattle.issue_sign.specs.SignInput.{SignInput, IsSignInput}
+use Rattle.issue_sign.specs.SignInput.{SignInputValue, IsSignInput}
 use Rattle.issue_sign.specs.inner.Steps.{IsValueOf, IsDraft}
 use Rattle.issue_sign.proofs.Places.{mapped-at}
 
 -- A key's publishing, as it was read.
-pub publishes : (edition : Edition) (b : SignInput) (k : KeyAt) (p : Publisher) → IsSignInput edition b → IsPlaced b.rows k
-    → k.place < length edition.publishers.now → p ≡ get_or edition.publishers.now k.place p
-    → publishing p ≡ publishing_of (input_of edition.input.now) b.keys k.row.now
-publishes edition b k p basis placed lt is =
+pub publishes : (sign_input : SignInput) (b : SignInputValue) (k : KeyAt) (p : Publisher) → IsSignInput sign_input b → IsPlaced b.rows k
+    → k.place < length sign_input.publishers.now → p ≡ get_or sign_input.publishers.now k.place p
+    → publishing p ≡ publishing_of (input_of sign_input.input.now) b.keys k.row.now
+publishes sign_input b k p basis placed lt is =
     ap publishing is
-    ∙ (sym (get_or-map publishing edition.publishers.now k.place p (publishing p) lt)
-    ∙ mapped-at (publishing_of (input_of edition.input.now) b.keys) b.rows (map publishing edition.publishers.now) k.place k.row.now
+    ∙ (sym (get_or-map publishing sign_input.publishers.now k.place p (publishing p) lt)
+    ∙ mapped-at (publishing_of (input_of sign_input.input.now) b.keys) b.rows (map publishing sign_input.publishers.now) k.place k.row.now
     (publishing p) basis.publishers placed)
 
 -- ---- certificates
@@ -81,62 +81,62 @@ authority-with s keys issuer subject held serial by of cert e f test is =
     (same-key s keys issuer subject by of e f ∙ test)))
 
 -- What was made is the certificate of whichever basis the edition is.
-pub anchor-made : {E : Type 0} (edition : Edition) (issuer subject : KeyAt) (held : Resources) (serial : ℕ) (by of : Publisher) (r : Result Cert E)
-    → issuer.place < length edition.publishers.now → subject.place < length edition.publishers.now
-    → by ≡ get_or edition.publishers.now issuer.place by → of ≡ get_or edition.publishers.now subject.place of
+pub anchor-made : {E : Type 0} (sign_input : SignInput) (issuer subject : KeyAt) (held : Resources) (serial : ℕ) (by of : Publisher) (r : Result Cert E)
+    → issuer.place < length sign_input.publishers.now → subject.place < length sign_input.publishers.now
+    → by ≡ get_or sign_input.publishers.now issuer.place by → of ≡ get_or sign_input.publishers.now subject.place of
     → bytes_eq by.id.bytes of.id.bytes ≡ true
-    → IfOk r (λ cert. cert_value cert ≡ values.anchor_certificate edition.input.now.site.now edition.input.now.work.now.moment
-    (publishing by) held serial) → IfOk r (λ cert. (b : SignInput) → IsSignInput edition b → IsPlaced b.rows issuer → IsPlaced b.rows subject
-    → cert_value cert ≡ certificate_with (input_of edition.input.now) b.keys issuer.row.now subject.row.now held serial)
-anchor-made edition issuer subject held serial by of (Ok cert) in-issuer in-subject is-by is-of test made = λ b basis p q.
-    anchor-with (input_of edition.input.now) b.keys issuer.row.now subject.row.now held serial (publishing by) (publishing of) (cert_value cert)
-    (publishes edition b issuer by basis p in-issuer is-by) (publishes edition b subject of basis q in-subject is-of) test made
-anchor-made edition issuer subject held serial by of (Err e) in-issuer in-subject is-by is-of test made = tt
+    → IfOk r (λ cert. cert_value cert ≡ values.anchor_certificate sign_input.input.now.site.now sign_input.input.now.work.now.moment
+    (publishing by) held serial) → IfOk r (λ cert. (b : SignInputValue) → IsSignInput sign_input b → IsPlaced b.rows issuer → IsPlaced b.rows subject
+    → cert_value cert ≡ certificate_with (input_of sign_input.input.now) b.keys issuer.row.now subject.row.now held serial)
+anchor-made sign_input issuer subject held serial by of (Ok cert) in-issuer in-subject is-by is-of test made = λ b basis p q.
+    anchor-with (input_of sign_input.input.now) b.keys issuer.row.now subject.row.now held serial (publishing by) (publishing of) (cert_value cert)
+    (publishes sign_input b issuer by basis p in-issuer is-by) (publishes sign_input b subject of basis q in-subject is-of) test made
+anchor-made sign_input issuer subject held serial by of (Err e) in-issuer in-subject is-by is-of test made = tt
 
-pub authority-made : {E : Type 0} (edition : Edition) (issuer subject : KeyAt) (held : Resources) (serial : ℕ) (by of : Publisher) (r : Result Cert E)
-    → issuer.place < length edition.publishers.now → subject.place < length edition.publishers.now
-    → by ≡ get_or edition.publishers.now issuer.place by → of ≡ get_or edition.publishers.now subject.place of
+pub authority-made : {E : Type 0} (sign_input : SignInput) (issuer subject : KeyAt) (held : Resources) (serial : ℕ) (by of : Publisher) (r : Result Cert E)
+    → issuer.place < length sign_input.publishers.now → subject.place < length sign_input.publishers.now
+    → by ≡ get_or sign_input.publishers.now issuer.place by → of ≡ get_or sign_input.publishers.now subject.place of
     → bytes_eq by.id.bytes of.id.bytes ≡ false
-    → IfOk r (λ cert. cert_value cert ≡ values.authority_certificate edition.input.now.site.now edition.input.now.work.now.moment (publishing by)
-    (publishing of) held serial) → IfOk r (λ cert. (b : SignInput) → IsSignInput edition b → IsPlaced b.rows issuer → IsPlaced b.rows subject
-    → cert_value cert ≡ certificate_with (input_of edition.input.now) b.keys issuer.row.now subject.row.now held serial)
-authority-made edition issuer subject held serial by of (Ok cert) in-issuer in-subject is-by is-of test made = λ b basis p q.
-    authority-with (input_of edition.input.now) b.keys issuer.row.now subject.row.now held serial (publishing by) (publishing of) (cert_value cert)
-    (publishes edition b issuer by basis p in-issuer is-by) (publishes edition b subject of basis q in-subject is-of) test made
-authority-made edition issuer subject held serial by of (Err e) in-issuer in-subject is-by is-of test made = tt
+    → IfOk r (λ cert. cert_value cert ≡ values.authority_certificate sign_input.input.now.site.now sign_input.input.now.work.now.moment (publishing by)
+    (publishing of) held serial) → IfOk r (λ cert. (b : SignInputValue) → IsSignInput sign_input b → IsPlaced b.rows issuer → IsPlaced b.rows subject
+    → cert_value cert ≡ certificate_with (input_of sign_input.input.now) b.keys issuer.row.now subject.row.now held serial)
+authority-made sign_input issuer subject held serial by of (Ok cert) in-issuer in-subject is-by is-of test made = λ b basis p q.
+    authority-with (input_of sign_input.input.now) b.keys issuer.row.now subject.row.now held serial (publishing by) (publishing of) (cert_value cert)
+    (publishes sign_input b issuer by basis p in-issuer is-by) (publishes sign_input b subject of basis q in-subject is-of) test made
+authority-made sign_input issuer subject held serial by of (Err e) in-issuer in-subject is-by is-of test made = tt
 
 -- ---- CRLs
 
-crl-is : (edition : Edition) (b : SignInput) (k : KeyAt) (p : Publisher) (item entries : List RevokedRow) (crl : CrlValue) → IsSignInput edition b
-    → IsPlaced b.rows k → publishing p ≡ publishing_of (input_of edition.input.now) b.keys k.row.now
-    → entries ≡ get_or edition.revoked.now k.place item → crl ≡ crl_value_of edition.input.now.work.now.moment p.id.bytes
-    (number_of k.row.now) entries → crl ≡ crl_of (input_of edition.input.now) b.entries k.row.now
-crl-is edition b k p item entries crl basis placed e is made =
-    let here : entries ≡ b.entries k.row.now = is ∙ mapped-at b.entries b.rows edition.revoked.now k.place k.row.now item basis.entries placed in
+crl-is : (sign_input : SignInput) (b : SignInputValue) (k : KeyAt) (p : Publisher) (item entries : List RevokedRow) (crl : CrlValue) → IsSignInput sign_input b
+    → IsPlaced b.rows k → publishing p ≡ publishing_of (input_of sign_input.input.now) b.keys k.row.now
+    → entries ≡ get_or sign_input.revoked.now k.place item → crl ≡ crl_value_of sign_input.input.now.work.now.moment p.id.bytes
+    (number_of k.row.now) entries → crl ≡ crl_of (input_of sign_input.input.now) b.entries k.row.now
+crl-is sign_input b k p item entries crl basis placed e is made =
+    let here : entries ≡ b.entries k.row.now = is ∙ mapped-at b.entries b.rows sign_input.revoked.now k.place k.row.now item basis.entries placed in
     made
-    ∙ (ap (λ (q : Publishing). crl_value_of edition.input.now.work.now.moment q.id (number_of k.row.now) entries) e
-    ∙ ap (λ (l : List RevokedRow). crl_value_of edition.input.now.work.now.moment
-    (publishing_of (input_of edition.input.now) b.keys k.row.now).id (number_of k.row.now) l) here)
+    ∙ (ap (λ (q : Publishing). crl_value_of sign_input.input.now.work.now.moment q.id (number_of k.row.now) entries) e
+    ∙ ap (λ (l : List RevokedRow). crl_value_of sign_input.input.now.work.now.moment
+    (publishing_of (input_of sign_input.input.now) b.keys k.row.now).id (number_of k.row.now) l) here)
 
-pub crl-made : {E : Type 0} (edition : Edition) (k : KeyAt) (p : Publisher) (item entries : List RevokedRow) (r : Result Crl E)
-    → k.place < length edition.publishers.now → p ≡ get_or edition.publishers.now k.place p → entries ≡ get_or edition.revoked.now k.place item
-    → IfOk r (λ crl. crl_value crl ≡ crl_value_of edition.input.now.work.now.moment p.id.bytes (number_of k.row.now) entries)
-    → IfOk r (λ crl. (b : SignInput) → IsSignInput edition b → IsPlaced b.rows k
-    → crl_value crl ≡ crl_of (input_of edition.input.now) b.entries k.row.now)
-crl-made edition k p item entries (Ok crl) lt is-p is-item made = λ b basis placed.
-    crl-is edition b k p item entries (crl_value crl) basis placed (publishes edition b k p basis placed lt is-p) is-item made
-crl-made edition k p item entries (Err e) lt is-p is-item made = tt
+pub crl-made : {E : Type 0} (sign_input : SignInput) (k : KeyAt) (p : Publisher) (item entries : List RevokedRow) (r : Result Crl E)
+    → k.place < length sign_input.publishers.now → p ≡ get_or sign_input.publishers.now k.place p → entries ≡ get_or sign_input.revoked.now k.place item
+    → IfOk r (λ crl. crl_value crl ≡ crl_value_of sign_input.input.now.work.now.moment p.id.bytes (number_of k.row.now) entries)
+    → IfOk r (λ crl. (b : SignInputValue) → IsSignInput sign_input b → IsPlaced b.rows k
+    → crl_value crl ≡ crl_of (input_of sign_input.input.now) b.entries k.row.now)
+crl-made sign_input k p item entries (Ok crl) lt is-p is-item made = λ b basis placed.
+    crl-is sign_input b k p item entries (crl_value crl) basis placed (publishes sign_input b k p basis placed lt is-p) is-item made
+crl-made sign_input k p item entries (Err e) lt is-p is-item made = tt
 
 -- ---- serials
 
 -- A draft of such a kind has the serial of its place.
-pub numbered : (b : SignInput) (d : code.Draft) (given : ℕ) → IsDraft b d given → has_serial (kind_of d.kind) ≡ true → given ≡ serial_at b.all d.issuer.row.now d.uri
+pub numbered : (b : SignInputValue) (d : code.Draft) (given : ℕ) → IsDraft b d given → has_serial (kind_of d.kind) ≡ true → given ≡ serial_at b.all d.issuer.row.now d.uri
 numbered b d given is e =
     is.serial ∙ sym (chosen (has_serial (kind_of d.kind)) (serial_at b.all d.issuer.row.now d.uri) 0 e)
 
 -- ---- what is signed first
 
-pub certificate-value : (s : IssueInput) (b : SignInput) (d : code.Draft) (subject : KeyAt) (held : Bor Resources) (given : ℕ) (cert : Cert)
+pub certificate-value : (s : IssueInput) (b : SignInputValue) (d : code.Draft) (subject : KeyAt) (held : Bor Resources) (given : ℕ) (cert : Cert)
     → d.kind ≡ kinds.Authority subject held → IsDraft b d given
     → cert_value cert ≡ certificate_with s b.keys d.issuer.row.now subject.row.now held.now given
     → IsValueOf s b (draft_of d) (kind_of d.kind) (unsigned.Certificate cert)
@@ -145,22 +145,22 @@ certificate-value s b d subject held given cert e is made =
     subst (λ (k : DraftKind). IsValueOf s b (draft_of d) (kind_of k) (unsigned.Certificate cert)) (sym e)
     (made ∙ ap (λ (n : ℕ). certificate_with s b.keys d.issuer.row.now subject.row.now held.now n) at)
 
-pub subject-placed : (b : SignInput) (d : code.Draft) (subject : KeyAt) (held : Bor Resources) (given : ℕ) → d.kind ≡ kinds.Authority subject held
+pub subject-placed : (b : SignInputValue) (d : code.Draft) (subject : KeyAt) (held : Bor Resources) (given : ℕ) → d.kind ≡ kinds.Authority subject held
     → IsDraft b d given → IsPlaced b.rows subject
 subject-placed b d subject held given e is = subst (λ (k : DraftKind). IsSubjectPlaced b.rows k) e is.subject
 
-pub roa-made : {E : Type 0} (edition : Edition) (d : code.Draft) (uri : List ℕ) (origin : Origin) (key : List ℕ) (given : ℕ) (by : Publisher)
-    (r : Result Cert E) → d.issuer.place < length edition.publishers.now → by ≡ get_or edition.publishers.now d.issuer.place by → uri ≡ d.uri
-    → IfOk r (λ cert. cert_value cert ≡ values.roa_certificate edition.input.now.site.now edition.input.now.work.now.moment
+pub roa-made : {E : Type 0} (sign_input : SignInput) (d : code.Draft) (uri : List ℕ) (origin : Origin) (key : List ℕ) (given : ℕ) (by : Publisher)
+    (r : Result Cert E) → d.issuer.place < length sign_input.publishers.now → by ≡ get_or sign_input.publishers.now d.issuer.place by → uri ≡ d.uri
+    → IfOk r (λ cert. cert_value cert ≡ values.roa_certificate sign_input.input.now.site.now sign_input.input.now.work.now.moment
     (publishing by) key origin.prefix uri given)
-    → IfOk r (λ cert. (b : SignInput) → IsSignInput edition b → IsDraft b d given → kind_of d.kind ≡ Roa origin
-    → cert_value cert ≡ roa_certificate (input_of edition.input.now) b.keys b.all (draft_of d) origin key)
-roa-made edition d uri origin key given by (Ok cert) lt is at made = λ b basis draft e.
-    let site = edition.input.now.site.now in
-    let moment = edition.input.now.work.now.moment in
-    let issuer = publishing_of (input_of edition.input.now) b.keys d.issuer.row.now in
+    → IfOk r (λ cert. (b : SignInputValue) → IsSignInput sign_input b → IsDraft b d given → kind_of d.kind ≡ Roa origin
+    → cert_value cert ≡ roa_certificate (input_of sign_input.input.now) b.keys b.all (draft_of d) origin key)
+roa-made sign_input d uri origin key given by (Ok cert) lt is at made = λ b basis draft e.
+    let site = sign_input.input.now.site.now in
+    let moment = sign_input.input.now.work.now.moment in
+    let issuer = publishing_of (input_of sign_input.input.now) b.keys d.issuer.row.now in
     made
-    ∙ (ap (λ (p : Publishing). values.roa_certificate site moment p key origin.prefix uri given) (publishes edition b d.issuer by basis draft.issuer lt is)
+    ∙ (ap (λ (p : Publishing). values.roa_certificate site moment p key origin.prefix uri given) (publishes sign_input b d.issuer by basis draft.issuer lt is)
     ∙ (ap (λ (u : List ℕ). values.roa_certificate site moment issuer key origin.prefix u given) at
     ∙ ap (λ (n : ℕ). values.roa_certificate site moment issuer key origin.prefix d.uri n) (numbered b d given draft (ap has_serial e))))
-roa-made edition d uri origin key given by (Err e) lt is at made = tt
+roa-made sign_input d uri origin key given by (Err e) lt is at made = tt

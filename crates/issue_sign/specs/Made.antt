@@ -12,7 +12,7 @@ use Rattle.issue_drafts.specs.Drafts.{Draft}
 use Rattle.issue_sign.specs.declared.object.Object.{Object}
 use Rattle.issue_sign.specs.Objects.{Answers, Signed, bytes_of, manifest_bytes}
 use Rattle.issue_sign.specs.Calls.{first_calls, second_calls, content_calls, last_calls}
-use Rattle.issue_sign.specs.SignInput.{SignInput}
+use Rattle.issue_sign.specs.SignInput.{SignInputValue}
 use Rattle.issue_sign.specs.Spelled.{IsSpelled}
 
 -- What the signers answered for an object.
@@ -37,13 +37,13 @@ pub record Way : Type 0 where
   pub calls : List Signed → List Call
   pub bytes : Signed → List ℕ
 
-abbrev pub of_drafts : IssueInput → SignInput → Way
+abbrev pub of_drafts : IssueInput → SignInputValue → Way
 of_drafts s b = record {
   calls = λ made. first_calls s b.keys b.all b.entries made ++ second_calls s b.keys b.all made;
   bytes = bytes_of s b.keys b.all b.entries;
 }
 
-abbrev pub of_manifests : IssueInput → SignInput → Way
+abbrev pub of_manifests : IssueInput → SignInputValue → Way
 of_manifests s b = record {
   calls = λ made. content_calls s b.files made ++ last_calls s b.keys b.all made;
   bytes = manifest_bytes s b.keys b.all b.files;
@@ -54,7 +54,7 @@ of_manifests s b = record {
 -- All of the objects are made. The signers made these calls, one after another, and no others,
 -- and vouch for what they signed.
 pub record AreMade
-    (s : IssueInput) (b : SignInput) (way : Way) (drafts : List Draft) (old new : List SignerState)
+    (s : IssueInput) (b : SignInputValue) (way : Way) (drafts : List Draft) (old new : List SignerState)
     (objects : List Object) (made : List Signed) : Type 0 where
   pub each : map (λ x. x.draft) made ≡ drafts
   pub signers : new ≡ after_calls old (way.calls made)

@@ -5,7 +5,7 @@ use Rattle.cert_obj.specs.Values.{is_uri}
 use Rattle.payloads.specs.ManifestFormats.{file_view}
 use Rattle.payloads.specs.declared.values.ListedFile.{ListedFile}
 use Rattle.key_roll.specs.declared.rows.KeyRow.{KeyRow}
-use Rattle.issue_values.specs.Publishing.{publishing}
+use Rattle.issue_values.specs.Publishers.{publishing}
 use Rattle.issue_values.specs.Certificates.{IsEditionMoment}
 use Rattle.issue_values.specs.Bodies.{AreRevoked}
 use Rattle.issue_drafts.specs.Finding.{Keys}
@@ -18,12 +18,12 @@ use Rattle.issue_drafts.specs.declared.draft.Draft as code
 use Rattle.issue_drafts.specs.declared.draft.ManifestDraft as manifests
 use Rattle.issue_drafts.specs.declared.draft.DraftKind.{DraftKind}
 use Rattle.issue_drafts.specs.declared.draft.DraftKind.TheVariants.{Authority, Route, Crl}
-use Rattle.issue_sign.specs.declared.edition.Edition.{Edition}
+use Rattle.issue_sign.specs.declared.sign_input.SignInput.{SignInput}
 use Rattle.issue_sign.specs.Objects.{Entries, Files}
 
 -- The keys of an edition, in their order; all its objects but the manifests, which take serials;
 -- the entries of each key's CRL and the files of its manifest.
-pub record SignInput : Type 0 where
+pub record SignInputValue : Type 0 where
   pub rows : List KeyRow
   pub keys : Keys
   pub all : List Draft
@@ -31,20 +31,20 @@ pub record SignInput : Type 0 where
   pub files : Files
 
 -- The values of the code are those of that basis.
-pub record IsSignInput (edition : Edition) (b : SignInput) : Type 0 where
-  pub publishers : map publishing edition.publishers.now
-      ≡ map (publishing_of (input_of edition.input.now) b.keys) b.rows
-  pub entries : edition.revoked.now ≡ map b.entries b.rows
+pub record IsSignInput (sign_input : SignInput) (b : SignInputValue) : Type 0 where
+  pub publishers : map publishing sign_input.publishers.now
+      ≡ map (publishing_of (input_of sign_input.input.now) b.keys) b.rows
+  pub entries : sign_input.revoked.now ≡ map b.entries b.rows
 
 -- The same of drafts, with the serials that they take.
-pub record AreDrafts (b : SignInput) (drafts : List code.Draft) (given : List ℕ) : Type 0 where
+pub record AreDrafts (b : SignInputValue) (drafts : List code.Draft) (given : List ℕ) : Type 0 where
   pub issuers : All (λ d. IsPlaced b.rows d.issuer) drafts
   pub subjects : All (λ d. IsSubjectPlaced b.rows d.kind) drafts
   pub serials : given ≡ map (λ d. given_serial b.all (draft_of d)) drafts
 
 -- The same of manifests, with the next serial of each key and the files of each manifest.
 pub record AreManifests
-    (b : SignInput) (drafts : List manifests.ManifestDraft) (next : List ℕ)
+    (b : SignInputValue) (drafts : List manifests.ManifestDraft) (next : List ℕ)
     (lists : List (List ListedFile)) : Type 0 where
   pub issuers : All (λ d. IsPlaced b.rows d.issuer) drafts
   pub serials : next ≡ map (serial_behind b.all) b.rows
@@ -53,22 +53,22 @@ pub record AreManifests
 -- ---- what can be signed
 
 -- Signatures can be dated at that moment, and CRLs can have the entries.
-pub record CanSign (edition : Edition) : Type 0 where
-  pub moment : IsEditionMoment edition.input.now.work.now.moment
-  pub entries : All (AreRevoked edition.input.now.work.now.moment) edition.revoked.now
+pub record CanSign (sign_input : SignInput) : Type 0 where
+  pub moment : IsEditionMoment sign_input.input.now.work.now.moment
+  pub entries : All (AreRevoked sign_input.input.now.work.now.moment) sign_input.revoked.now
 
 -- A key that can issue: it has one more number, and certificates can name its own.
-pub record CanIssue (edition : Edition) (key : KeyAt) : Type 0 where
-  pub inside : key.place < length edition.publishers.now
-  pub certified : HoldsAt (λ p. is_uri p.certificate ≡ true) edition.publishers.now key.place
+pub record CanIssue (sign_input : SignInput) (key : KeyAt) : Type 0 where
+  pub inside : key.place < length sign_input.publishers.now
+  pub certified : HoldsAt (λ p. is_uri p.certificate ≡ true) sign_input.publishers.now key.place
   pub number : key.row.now.number < 2 ^ 62
 
-abbrev pub CanBeOfKind : Edition → code.Draft → DraftKind → Type 0
-CanBeOfKind edition d (Authority subject held) = subject.place < length edition.publishers.now
-CanBeOfKind edition d (Route origin) = is_uri d.uri ≡ true
-CanBeOfKind edition d Crl = d.issuer.place < length edition.revoked.now
+abbrev pub CanBeOfKind : SignInput → code.Draft → DraftKind → Type 0
+CanBeOfKind sign_input d (Authority subject held) = subject.place < length sign_input.publishers.now
+CanBeOfKind sign_input d (Route origin) = is_uri d.uri ≡ true
+CanBeOfKind sign_input d Crl = d.issuer.place < length sign_input.revoked.now
 
 -- An object that can be made.
-pub record CanBeMade (edition : Edition) (d : code.Draft) : Type 0 where
-  pub issuer : CanIssue edition d.issuer
-  pub kind : CanBeOfKind edition d d.kind
+pub record CanBeMade (sign_input : SignInput) (d : code.Draft) : Type 0 where
+  pub issuer : CanIssue sign_input d.issuer
+  pub kind : CanBeOfKind sign_input d d.kind

@@ -9,10 +9,10 @@ use Rattle.issue_drafts.specs.Drafts.{Draft, Kind}
 use Rattle.issue_drafts.specs.Drafts.Kind.{Certificate, Roa, Crl, Manifest}
 use Rattle.issue_sign.specs.Objects.{Answers, certificate, roa_certificate, roa_content, crl_of}
 use Rattle.issue_sign.specs.Objects.{number_of, manifest_certificate, manifest_content}
-use Rattle.issue_sign.specs.SignInput.{SignInput}
+use Rattle.issue_sign.specs.SignInput.{SignInputValue}
 
 -- What was made can be read back, unless it is longer than the formats can say.
-abbrev pub IsSpelled : IssueInput → SignInput → Draft → Kind → Answers → Type 0
+abbrev pub IsSpelled : IssueInput → SignInputValue → Draft → Kind → Answers → Type 0
 IsSpelled s b d (Certificate subject held) a =
     IsCertificate (certificate s b.keys b.all d subject held) a.last
 IsSpelled s b d (Roa origin) a =

@@ -7,12 +7,12 @@ ghost use Rattle.signer_ring.specs.Ring.{Keeps};
 ghost use Rattle.issue_drafts.specs.Certificates.{input_of};
 ghost use Rattle.issue_drafts.specs.Views.{draft_of, kind_of};
 ghost use Rattle.issue_sign.specs.Calls.{first_call};
-ghost use Rattle.issue_sign.specs.SignInput.{SignInput, IsSignInput, AreDrafts, CanSign, CanBeMade};
+ghost use Rattle.issue_sign.specs.SignInput.{SignInputValue, IsSignInput, AreDrafts, CanSign, CanBeMade};
 ghost use Rattle.issue_sign.specs.Made.{of_drafts, IsStop};
 ghost use Rattle.issue_sign.specs.inner.Steps.{IsCalled, IsHalt, IsWhole, call_of, half_answers, IsHalfOf, IsHalfOfKind, IsHalf, IsDraft, Pairs, AreHalves};
 
-use crate::edition::Edition;
 use crate::object::{Object, SignedContent};
+use crate::sign_input::SignInput;
 use crate::steps::{sign_certificate, sign_content, sign_crl};
 use crate::values::{Unsigned, unsigned_object};
 use cms_obj::ObjectKind;
@@ -57,7 +57,7 @@ fn sign_value<S: Signer>(
         Unsigned::Certificate { cert } => Ok(Half::Made {
             object: sign_certificate(alloc, &cert, issuer, ring)?,
         }),
-        Unsigned::List { crl } => Ok(Half::Made {
+        Unsigned::Crl { crl } => Ok(Half::Made {
             object: sign_crl(alloc, &crl, issuer, ring)?,
         }),
         Unsigned::Roa { origin, content } => Ok(Half::Begun {
@@ -70,27 +70,27 @@ fn sign_value<S: Signer>(
 /// The first signature of a draft.
 fn sign_first<S: Signer>(
     alloc: Global,
-    edition: &Edition<'_>,
+    sign_input: &SignInput<'_>,
     draft: &Draft<'_>,
     serial: u64,
     ring: &mut Ring<S>,
 ) -> Result<Half, MakeFault>
-    requires sign { CanSign edition.now }
-    requires draft { CanBeMade edition.now draft.now }
+    requires sign { CanSign sign_input.now }
+    requires draft { CanBeMade sign_input.now draft.now }
     requires signer { draft.now.issuer.row.now.signer < length ring.old }
     ensures kind { IfOk result (IsHalfOfKind draft.now.kind) }
-    ensures half { IfOk result (λ half. (b : SignInput) → IsSignInput edition.now b → IsDraft b draft.now serial
-        → IsHalf (input_of edition.now.input.now) b (draft_of draft.now) (kind_of draft.now.kind) half) }
-    ensures called { IfOk result (λ half. (b : SignInput) → IsSignInput edition.now b → IsDraft b draft.now serial
-        → IsCalled ring.old ring.new (first_call (input_of edition.now.input.now) b.keys b.all b.entries
+    ensures half { IfOk result (λ half. (b : SignInputValue) → IsSignInput sign_input.now b → IsDraft b draft.now serial
+        → IsHalf (input_of sign_input.now.input.now) b (draft_of draft.now) (kind_of draft.now.kind) half) }
+    ensures called { IfOk result (λ half. (b : SignInputValue) → IsSignInput sign_input.now b → IsDraft b draft.now serial
+        → IsCalled ring.old ring.new (first_call (input_of sign_input.now.input.now) b.keys b.all b.entries
         (draft_of draft.now) (kind_of draft.now.kind) (half_answers half))) }
-    ensures stopped { IfErr result (λ fault. (b : SignInput) → IsSignInput edition.now b → IsDraft b draft.now serial
-        → IsHalt (first_call (input_of edition.now.input.now) b.keys b.all b.entries
+    ensures stopped { IfErr result (λ fault. (b : SignInputValue) → IsSignInput sign_input.now b → IsDraft b draft.now serial
+        → IsHalt (first_call (input_of sign_input.now.input.now) b.keys b.all b.entries
         (draft_of draft.now) (kind_of draft.now.kind)) ring.old ring.new fault) }
     ensures kept { Keeps ring.old ring.new }
 {
-    let value = unsigned_object(alloc, edition, draft, serial)?;
-    let moment = edition.input.work.moment;
+    let value = unsigned_object(alloc, sign_input, draft, serial)?;
+    let moment = sign_input.input.work.moment;
     sign_value(alloc, value, moment, draft.issuer.row, ring)
 }
 
@@ -98,23 +98,23 @@ fn sign_first<S: Signer>(
 /// each draft; a CRL has 0.
 pub fn sign_firsts<S: Signer>(
     alloc: Global,
-    edition: &Edition<'_>,
+    sign_input: &SignInput<'_>,
     drafts: &[Draft<'_>],
     serials: &[u64],
     ring: &mut Ring<S>,
 ) -> Result<Vec<Half>, MakeFault>
-    requires sign { CanSign edition.now }
-    requires drafts { All (CanBeMade edition.now) drafts.now }
+    requires sign { CanSign sign_input.now }
+    requires drafts { All (CanBeMade sign_input.now) drafts.now }
     requires signers { All (λ d. d.issuer.row.now.signer < length ring.old) drafts.now }
     requires serials { length serials.now ≡ length drafts.now }
     ensures each { IfOk result (λ halves. length halves.items ≡ length drafts.now) }
     ensures kinds { IfOk result (λ halves. Pairs (λ d h. IsHalfOfKind d.kind h) drafts.now halves.items) }
-    ensures halves { IfOk result (λ halves. (b : SignInput)
-        → IsSignInput edition.now b → AreDrafts b drafts.now serials.now
-        → AreHalves (input_of edition.now.input.now) b drafts.now halves.items ring.old ring.new) }
-    ensures stopped { IfErr result (λ fault. (b : SignInput)
-        → IsSignInput edition.now b → AreDrafts b drafts.now serials.now
-        → IsStop (of_drafts (input_of edition.now.input.now) b) (map draft_of drafts.now)
+    ensures halves { IfOk result (λ halves. (b : SignInputValue)
+        → IsSignInput sign_input.now b → AreDrafts b drafts.now serials.now
+        → AreHalves (input_of sign_input.now.input.now) b drafts.now halves.items ring.old ring.new) }
+    ensures stopped { IfErr result (λ fault. (b : SignInputValue)
+        → IsSignInput sign_input.now b → AreDrafts b drafts.now serials.now
+        → IsStop (of_drafts (input_of sign_input.now.input.now) b) (map draft_of drafts.now)
         ring.old ring.new fault) }
     ensures kept { Keeps ring.old ring.new }
 {
@@ -122,7 +122,7 @@ pub fn sign_firsts<S: Signer>(
     let mut halves = Vec::with_capacity(alloc, drafts.len())?;
     for draft in drafts {
         let place = halves.len();
-        let half = sign_first(alloc, edition, draft, serials[place], ring)?;
+        let half = sign_first(alloc, sign_input, draft, serials[place], ring)?;
         halves.push(half)?;
     }
     Ok(halves)

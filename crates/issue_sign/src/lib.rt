@@ -2,20 +2,20 @@
 //! 6488 section 2).
 #![tactic(auto)]
 
-mod edition;
 mod firsts;
 mod manifests;
 mod object;
 mod roas;
+mod sign_input;
 mod signed_bytes;
 mod signed_objects;
 mod signing;
 mod steps;
 mod values;
 
-pub use edition::Edition;
 pub use manifests::sign_manifests;
 pub use object::Object;
+pub use sign_input::SignInput;
 pub use signed_bytes::{SignedBytes, sign_certificate};
 pub use signed_objects::{sign_content, sign_crl, sign_object};
 pub use signing::sign_drafts;

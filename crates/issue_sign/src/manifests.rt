@@ -13,12 +13,12 @@ ghost use Rattle.issue_drafts.specs.Drafts.{serial_behind};
 ghost use Rattle.issue_drafts.specs.Views.{manifest_of, IsPlaced};
 ghost use Rattle.issue_sign.specs.Objects.{attributes, number_of, manifest_certificate};
 ghost use Rattle.issue_sign.specs.Calls.{by_once};
-ghost use Rattle.issue_sign.specs.SignInput.{SignInput, IsSignInput, AreManifests, CanSign, CanIssue};
+ghost use Rattle.issue_sign.specs.SignInput.{SignInputValue, IsSignInput, AreManifests, CanSign, CanIssue};
 ghost use Rattle.issue_sign.specs.Made.{answers_of, signed, of_manifests, AreMade, IsStop};
 ghost use Rattle.issue_sign.specs.inner.Steps.{IsCalled, IsHalt, content_answers, manifest_text, IsContent, AreContents, last_call, IsManifestOf};
 
-use crate::edition::Edition;
 use crate::object::{Object, SignedContent};
+use crate::sign_input::SignInput;
 use crate::steps::{sign_content, sign_object};
 use cert_obj::Cert;
 use cms_obj::ObjectKind;
@@ -34,47 +34,47 @@ use std::alloc::{AllocError, Global};
 /// The content of a manifest that lists these files.
 fn content(
     alloc: Global,
-    edition: &Edition<'_>,
+    sign_input: &SignInput<'_>,
     manifest: &ManifestDraft<'_>,
     files: Items<ListedFile>,
 ) -> Result<Vec<u8>, AllocError>
-    requires sign { CanSign edition.now }
-    requires issuer { CanIssue edition.now manifest.now.issuer }
+    requires sign { CanSign sign_input.now }
+    requires issuer { CanIssue sign_input.now manifest.now.issuer }
     requires files { AreListed (map file_view files) }
-    ensures bytes { IfOk result (λ content. content.items ≡ manifest_text (input_of edition.now.input.now)
+    ensures bytes { IfOk result (λ content. content.items ≡ manifest_text (input_of sign_input.now.input.now)
         manifest.now.issuer.row.now (map file_view files)) }
-    ensures spelled { IfOk result (λ content. IsManifest (manifest_value_of edition.now.input.now.work.now.moment
+    ensures spelled { IfOk result (λ content. IsManifest (manifest_value_of sign_input.now.input.now.work.now.moment
         (number_of manifest.now.issuer.row.now) (map file_view files))) }
 {
     let number = manifest.issuer.row.number + 1;
-    let body = manifest_body(edition.input.work.moment, number, files.into_vec());
+    let body = manifest_body(sign_input.input.work.moment, number, files.into_vec());
     body.write(alloc)
 }
 
 /// The first signature of a manifest.
 fn sign_first<S: Signer>(
     alloc: Global,
-    edition: &Edition<'_>,
+    sign_input: &SignInput<'_>,
     manifest: &ManifestDraft<'_>,
     files: Items<ListedFile>,
     ring: &mut Ring<S>,
 ) -> Result<SignedContent, MakeFault>
-    requires sign { CanSign edition.now }
-    requires issuer { CanIssue edition.now manifest.now.issuer }
+    requires sign { CanSign sign_input.now }
+    requires issuer { CanIssue sign_input.now manifest.now.issuer }
     requires signer { manifest.now.issuer.row.now.signer < length ring.old }
     requires files { AreListed (map file_view files) }
-    ensures content { IfOk result (IsContent (input_of edition.now.input.now)
+    ensures content { IfOk result (IsContent (input_of sign_input.now.input.now)
         manifest.now.issuer.row.now (map file_view files)) }
     ensures called { IfOk result (λ signed. IsCalled ring.old ring.new (by_once manifest.now.issuer.row.now
-        (attributes (input_of edition.now.input.now) Manifest (manifest_text (input_of edition.now.input.now)
+        (attributes (input_of sign_input.now.input.now) Manifest (manifest_text (input_of sign_input.now.input.now)
         manifest.now.issuer.row.now (map file_view files))) (content_answers signed))) }
     ensures stopped { IfErr result (IsHalt (by_once manifest.now.issuer.row.now
-        (attributes (input_of edition.now.input.now) Manifest (manifest_text (input_of edition.now.input.now)
+        (attributes (input_of sign_input.now.input.now) Manifest (manifest_text (input_of sign_input.now.input.now)
         manifest.now.issuer.row.now (map file_view files)))) ring.old ring.new) }
     ensures kept { Keeps ring.old ring.new }
 {
-    let content = content(alloc, edition, manifest, files)?;
-    let moment = edition.input.work.moment;
+    let content = content(alloc, sign_input, manifest, files)?;
+    let moment = sign_input.input.work.moment;
     let issuer = manifest.issuer.row;
     let signed = sign_content(alloc, ObjectKind::Manifest, content, moment, issuer, ring)?;
     Ok(signed)
@@ -83,23 +83,23 @@ fn sign_first<S: Signer>(
 /// Signs the contents of the manifests, in their order.
 fn sign_contents<S: Signer>(
     alloc: Global,
-    edition: &Edition<'_>,
+    sign_input: &SignInput<'_>,
     manifests: &[ManifestDraft<'_>],
     files: Vec<Items<ListedFile>>,
     ring: &mut Ring<S>,
 ) -> Result<Vec<SignedContent>, MakeFault>
-    requires sign { CanSign edition.now }
-    requires manifests { All (λ d. CanIssue edition.now d.issuer) manifests.now }
+    requires sign { CanSign sign_input.now }
+    requires manifests { All (λ d. CanIssue sign_input.now d.issuer) manifests.now }
     requires signers { All (λ d. d.issuer.row.now.signer < length ring.old) manifests.now }
     requires each { length files.items ≡ length manifests.now }
     requires files { All (λ list. AreListed (map file_view list)) files.items }
     ensures each { IfOk result (λ contents. length contents.items ≡ length manifests.now) }
-    ensures contents { IfOk result (λ contents. (b : SignInput) (next : List ℕ)
+    ensures contents { IfOk result (λ contents. (b : SignInputValue) (next : List ℕ)
         → AreManifests b manifests.now next files.items
-        → AreContents (input_of edition.now.input.now) b manifests.now contents.items ring.old ring.new) }
-    ensures stopped { IfErr result (λ fault. (b : SignInput) (next : List ℕ)
+        → AreContents (input_of sign_input.now.input.now) b manifests.now contents.items ring.old ring.new) }
+    ensures stopped { IfErr result (λ fault. (b : SignInputValue) (next : List ℕ)
         → AreManifests b manifests.now next files.items
-        → IsStop (of_manifests (input_of edition.now.input.now) b) (map manifest_of manifests.now)
+        → IsStop (of_manifests (input_of sign_input.now.input.now) b) (map manifest_of manifests.now)
         ring.old ring.new fault) }
     ensures kept { Keeps ring.old ring.new }
 {
@@ -108,7 +108,7 @@ fn sign_contents<S: Signer>(
     for list in files {
         let place = contents.len();
         let manifest = &manifests[place];
-        let content = sign_first(alloc, edition, manifest, list, ring)?;
+        let content = sign_first(alloc, sign_input, manifest, list, ring)?;
         contents.push(content)?;
     }
     Ok(contents)
@@ -117,54 +117,54 @@ fn sign_contents<S: Signer>(
 /// The certificate of the key that signed the content of a manifest.
 fn certificate(
     alloc: Global,
-    edition: &Edition<'_>,
+    sign_input: &SignInput<'_>,
     manifest: &ManifestDraft<'_>,
     key: &PublicKey,
     serial: u64,
 ) -> Result<Cert, AllocError>
-    requires sign { CanSign edition.now }
-    requires issuer { CanIssue edition.now manifest.now.issuer }
+    requires sign { CanSign sign_input.now }
+    requires issuer { CanIssue sign_input.now manifest.now.issuer }
     ensures spelled { IfOk result (λ cert. IsCert (cert_value cert)) }
-    ensures value { IfOk result (λ cert. (b : SignInput) → IsSignInput edition.now b → IsPlaced b.rows manifest.now.issuer
+    ensures value { IfOk result (λ cert. (b : SignInputValue) → IsSignInput sign_input.now b → IsPlaced b.rows manifest.now.issuer
         → serial ≡ serial_behind b.all manifest.now.issuer.row.now
-        → cert_value cert ≡ manifest_certificate (input_of edition.now.input.now) b.keys b.all
+        → cert_value cert ≡ manifest_certificate (input_of sign_input.now.input.now) b.keys b.all
         (manifest_of manifest.now) key.now.bytes) }
 {
     manifest_certificate(
         alloc,
-        edition.input.site,
-        edition.input.work.moment,
-        &edition.publishers[manifest.issuer.place],
+        sign_input.input.site,
+        sign_input.input.work.moment,
+        &sign_input.publishers[manifest.issuer.place],
         key,
         serial,
     )
 }
 
 /// The manifest of a content that was signed.
-fn finish<S: Signer>(
+fn finish_manifest<S: Signer>(
     alloc: Global,
-    edition: &Edition<'_>,
+    sign_input: &SignInput<'_>,
     manifest: &ManifestDraft<'_>,
     serial: u64,
     content: SignedContent,
     ring: &mut Ring<S>,
 ) -> Result<Object, MakeFault>
-    requires sign { CanSign edition.now }
-    requires issuer { CanIssue edition.now manifest.now.issuer }
+    requires sign { CanSign sign_input.now }
+    requires issuer { CanIssue sign_input.now manifest.now.issuer }
     requires signer { manifest.now.issuer.row.now.signer < length ring.old }
-    ensures finished { IfOk result (λ object. (b : SignInput) → IsSignInput edition.now b → IsPlaced b.rows manifest.now.issuer
+    ensures finished { IfOk result (λ object. (b : SignInputValue) → IsSignInput sign_input.now b → IsPlaced b.rows manifest.now.issuer
         → serial ≡ serial_behind b.all manifest.now.issuer.row.now
-        → IsContent (input_of edition.now.input.now) manifest.now.issuer.row.now
+        → IsContent (input_of sign_input.now.input.now) manifest.now.issuer.row.now
         (b.files manifest.now.issuer.row.now) content
-        → IsManifestOf (input_of edition.now.input.now) b (manifest_of manifest.now) content object
+        → IsManifestOf (input_of sign_input.now.input.now) b (manifest_of manifest.now) content object
         ring.old ring.new) }
-    ensures stopped { IfErr result (λ fault. (b : SignInput) → IsSignInput edition.now b → IsPlaced b.rows manifest.now.issuer
+    ensures stopped { IfErr result (λ fault. (b : SignInputValue) → IsSignInput sign_input.now b → IsPlaced b.rows manifest.now.issuer
         → serial ≡ serial_behind b.all manifest.now.issuer.row.now
-        → IsHalt (λ a. last_call (input_of edition.now.input.now) b (manifest_of manifest.now)
+        → IsHalt (λ a. last_call (input_of sign_input.now.input.now) b (manifest_of manifest.now)
         content.once.key.bytes a.last) ring.old ring.new fault) }
     ensures kept { Keeps ring.old ring.new }
 {
-    let cert = certificate(alloc, edition, manifest, &content.once.key, serial)?;
+    let cert = certificate(alloc, sign_input, manifest, &content.once.key, serial)?;
     sign_object(
         alloc,
         ObjectKind::Manifest,
@@ -178,27 +178,27 @@ fn finish<S: Signer>(
 /// Signs the certificates of the manifests, in their order. Each takes the next serial of its key.
 fn finish_all<S: Signer>(
     alloc: Global,
-    edition: &Edition<'_>,
+    sign_input: &SignInput<'_>,
     manifests: &[ManifestDraft<'_>],
     next: &[u64],
     contents: Vec<SignedContent>,
     ring: &mut Ring<S>,
 ) -> Result<Vec<Object>, MakeFault>
-    requires sign { CanSign edition.now }
-    requires manifests { All (λ d. CanIssue edition.now d.issuer) manifests.now }
+    requires sign { CanSign sign_input.now }
+    requires manifests { All (λ d. CanIssue sign_input.now d.issuer) manifests.now }
     requires signers { All (λ d. d.issuer.row.now.signer < length ring.old) manifests.now }
-    requires next { length next.now ≡ length edition.now.publishers.now }
+    requires next { length next.now ≡ length sign_input.now.publishers.now }
     requires each { length contents.items ≡ length manifests.now }
-    ensures made { IfOk result (λ objects. (b : SignInput) (lists : List (List ListedFile)) (old : List SignerState)
-        → IsSignInput edition.now b → AreManifests b manifests.now next.now lists
-        → AreContents (input_of edition.now.input.now) b manifests.now contents.items old ring.old
-        → AreMade (input_of edition.now.input.now) b (of_manifests (input_of edition.now.input.now) b)
+    ensures made { IfOk result (λ objects. (b : SignInputValue) (lists : List (List ListedFile)) (old : List SignerState)
+        → IsSignInput sign_input.now b → AreManifests b manifests.now next.now lists
+        → AreContents (input_of sign_input.now.input.now) b manifests.now contents.items old ring.old
+        → AreMade (input_of sign_input.now.input.now) b (of_manifests (input_of sign_input.now.input.now) b)
         (map manifest_of manifests.now) old ring.new objects.items
         (signed (map manifest_of manifests.now) (map answers_of objects.items))) }
-    ensures stopped { IfErr result (λ fault. (b : SignInput) (lists : List (List ListedFile)) (old : List SignerState)
-        → IsSignInput edition.now b → AreManifests b manifests.now next.now lists
-        → AreContents (input_of edition.now.input.now) b manifests.now contents.items old ring.old
-        → IsStop (of_manifests (input_of edition.now.input.now) b) (map manifest_of manifests.now)
+    ensures stopped { IfErr result (λ fault. (b : SignInputValue) (lists : List (List ListedFile)) (old : List SignerState)
+        → IsSignInput sign_input.now b → AreManifests b manifests.now next.now lists
+        → AreContents (input_of sign_input.now.input.now) b manifests.now contents.items old ring.old
+        → IsStop (of_manifests (input_of sign_input.now.input.now) b) (map manifest_of manifests.now)
         old ring.new fault) }
     ensures kept { Keeps ring.old ring.new }
 {
@@ -208,7 +208,7 @@ fn finish_all<S: Signer>(
         let place = objects.len();
         let manifest = &manifests[place];
         let serial = next[manifest.issuer.place];
-        let object = finish(alloc, edition, manifest, serial, content, ring)?;
+        let object = finish_manifest(alloc, sign_input, manifest, serial, content, ring)?;
         objects.push(object)?;
     }
     Ok(objects)
@@ -221,36 +221,36 @@ fn finish_all<S: Signer>(
 /// for each manifest.
 pub fn sign_manifests<S: Signer>(
     alloc: Global,
-    edition: &Edition<'_>,
+    sign_input: &SignInput<'_>,
     manifests: &[ManifestDraft<'_>],
     next: &[u64],
     files: Vec<Items<ListedFile>>,
     ring: &mut Ring<S>,
 ) -> Result<Vec<Object>, MakeFault>
-    requires sign { CanSign edition.now }
-    requires manifests { All (λ d. CanIssue edition.now d.issuer) manifests.now }
+    requires sign { CanSign sign_input.now }
+    requires manifests { All (λ d. CanIssue sign_input.now d.issuer) manifests.now }
     requires signers { All (λ d. d.issuer.row.now.signer < length ring.old) manifests.now }
-    requires next { length next.now ≡ length edition.now.publishers.now }
+    requires next { length next.now ≡ length sign_input.now.publishers.now }
     requires each { length files.items ≡ length manifests.now }
     requires files { All (λ list. AreListed (map file_view list)) files.items }
 
     // Of whichever basis these are: the manifests are its own, and the signers made the calls for them, in their
     // order.
-    ensures made { IfOk result (λ objects. (b : SignInput)
-        → IsSignInput edition.now b → AreManifests b manifests.now next.now files.items
-        → AreMade (input_of edition.now.input.now) b (of_manifests (input_of edition.now.input.now) b)
+    ensures made { IfOk result (λ objects. (b : SignInputValue)
+        → IsSignInput sign_input.now b → AreManifests b manifests.now next.now files.items
+        → AreMade (input_of sign_input.now.input.now) b (of_manifests (input_of sign_input.now.input.now) b)
         (map manifest_of manifests.now) ring.old ring.new objects.items
         (signed (map manifest_of manifests.now) (map answers_of objects.items))) }
 
     // A signer failed, or memory ran out, behind the first of these calls.
-    ensures stopped { IfErr result (λ fault. (b : SignInput)
-        → IsSignInput edition.now b → AreManifests b manifests.now next.now files.items
-        → IsStop (of_manifests (input_of edition.now.input.now) b) (map manifest_of manifests.now)
+    ensures stopped { IfErr result (λ fault. (b : SignInputValue)
+        → IsSignInput sign_input.now b → AreManifests b manifests.now next.now files.items
+        → IsStop (of_manifests (input_of sign_input.now.input.now) b) (map manifest_of manifests.now)
         ring.old ring.new fault) }
 
     // What the signers vouched for they vouch for on every answer.
     ensures kept { Keeps ring.old ring.new }
 {
-    let contents = sign_contents(alloc, edition, manifests, files, ring)?;
-    finish_all(alloc, edition, manifests, next, contents, ring)
+    let contents = sign_contents(alloc, sign_input, manifests, files, ring)?;
+    finish_all(alloc, sign_input, manifests, next, contents, ring)
 }

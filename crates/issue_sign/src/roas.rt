@@ -9,13 +9,13 @@ ghost use Rattle.issue_drafts.specs.Certificates.{input_of};
 ghost use Rattle.issue_drafts.specs.Drafts.Kind.{Roa};
 ghost use Rattle.issue_drafts.specs.Views.{draft_of, kind_of};
 ghost use Rattle.issue_sign.specs.Objects.{roa_certificate};
-ghost use Rattle.issue_sign.specs.SignInput.{SignInput, IsSignInput, AreDrafts, CanSign, CanIssue, CanBeMade};
+ghost use Rattle.issue_sign.specs.SignInput.{SignInputValue, IsSignInput, AreDrafts, CanSign, CanIssue, CanBeMade};
 ghost use Rattle.issue_sign.specs.Made.{answers_of, signed, of_drafts, AreMade, IsStop};
 ghost use Rattle.issue_sign.specs.inner.Steps.{IsHalfOfKind, IsHalf, IsDraft, IsFinished, IsFinishHalt, Pairs, AreHalves};
 
-use crate::edition::Edition;
 use crate::firsts::Half;
 use crate::object::{Object, SignedContent};
+use crate::sign_input::SignInput;
 use crate::steps::sign_object;
 use cert_obj::Cert;
 use cms_obj::ObjectKind;
@@ -30,26 +30,26 @@ use std::alloc::{AllocError, Global};
 /// The certificate of the key that signed the content of a ROA.
 fn certificate(
     alloc: Global,
-    edition: &Edition<'_>,
+    sign_input: &SignInput<'_>,
     draft: &Draft<'_>,
     origin: &Origin,
     key: &PublicKey,
     serial: u64,
 ) -> Result<Cert, AllocError>
-    requires sign { CanSign edition.now }
-    requires issuer { CanIssue edition.now draft.now.issuer }
+    requires sign { CanSign sign_input.now }
+    requires issuer { CanIssue sign_input.now draft.now.issuer }
     requires uri { is_uri draft.now.uri ≡ true }
     ensures spelled { IfOk result (λ cert. IsCert (cert_value cert)) }
-    ensures value { IfOk result (λ cert. (b : SignInput) → IsSignInput edition.now b → IsDraft b draft.now serial
+    ensures value { IfOk result (λ cert. (b : SignInputValue) → IsSignInput sign_input.now b → IsDraft b draft.now serial
         → kind_of draft.now.kind ≡ Roa origin.now
-        → cert_value cert ≡ roa_certificate (input_of edition.now.input.now) b.keys b.all
+        → cert_value cert ≡ roa_certificate (input_of sign_input.now.input.now) b.keys b.all
         (draft_of draft.now) origin.now key.now.bytes) }
 {
     roa_certificate(
         alloc,
-        edition.input.site,
-        edition.input.work.moment,
-        &edition.publishers[draft.issuer.place],
+        sign_input.input.site,
+        sign_input.input.work.moment,
+        &sign_input.publishers[draft.issuer.place],
         key,
         &origin.prefix,
         draft.uri.as_str(),
@@ -60,30 +60,30 @@ fn certificate(
 /// The ROA of a content that was signed.
 fn finish_roa<S: Signer>(
     alloc: Global,
-    edition: &Edition<'_>,
+    sign_input: &SignInput<'_>,
     draft: &Draft<'_>,
     serial: u64,
     origin: Origin,
     content: SignedContent,
     ring: &mut Ring<S>,
 ) -> Result<Object, MakeFault>
-    requires sign { CanSign edition.now }
-    requires issuer { CanIssue edition.now draft.now.issuer }
+    requires sign { CanSign sign_input.now }
+    requires issuer { CanIssue sign_input.now draft.now.issuer }
     requires uri { is_uri draft.now.uri ≡ true }
     requires signer { draft.now.issuer.row.now.signer < length ring.old }
-    ensures finished { IfOk result (λ object. (b : SignInput) → IsSignInput edition.now b → IsDraft b draft.now serial
-        → IsHalf (input_of edition.now.input.now) b (draft_of draft.now) (kind_of draft.now.kind)
+    ensures finished { IfOk result (λ object. (b : SignInputValue) → IsSignInput sign_input.now b → IsDraft b draft.now serial
+        → IsHalf (input_of sign_input.now.input.now) b (draft_of draft.now) (kind_of draft.now.kind)
         (Half.Begun origin content)
-        → IsFinished (input_of edition.now.input.now) b (draft_of draft.now) (kind_of draft.now.kind)
+        → IsFinished (input_of sign_input.now.input.now) b (draft_of draft.now) (kind_of draft.now.kind)
         (Half.Begun origin content) object ring.old ring.new) }
-    ensures stopped { IfErr result (λ fault. (b : SignInput) → IsSignInput edition.now b → IsDraft b draft.now serial
-        → IsHalf (input_of edition.now.input.now) b (draft_of draft.now) (kind_of draft.now.kind)
+    ensures stopped { IfErr result (λ fault. (b : SignInputValue) → IsSignInput sign_input.now b → IsDraft b draft.now serial
+        → IsHalf (input_of sign_input.now.input.now) b (draft_of draft.now) (kind_of draft.now.kind)
         (Half.Begun origin content)
-        → IsFinishHalt (input_of edition.now.input.now) b (draft_of draft.now) (Half.Begun origin content)
+        → IsFinishHalt (input_of sign_input.now.input.now) b (draft_of draft.now) (Half.Begun origin content)
         ring.old ring.new fault) }
     ensures kept { Keeps ring.old ring.new }
 {
-    let cert = certificate(alloc, edition, draft, &origin, &content.once.key, serial)?;
+    let cert = certificate(alloc, sign_input, draft, &origin, &content.once.key, serial)?;
     sign_object(
         alloc,
         ObjectKind::Roa,
@@ -95,31 +95,31 @@ fn finish_roa<S: Signer>(
 }
 
 /// The object of a draft that was signed once.
-fn finish<S: Signer>(
+fn finish_draft<S: Signer>(
     alloc: Global,
-    edition: &Edition<'_>,
+    sign_input: &SignInput<'_>,
     draft: &Draft<'_>,
     serial: u64,
     half: Half,
     ring: &mut Ring<S>,
 ) -> Result<Object, MakeFault>
-    requires sign { CanSign edition.now }
-    requires draft { CanBeMade edition.now draft.now }
+    requires sign { CanSign sign_input.now }
+    requires draft { CanBeMade sign_input.now draft.now }
     requires signer { draft.now.issuer.row.now.signer < length ring.old }
     requires kind { IsHalfOfKind draft.now.kind half }
-    ensures finished { IfOk result (λ object. (b : SignInput) → IsSignInput edition.now b → IsDraft b draft.now serial
-        → IsHalf (input_of edition.now.input.now) b (draft_of draft.now) (kind_of draft.now.kind) half
-        → IsFinished (input_of edition.now.input.now) b (draft_of draft.now) (kind_of draft.now.kind) half object
+    ensures finished { IfOk result (λ object. (b : SignInputValue) → IsSignInput sign_input.now b → IsDraft b draft.now serial
+        → IsHalf (input_of sign_input.now.input.now) b (draft_of draft.now) (kind_of draft.now.kind) half
+        → IsFinished (input_of sign_input.now.input.now) b (draft_of draft.now) (kind_of draft.now.kind) half object
         ring.old ring.new) }
-    ensures stopped { IfErr result (λ fault. (b : SignInput) → IsSignInput edition.now b → IsDraft b draft.now serial
-        → IsHalf (input_of edition.now.input.now) b (draft_of draft.now) (kind_of draft.now.kind) half
-        → IsFinishHalt (input_of edition.now.input.now) b (draft_of draft.now) half ring.old ring.new fault) }
+    ensures stopped { IfErr result (λ fault. (b : SignInputValue) → IsSignInput sign_input.now b → IsDraft b draft.now serial
+        → IsHalf (input_of sign_input.now.input.now) b (draft_of draft.now) (kind_of draft.now.kind) half
+        → IsFinishHalt (input_of sign_input.now.input.now) b (draft_of draft.now) half ring.old ring.new fault) }
     ensures kept { Keeps ring.old ring.new }
 {
     match half {
         Half::Made { object } => Ok(object),
         Half::Begun { origin, content } => {
-            finish_roa(alloc, edition, draft, serial, origin, content, ring)
+            finish_roa(alloc, sign_input, draft, serial, origin, content, ring)
         }
     }
 }
@@ -127,35 +127,42 @@ fn finish<S: Signer>(
 /// Signs the certificates of the ROAs, in the drafts' order. All objects but the manifests are then made.
 pub fn finish_all<S: Signer>(
     alloc: Global,
-    edition: &Edition<'_>,
+    sign_input: &SignInput<'_>,
     drafts: &[Draft<'_>],
     serials: &[u64],
     halves: Vec<Half>,
     ring: &mut Ring<S>,
 ) -> Result<Vec<Object>, MakeFault>
-    requires sign { CanSign edition.now }
-    requires drafts { All (CanBeMade edition.now) drafts.now }
+    requires sign { CanSign sign_input.now }
+    requires drafts { All (CanBeMade sign_input.now) drafts.now }
     requires signers { All (λ d. d.issuer.row.now.signer < length ring.old) drafts.now }
     requires serials { length serials.now ≡ length drafts.now }
     requires each { length halves.items ≡ length drafts.now }
     requires kinds { Pairs (λ d h. IsHalfOfKind d.kind h) drafts.now halves.items }
-    ensures made { IfOk result (λ objects. (b : SignInput) (old : List SignerState)
-        → IsSignInput edition.now b → AreDrafts b drafts.now serials.now
-        → AreHalves (input_of edition.now.input.now) b drafts.now halves.items old ring.old
-        → AreMade (input_of edition.now.input.now) b (of_drafts (input_of edition.now.input.now) b)
+    ensures made { IfOk result (λ objects. (b : SignInputValue) (old : List SignerState)
+        → IsSignInput sign_input.now b → AreDrafts b drafts.now serials.now
+        → AreHalves (input_of sign_input.now.input.now) b drafts.now halves.items old ring.old
+        → AreMade (input_of sign_input.now.input.now) b (of_drafts (input_of sign_input.now.input.now) b)
         (map draft_of drafts.now) old ring.new objects.items
         (signed (map draft_of drafts.now) (map answers_of objects.items))) }
-    ensures stopped { IfErr result (λ fault. (b : SignInput) (old : List SignerState)
-        → IsSignInput edition.now b → AreDrafts b drafts.now serials.now
-        → AreHalves (input_of edition.now.input.now) b drafts.now halves.items old ring.old
-        → IsStop (of_drafts (input_of edition.now.input.now) b) (map draft_of drafts.now) old ring.new fault) }
+    ensures stopped { IfErr result (λ fault. (b : SignInputValue) (old : List SignerState)
+        → IsSignInput sign_input.now b → AreDrafts b drafts.now serials.now
+        → AreHalves (input_of sign_input.now.input.now) b drafts.now halves.items old ring.old
+        → IsStop (of_drafts (input_of sign_input.now.input.now) b) (map draft_of drafts.now) old ring.new fault) }
     ensures kept { Keeps ring.old ring.new }
 {
     vouched_stays();
     let mut objects = Vec::with_capacity(alloc, halves.len())?;
     for half in halves {
         let place = objects.len();
-        let object = finish(alloc, edition, &drafts[place], serials[place], half, ring)?;
+        let object = finish_draft(
+            alloc,
+            sign_input,
+            &drafts[place],
+            serials[place],
+            half,
+            ring,
+        )?;
         objects.push(object)?;
     }
     Ok(objects)

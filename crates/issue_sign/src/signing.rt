@@ -4,13 +4,13 @@ ghost use Rattle.std.specs.Prelude.{◌≡◌, ◌<◌, map, length, All, IfOk, 
 ghost use Rattle.signer_ring.specs.Ring.{Keeps};
 ghost use Rattle.issue_drafts.specs.Certificates.{input_of};
 ghost use Rattle.issue_drafts.specs.Views.{draft_of};
-ghost use Rattle.issue_sign.specs.SignInput.{SignInput, IsSignInput, AreDrafts, CanSign, CanBeMade};
+ghost use Rattle.issue_sign.specs.SignInput.{SignInputValue, IsSignInput, AreDrafts, CanSign, CanBeMade};
 ghost use Rattle.issue_sign.specs.Made.{answers_of, signed, of_drafts, AreMade, IsStop};
 
-use crate::edition::Edition;
 use crate::firsts::sign_firsts;
 use crate::object::Object;
 use crate::roas::finish_all;
+use crate::sign_input::SignInput;
 use issue_drafts::Draft;
 use issue_keys::MakeFault;
 use signer_api::Signer;
@@ -24,32 +24,32 @@ use std::alloc::Global;
 /// draft; a CRL has 0.
 pub fn sign_drafts<S: Signer>(
     alloc: Global,
-    edition: &Edition<'_>,
+    sign_input: &SignInput<'_>,
     drafts: &[Draft<'_>],
     serials: &[u64],
     ring: &mut Ring<S>,
 ) -> Result<Vec<Object>, MakeFault>
-    requires sign { CanSign edition.now }
-    requires drafts { All (CanBeMade edition.now) drafts.now }
+    requires sign { CanSign sign_input.now }
+    requires drafts { All (CanBeMade sign_input.now) drafts.now }
     requires signers { All (λ d. d.issuer.row.now.signer < length ring.old) drafts.now }
     requires serials { length serials.now ≡ length drafts.now }
 
     // Of whichever basis these are: the objects are its own, and the signers made the calls for them, in their order.
-    ensures made { IfOk result (λ objects. (b : SignInput)
-        → IsSignInput edition.now b → AreDrafts b drafts.now serials.now
-        → AreMade (input_of edition.now.input.now) b (of_drafts (input_of edition.now.input.now) b)
+    ensures made { IfOk result (λ objects. (b : SignInputValue)
+        → IsSignInput sign_input.now b → AreDrafts b drafts.now serials.now
+        → AreMade (input_of sign_input.now.input.now) b (of_drafts (input_of sign_input.now.input.now) b)
         (map draft_of drafts.now) ring.old ring.new objects.items
         (signed (map draft_of drafts.now) (map answers_of objects.items))) }
 
     // A signer failed, or memory ran out, behind the first of these calls.
-    ensures stopped { IfErr result (λ fault. (b : SignInput)
-        → IsSignInput edition.now b → AreDrafts b drafts.now serials.now
-        → IsStop (of_drafts (input_of edition.now.input.now) b) (map draft_of drafts.now)
+    ensures stopped { IfErr result (λ fault. (b : SignInputValue)
+        → IsSignInput sign_input.now b → AreDrafts b drafts.now serials.now
+        → IsStop (of_drafts (input_of sign_input.now.input.now) b) (map draft_of drafts.now)
         ring.old ring.new fault) }
 
     // What the signers vouched for they vouch for on every answer.
     ensures kept { Keeps ring.old ring.new }
 {
-    let halves = sign_firsts(alloc, edition, drafts, serials, ring)?;
-    finish_all(alloc, edition, drafts, serials, halves, ring)
+    let halves = sign_firsts(alloc, sign_input, drafts, serials, ring)?;
+    finish_all(alloc, sign_input, drafts, serials, halves, ring)
 }

@@ -11,10 +11,10 @@ ghost use Rattle.issue_values.specs.Bodies.{roa_of};
 ghost use Rattle.issue_drafts.specs.Certificates.{input_of};
 ghost use Rattle.issue_drafts.specs.Views.{draft_of, kind_of, IsPlaced};
 ghost use Rattle.issue_sign.specs.Objects.{certificate_with, roa_content, crl_of};
-ghost use Rattle.issue_sign.specs.SignInput.{SignInput, IsSignInput, CanSign, CanIssue, CanBeMade};
+ghost use Rattle.issue_sign.specs.SignInput.{SignInputValue, IsSignInput, CanSign, CanIssue, CanBeMade};
 ghost use Rattle.issue_sign.specs.inner.Steps.{IsWhole, IsOfKind, IsValueOf, IsDraft};
 
-use crate::edition::Edition;
+use crate::sign_input::SignInput;
 use cert_obj::Cert;
 use crl_obj::Crl;
 use issue_drafts::{Draft, DraftKind, KeyAt};
@@ -27,31 +27,31 @@ use std::alloc::{AllocError, Global};
 #[derive(Drop)]
 pub enum Unsigned {
     Certificate { cert: Cert },
-    List { crl: Crl },
+    Crl { crl: Crl },
     Roa { origin: Origin, content: Vec<u8> },
 }
 
 /// The certificate of an authority's key.
 fn certificate(
     alloc: Global,
-    edition: &Edition<'_>,
+    sign_input: &SignInput<'_>,
     issuer: &KeyAt<'_>,
     subject: &KeyAt<'_>,
     held: &Resources,
     serial: u64,
 ) -> Result<Cert, AllocError>
-    requires moment { IsEditionMoment edition.now.input.now.work.now.moment }
-    requires issuer { CanIssue edition.now issuer.now }
-    requires subject { subject.now.place < length edition.now.publishers.now }
+    requires moment { IsEditionMoment sign_input.now.input.now.work.now.moment }
+    requires issuer { CanIssue sign_input.now issuer.now }
+    requires subject { subject.now.place < length sign_input.now.publishers.now }
     ensures spelled { IfOk result (λ cert. IsCert (cert_value cert)) }
-    ensures value { IfOk result (λ cert. (b : SignInput) → IsSignInput edition.now b
+    ensures value { IfOk result (λ cert. (b : SignInputValue) → IsSignInput sign_input.now b
         → IsPlaced b.rows issuer.now → IsPlaced b.rows subject.now
-        → cert_value cert ≡ certificate_with (input_of edition.now.input.now) b.keys
+        → cert_value cert ≡ certificate_with (input_of sign_input.now.input.now) b.keys
         issuer.now.row.now subject.now.row.now held.now serial) }
 {
-    let (site, moment) = (edition.input.site, edition.input.work.moment);
-    let by = &edition.publishers[issuer.place];
-    let of = &edition.publishers[subject.place];
+    let (site, moment) = (sign_input.input.site, sign_input.input.work.moment);
+    let by = &sign_input.publishers[issuer.place];
+    let of = &sign_input.publishers[subject.place];
     if by.id.bytes == of.id.bytes {
         anchor_certificate(alloc, site, moment, by, held, serial)
     } else {
@@ -60,17 +60,17 @@ fn certificate(
 }
 
 /// The CRL of a key.
-fn crl(alloc: Global, edition: &Edition<'_>, issuer: &KeyAt<'_>) -> Result<Crl, AllocError>
-    requires sign { CanSign edition.now }
-    requires issuer { CanIssue edition.now issuer.now }
-    requires entries { issuer.now.place < length edition.now.revoked.now }
+fn crl(alloc: Global, sign_input: &SignInput<'_>, issuer: &KeyAt<'_>) -> Result<Crl, AllocError>
+    requires sign { CanSign sign_input.now }
+    requires issuer { CanIssue sign_input.now issuer.now }
+    requires entries { issuer.now.place < length sign_input.now.revoked.now }
     ensures spelled { IfOk result (λ crl. IsCrl (crl_value crl)) }
-    ensures value { IfOk result (λ crl. (b : SignInput) → IsSignInput edition.now b → IsPlaced b.rows issuer.now
-        → crl_value crl ≡ crl_of (input_of edition.now.input.now) b.entries issuer.now.row.now) }
+    ensures value { IfOk result (λ crl. (b : SignInputValue) → IsSignInput sign_input.now b → IsPlaced b.rows issuer.now
+        → crl_value crl ≡ crl_of (input_of sign_input.now.input.now) b.entries issuer.now.row.now) }
 {
-    let moment = edition.input.work.moment;
-    let by = &edition.publishers[issuer.place];
-    let entries = edition.revoked[issuer.place].as_slice();
+    let moment = sign_input.input.work.moment;
+    let by = &sign_input.publishers[issuer.place];
+    let entries = sign_input.revoked[issuer.place].as_slice();
     key_crl(alloc, moment, by, issuer.row.number + 1, entries)
 }
 
@@ -86,20 +86,20 @@ fn roa_content(alloc: Global, origin: &Origin) -> Result<Vec<u8>, AllocError>
 /// What is signed first for a draft. Only a certificate has `serial` in it.
 pub fn unsigned_object(
     alloc: Global,
-    edition: &Edition<'_>,
+    sign_input: &SignInput<'_>,
     draft: &Draft<'_>,
     serial: u64,
 ) -> Result<Unsigned, AllocError>
-    requires sign { CanSign edition.now }
-    requires draft { CanBeMade edition.now draft.now }
+    requires sign { CanSign sign_input.now }
+    requires draft { CanBeMade sign_input.now draft.now }
     ensures whole { IfOk result IsWhole }
     ensures kind { IfOk result (IsOfKind draft.now.kind) }
-    ensures value { IfOk result (λ u. (b : SignInput) → IsSignInput edition.now b → IsDraft b draft.now serial
-        → IsValueOf (input_of edition.now.input.now) b (draft_of draft.now) (kind_of draft.now.kind) u) }
+    ensures value { IfOk result (λ u. (b : SignInputValue) → IsSignInput sign_input.now b → IsDraft b draft.now serial
+        → IsValueOf (input_of sign_input.now.input.now) b (draft_of draft.now) (kind_of draft.now.kind) u) }
 {
     match draft.kind {
         DraftKind::Authority { subject, held } => {
-            let cert = certificate(alloc, edition, &draft.issuer, &subject, held, serial)?;
+            let cert = certificate(alloc, sign_input, &draft.issuer, &subject, held, serial)?;
             Ok(Unsigned::Certificate { cert })
         }
         DraftKind::Route { origin } => {
@@ -107,8 +107,8 @@ pub fn unsigned_object(
             Ok(Unsigned::Roa { origin, content })
         }
         DraftKind::Crl => {
-            let crl = crl(alloc, edition, &draft.issuer)?;
-            Ok(Unsigned::List { crl })
+            let crl = crl(alloc, sign_input, &draft.issuer)?;
+            Ok(Unsigned::Crl { crl })
         }
     }
 }

@@ -6,8 +6,8 @@ use Rattle.hex.specs.Hex.{encode_lower}
 use Rattle.key_ids.specs.Uris.{Bases, anchor_uri, folder_of, cert_uri, crl_uri, manifest_uri}
 use Rattle.origins.specs.declared.Origin.{Origin}
 use Rattle.origins.specs.Origin.{origin_text}
-use Rattle.issue_values.specs.Publishing.{roa_uri}
-use Rattle.issue_values.specs.Ends.{last_byte}
+use Rattle.issue_values.specs.Publishers.{roa_uri}
+use Rattle.issue_values.specs.UriEndings.{last_byte}
 
 last-behind : (xs ys : List ℕ) → 0 < length ys → last_byte (xs ++ ys) ≡ last_byte ys
 last-behind xs ys some =

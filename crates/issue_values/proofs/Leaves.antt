@@ -13,7 +13,7 @@ use Rattle.der.specs.Grammar.{AreBytes}
 use Rattle.der.specs.Forms.{AreAll}
 use Rattle.issue_values.specs.Bodies.{crl_entry, AreRevoked}
 use Rattle.cert_obj.specs.Values.{IsCert, IsHeld, Sets, is_uri, sets_of, has_no_numbers}
-use Rattle.issue_values.specs.Publishing.{Publishing, CanPublish, manifest_of}
+use Rattle.issue_values.specs.Publishers.{Publishing, CanPublish, manifest_of}
 use Rattle.issue_values.specs.Certificates.{IsEditionMoment, certificate_life, point_life, anchor_certificate, authority_certificate, entity_certificate, prefix_sets, roa_certificate, manifest_certificate}
 use Rattle.issue_values.proofs.UriTexts.{folder-uri, crl-uri, manifest-uri, notify-uri}
 

@@ -13,7 +13,7 @@ use Rattle.origins.specs.declared.Origin.{Origin}
 use Rattle.origins.specs.declared.Prefix.{Prefix}
 use Rattle.origins.specs.Origin.{origin_text, maximum_of, SpellsOrigin}
 use Rattle.origins.specs.Text.{Parts, IsOriginText}
-use Rattle.issue_values.specs.Publishing.{roa_uri}
+use Rattle.issue_values.specs.Publishers.{roa_uri}
 use Rattle.origins.specs.laws.TextLaws.{text-ascii}
 
 abbrev pub AreSmall : List ℕ → Type 0

@@ -14,7 +14,7 @@ use Rattle.key_ids.specs.Uris.{Bases, anchor_uri, folder_of, file_uri, cert_uri,
 use Rattle.cert_obj.specs.Values.{is_ascii_byte, is_uri}
 use Rattle.origins.specs.declared.Origin.{Origin}
 use Rattle.origins.specs.Origin.{origin_text}
-use Rattle.issue_values.specs.Publishing.{roa_uri}
+use Rattle.issue_values.specs.Publishers.{roa_uri}
 
 -- All bytes are ASCII.
 abbrev pub IsPlain : List ℕ → Type 0

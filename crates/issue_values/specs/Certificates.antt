@@ -7,7 +7,7 @@ use Rattle.origins.specs.declared.Prefix.{Prefix}
 use Rattle.key_ids.specs.Uris.{Bases, folder_of, notify_uri}
 use Rattle.cert_obj.specs.declared.values.CertKind.TheVariants.{Anchor, Authority, EndEntity}
 use Rattle.cert_obj.specs.Values.{CertValue, Sets, sets_of}
-use Rattle.issue_values.specs.Publishing.{Publishing, crl_of, manifest_of}
+use Rattle.issue_values.specs.Publishers.{Publishing, crl_of, manifest_of}
 
 -- How long certificates of authorities and of ROAs are valid: 52 weeks, in seconds.
 abbrev pub certificate_life : ℕ

@@ -1,4 +1,4 @@
 pub mod Bodies
 pub mod Certificates
-pub mod Ends
-pub mod Publishing
+pub mod UriEndings
+pub mod Publishers

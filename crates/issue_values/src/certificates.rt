@@ -2,7 +2,7 @@
 
 ghost use Rattle.std.specs.Prelude.{◌≡◌, ◌+◌, ◌<◌, ◌^◌, true, Some, None, IfOk, string_bytes};
 ghost use Rattle.cert_obj.specs.Values.{IsCert, IsHeld, cert_value, held_value, sets_of, is_uri};
-ghost use Rattle.issue_values.specs.Publishing.{publishing, manifest_of};
+ghost use Rattle.issue_values.specs.Publishers.{publishing, manifest_of};
 ghost use Rattle.issue_values.specs.Certificates.{IsEditionMoment, prefix_sets};
 ghost use Rattle.issue_values.specs.Certificates as values;
 

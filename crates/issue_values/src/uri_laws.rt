@@ -8,8 +8,8 @@ ghost use Rattle.names.specs.Name.{IsName};
 ghost use Rattle.key_ids.specs.Uris.{Bases, anchor_uri, file_uri, cert_uri, crl_uri, manifest_uri};
 ghost use Rattle.origins.specs.declared.Origin.{Origin};
 ghost use Rattle.origins.specs.Origin.{origin_text};
-ghost use Rattle.issue_values.specs.Publishing.{roa_uri};
-ghost use Rattle.issue_values.specs.Ends.{last_byte};
+ghost use Rattle.issue_values.specs.Publishers.{roa_uri};
+ghost use Rattle.issue_values.specs.UriEndings.{last_byte};
 
 use origins::{reads_origin_once, reads_own_text, same_numbers_same_origin};
 

@@ -6,7 +6,7 @@ ghost use Rattle.cert_obj.specs.Values.{is_uri, uris_value};
 ghost use Rattle.key_ids.specs.Base.{IsBase, rsync_scheme, https_scheme};
 ghost use Rattle.key_ids.specs.Uris.{anchor_uri, cert_uri, folder_of, notify_uri};
 ghost use Rattle.names.specs.Name.{IsName};
-ghost use Rattle.issue_values.specs.Publishing.{CanPublish, publishing, crl_of, manifest_of, roa_uri};
+ghost use Rattle.issue_values.specs.Publishers.{CanPublish, publishing, crl_of, manifest_of, roa_uri};
 ghost use Rattle.origins.specs.declared.Origin.{Origin};
 
 use crate::publishers::Publisher;

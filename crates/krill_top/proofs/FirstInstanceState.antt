@@ -11,7 +11,7 @@ use Rattle.editions.specs.Sheets.{sheet_of}
 use Rattle.press_core.specs.Stands.{StandsFor}
 use Rattle.krill_top.specs.DeskStates.{DeskStates, names_in}
 use Rattle.krill_top.specs.InstanceState.{default_bases, premises_of, AreTrusted}
-use Rattle.krill_top.specs.Stands.{AreIn}
+use Rattle.krill_top.specs.DesksInStates.{AreIn}
 use Rattle.krill_top.specs.inner.Instances.{InstanceValue, IsInState}
 use Rattle.krill_top.specs.Run.{signers_needed}
 use Rattle.krill_top.proofs.Lists.{as_many, lists_long}

@@ -15,7 +15,7 @@ use Rattle.disk_api.specs.declared.disk.Disk.{Ghosts as DiskGhosts}
 use Rattle.desk_core.specs.Commands.{IsFirstBad}
 use Rattle.desk_core.specs.declared.faults.DeskOpenFault.{DeskOpenFault}
 use Rattle.desk_core.specs.declared.faults.DeskOpenFault.TheVariants.{Damaged, BadRecord, DiskFault, Memory}
-use Rattle.krill_top.specs.Desks.{RecoveredTo, IsSafe, IsUntouchedDesk, AreUntouchedDesks, IsCause, RecoversAsBefore, StopsAt}
+use Rattle.krill_top.specs.RunDisks.{RecoveredTo, IsSafe, IsUntouchedDesk, AreUntouchedDesks, IsCause, RecoversAsBefore, StopsAt}
 use Rattle.krill_top.specs.inner.Opened.{IsOpened, IsClosed, AreOpened, AreClosed, opening_fault_of}
 
 module _ {D : Type 0} (disk_of : DiskGhosts D) where

@@ -12,7 +12,7 @@ use Rattle.disk_api.specs.declared.disk.Disk.{Ghosts as DiskGhosts}
 use Rattle.desk_core.specs.View.{View}
 use Rattle.krill_top.specs.DeskStates.{DeskStates, DeskState, commands_at, names_in}
 use Rattle.krill_top.specs.InstanceState.{lists_of}
-use Rattle.krill_top.specs.Stands.{InAt, AreIn, DeskGoesOnAt, DesksGoOn}
+use Rattle.krill_top.specs.DesksInStates.{InAt, AreIn, DeskGoesOnAt, DesksGoOn}
 use Rattle.krill_top.specs.Publishing.{TakesAll}
 
 -- ---- one list after another

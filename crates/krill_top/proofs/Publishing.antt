@@ -46,7 +46,7 @@ use Rattle.krill_top.specs.inner.Gathered.{AreSince}
 use Rattle.krill_top.specs.inner.Pressing.{IsPressed, IsNotPressed}
 use Rattle.krill_top.specs.Publishing.{TakesAll, IsAtPress, Publishes, IsMetBy, PublishesOrNot}
 use Rattle.krill_top.specs.Replies.{CommandedIn}
-use Rattle.krill_top.specs.Stands.{Leads}
+use Rattle.krill_top.specs.DesksInStates.{Leads}
 use Rattle.krill_top.specs.inner.Instances.{InstanceValue, IsInState, IsInstance, Moves}
 use Rattle.krill_top.proofs.Standing.{At, at_place, go_on_same}
 use Rattle.krill_top.proofs.Vouching.{vouched_back, trusted_on, keeps_same, keeps_then}

@@ -23,11 +23,11 @@ use Rattle.press_core.specs.Signers.{HasAllVouched}
 use Rattle.krill_top.specs.declared.faults.OpenFault.{OpenFault}
 use Rattle.krill_top.specs.DeskStates.{names_in}
 use Rattle.krill_top.specs.InstanceState.{InstanceState, AreTrusted, default_bases}
-use Rattle.krill_top.specs.Stands.{IsIn, InAt, AreIn, all_stored, DeskGoesOn, DeskGoesOnAt}
+use Rattle.krill_top.specs.DesksInStates.{IsIn, InAt, AreIn, all_stored, DeskGoesOn, DeskGoesOnAt}
 use Rattle.krill_top.specs.inner.Instances.{InstanceValue, TimedInstance, IsInState}
-use Rattle.krill_top.specs.Ends.{run_status, fault_of}
+use Rattle.krill_top.specs.Statuses.{run_status, fault_of}
 use Rattle.krill_top.specs.inner.Opened.{IsOpened, IsClosed, AreOpened, AreClosed}
-use Rattle.krill_top.specs.Ended.{Served}
+use Rattle.krill_top.specs.Sessions.{Served}
 use Rattle.krill_top.specs.Run.{IsNext, IsServed, IsServedAt, IsSignersCause, IsClosedAgain, IsTrusting, ServesOne, signers_needed, streams_of}
 use Rattle.krill_top.proofs.Standing.{go_on_same}
 use Rattle.krill_top.proofs.Vouching.{telling_vouched}

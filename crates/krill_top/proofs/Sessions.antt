@@ -15,7 +15,7 @@ use Rattle.line_loop.specs.declared.session.SessionEnd.TheVariants.{End, SourceF
 use Rattle.krill_top.specs.InstanceState.{InstanceState, TimedInstanceState, at_clock, AreTrusted}
 use Rattle.krill_top.specs.Replies.{IsReply}
 use Rattle.krill_top.specs.inner.Instances.{TimedInstance, IsInState, Arrives, MovesTimed, MayReply}
-use Rattle.krill_top.specs.Ended.{Streams, Converses}
+use Rattle.krill_top.specs.Sessions.{Streams, Converses}
 use Rattle.krill_top.proofs.Standing.{go_on_then}
 use Rattle.krill_top.proofs.Moving.{arrive_here, arrives_so, timed_so}
 use Rattle.krill_top.proofs.Vouching.{vouched_back, keeps_same, keeps_then}

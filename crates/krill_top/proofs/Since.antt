@@ -17,7 +17,7 @@ use Rattle.editions.specs.Gathering as gathering
 use Rattle.editions.specs.Gathering.{cut_from, cut_with, AreGathered, AreAccepted, AreNextCommands}
 use Rattle.krill_top.specs.DeskStates.{DeskStates, commands_of}
 use Rattle.krill_top.specs.InstanceState.{lists_of}
-use Rattle.krill_top.specs.Stands.{AreIn}
+use Rattle.krill_top.specs.DesksInStates.{AreIn}
 use Rattle.krill_top.specs.inner.Gathered.{IsSince, AreSince}
 use Rattle.krill_top.specs.Publishing.{TakesAll}
 use Rattle.krill_top.proofs.Standing.{At, at_place}

@@ -12,7 +12,7 @@ use Rattle.desk_core.specs.View.{View}
 use Rattle.gate_journal.specs.Format.{held_by}
 use Rattle.gate_journal.specs.Storing.{stored, entry_bytes}
 use Rattle.krill_top.specs.DeskStates.{DeskStates, DeskState, commands_of, settings_at}
-use Rattle.krill_top.specs.Stands.{IsIn, InAt, AreIn, all_stored, RoseWithin, DeskGoesOn, DeskGoesOnAt, DesksGoOn, Leads}
+use Rattle.krill_top.specs.DesksInStates.{IsIn, InAt, AreIn, all_stored, RoseWithin, DeskGoesOn, DeskGoesOnAt, DesksGoOn, Leads}
 
 -- ---- places of lists
 

@@ -5,10 +5,10 @@ pub mod Publishing
 pub mod Reads
 pub mod Sheets
 pub mod Replies
-pub mod Stands
-pub mod Ended
+pub mod DesksInStates
+pub mod Sessions
 pub mod Words
-pub mod Ends
-pub mod Desks
+pub mod Statuses
+pub mod RunDisks
 pub mod Run
 pub mod inner

@@ -24,10 +24,10 @@ use Rattle.krill_top.specs.declared.serving.SessionEnds.{SessionEnds}
 use Rattle.krill_top.specs.declared.running.RunEnd.{RunEnd}
 use Rattle.krill_top.specs.DeskStates.{DeskStates, DeskState, names_in}
 use Rattle.krill_top.specs.InstanceState.{InstanceState, at_clock, default_bases, premises_of, AreAllVouched}
-use Rattle.krill_top.specs.Stands.{all_stored, RoseWithin}
-use Rattle.krill_top.specs.Ended.{Streams, Converses}
-use Rattle.krill_top.specs.Desks.{RecoveredTo, IsSafe, IsOpeningRefused}
-use Rattle.krill_top.specs.Ends.{fault_status, run_status, fault_of, opening_fault}
+use Rattle.krill_top.specs.DesksInStates.{all_stored, RoseWithin}
+use Rattle.krill_top.specs.Sessions.{Streams, Converses}
+use Rattle.krill_top.specs.RunDisks.{RecoveredTo, IsSafe, IsOpeningRefused}
+use Rattle.krill_top.specs.Statuses.{fault_status, run_status, fault_of, opening_fault}
 
 -- A run that was refused at once: nothing was read or written, and no device was called.
 pub record IsRefusedRun {D G S K C : Type 0} (desks : List D) (signers : List G)

@@ -9,7 +9,7 @@ ghost use Rattle.desk_core.specs.View.{View};
 ghost use Rattle.krill_top.specs.DeskStates.{DeskStates, most_desks, names_in, desk_named};
 ghost use Rattle.krill_top.specs.Reads.{list_lines, list_reply, IsShowReply, IsRoasReply, history_reply};
 ghost use Rattle.krill_top.specs.Outcomes.{Commanded, outcome_of};
-ghost use Rattle.krill_top.specs.Stands.{AreIn, IsNamed, Leads};
+ghost use Rattle.krill_top.specs.DesksInStates.{AreIn, IsNamed, Leads};
 ghost use Rattle.krill_top.specs.inner.Gathered.{AreSince};
 ghost use Rattle.krill_top.specs.Run as run;
 

@@ -1,7 +1,7 @@
 //! Why a run ended otherwise than well.
 
 ghost use Rattle.std.specs.Prelude.{◌≡◌, Some, IfOk, string_bytes};
-ghost use Rattle.krill_top.specs.Ends.{opening_spelling, fault_spelling, fault_status};
+ghost use Rattle.krill_top.specs.Statuses.{opening_spelling, fault_spelling, fault_status};
 
 use std::alloc::{AllocError, Global};
 use std::fmt;
@@ -25,7 +25,7 @@ pub enum OpenFault {
 
 impl fmt::Display for OpenFault {
     ghost use Rattle.std.specs.Prelude.{Some};
-    ghost use Rattle.krill_top.specs.Ends.{opening_spelling};
+    ghost use Rattle.krill_top.specs.Statuses.{opening_spelling};
 
     ghost output = { λ fault. Some (opening_spelling fault) };
 

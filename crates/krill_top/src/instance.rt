@@ -10,7 +10,7 @@ ghost use Rattle.krill_top.specs.Sheets.{IsShowText, IsRoasText};
 ghost use Rattle.krill_top.specs.Outcomes.{outcome_of};
 ghost use Rattle.krill_top.specs.Publishing.{PublishesOrNot};
 ghost use Rattle.krill_top.specs.Replies.{CommandedIn};
-ghost use Rattle.krill_top.specs.Stands.{AreIn};
+ghost use Rattle.krill_top.specs.DesksInStates.{AreIn};
 ghost use Rattle.krill_top.specs.inner.Instances.{IsInState, Moves};
 ghost use Rattle.krill_top.specs.Run.{signers_needed};
 

@@ -3,7 +3,7 @@
 ghost use Rattle.std.specs.Prelude.{◌≡◌, ◌≤◌, ◌+◌, ◌<◌, ◌++◌, ◌∷◌, ◌^◌, [], List, length, vec_len, vec_capacity, IfOk, IfErr, OnOk};
 ghost use Rattle.desk_core.specs.View.{View};
 ghost use Rattle.krill_top.specs.inner.Opened.{AreOpened, AreClosed, opening_fault_of};
-ghost use Rattle.krill_top.specs.Desks.{AreUntouchedDesks, IsOpeningRefused};
+ghost use Rattle.krill_top.specs.RunDisks.{AreUntouchedDesks, IsOpeningRefused};
 
 use crate::faults::OpenFault;
 use crate::fronts::{put_in_front, take_first};

@@ -1,18 +1,17 @@
 //! The texts of reads, from an authority's configuration and what the last edition says of it.
 
-ghost use Rattle.std.specs.Prelude.{◌≡◌, ◌↔◌, IsTrue, IfOk, IfSome, option_copied};
-ghost use Rattle.res_sets.specs.Triples.{has};
-ghost use Rattle.entitle.specs.Owed.{HasEach};
+ghost use Rattle.std.specs.Prelude.{◌≡◌, IfOk, IfSome, option_copied};
 ghost use Rattle.json_api.specs.Texts.{resources_text};
 ghost use Rattle.krill_top.specs.Reads as spec;
 ghost use Rattle.krill_top.specs.Reads.{certified_in, stage_in, HasCanonicalSets, IsShownText, IsState, AreRoaLines, IsRoasText};
 
 use authority_book::Config;
+use entitle::is_certified;
 use json_api::{RoaLine, RoaWord, Shown, StageWord, roas_text, show_text};
 use names::Name;
 use notice_board::{Sheet, SheetRow, ShownStage};
-use origins::{Origin, Prefix};
-use res_sets::{Range, Resources};
+use origins::Origin;
+use res_sets::Resources;
 use std::alloc::{AllocError, Global};
 
 // A law, with nothing to answer: each set is the canonical list of its ranges.
@@ -85,28 +84,13 @@ pub(crate) fn shown(
     show_text(alloc, &shown, config.children())
 }
 
-// Whether each address of the prefix is in the set.
-fn is_held(set: &Resources, prefix: &Prefix) -> bool
-    ensures { IsTrue result ↔ HasEach (has set.now) prefix.now }
-{
-    let range = Range {
-        first: prefix.first(),
-        last: prefix.last(),
-    };
-    if prefix.v6 {
-        set.v6.holds_range(&range)
-    } else {
-        set.v4.holds_range(&range)
-    }
-}
-
 // Where the origin stands, by what the edition says of its authority.
 fn state_by(row: Option<&SheetRow>, origin: &Origin) -> RoaWord
     ensures { IsState (option_copied row.entry) origin.now result }
 {
     match row {
         Some(row) if row.published.as_slice().contains(origin) => RoaWord::Published,
-        Some(row) if is_held(&row.certified, &origin.prefix) => RoaWord::Pending,
+        Some(row) if is_certified(&row.certified, &origin.prefix) => RoaWord::Pending,
         _ => RoaWord::Held,
     }
 }

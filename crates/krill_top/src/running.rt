@@ -2,7 +2,7 @@
 
 ghost use Rattle.std.specs.Prelude.{◌≡◌, ◌≢◌, ◌↔◌, ◌⊎◌, ◌<◌, ◌≤◌, [], ◌∷◌, List, length, map, IsTrue};
 ghost use Rattle.krill_top.specs.Words.{AreRunWords};
-ghost use Rattle.krill_top.specs.Ends.{run_status, fault_of, opening_fault};
+ghost use Rattle.krill_top.specs.Statuses.{run_status, fault_of, opening_fault};
 ghost use Rattle.krill_top.specs.DeskStates.{most_desks};
 ghost use Rattle.rp_rules.specs.Certificates.{Vouched};
 ghost use Rattle.krill_top.specs.inner.Started.{IsStarted};

@@ -3,7 +3,7 @@
 ghost use Rattle.std.specs.Prelude.{◌≡◌, ◌≤◌};
 ghost use Rattle.host_calls.specs.Rise.{HasRisen};
 ghost use Rattle.krill_top.specs.inner.Handlers.{timed};
-ghost use Rattle.krill_top.specs.Ended.{Served};
+ghost use Rattle.krill_top.specs.Sessions.{Served};
 
 use crate::handler::Handler;
 use disk_api::Disk;

@@ -6,7 +6,7 @@ ghost use Rattle.rp_rules.specs.Certificates.{Vouched};
 ghost use Rattle.krill_top.specs.DeskStates.{DeskStates, most_desks};
 ghost use Rattle.krill_top.specs.InstanceState.{AreTrusted};
 ghost use Rattle.krill_top.specs.inner.Opened.{AreOpened, AreClosed};
-ghost use Rattle.krill_top.specs.Desks.{IsOpeningRefused};
+ghost use Rattle.krill_top.specs.RunDisks.{IsOpeningRefused};
 ghost use Rattle.krill_top.specs.Run.{IsClosedAgain};
 ghost use Rattle.krill_top.specs.inner.Started.{IsStarted};
 

@@ -24,7 +24,7 @@ use Rattle.key_roll.specs.declared.issued.IssuedRow.{IssuedRow}
 use Rattle.issue_plan.specs.Keys.{next_keys}
 use Rattle.issue_plan.specs.Wanted.{PlanInput}
 use Rattle.issue_plan.specs.Work as plan
-use Rattle.issue_make.specs.Work as making
+use Rattle.issue_make.specs.CanMake as making
 use Rattle.issue_make.specs.Made.{IsMade, calls_of}
 use Rattle.editions.specs.Edition.{Edition, State, state_after, state_from, set_after, cut_at}
 use Rattle.editions.specs.Table.{IsTable}
@@ -46,7 +46,7 @@ use Rattle.editions.specs.PlannedAndMade.{IsPlannedAndMade}
 use Rattle.press_core.specs.PrepareInput.{PrepareInput}
 use Rattle.press_core.specs.Next.{PreparedValue}
 use Rattle.press_core.specs.Signers.{HasAllVouched}
-use Rattle.press_core.specs.Planned.{IsPrepared, basis_for, setting_for, calls_for}
+use Rattle.press_core.specs.Planned.{IsPrepared, basis_for, issue_input_for, calls_for}
 use Rattle.press_core.specs.Stands.{IsLeftBy, StandsFor}
 use Rattle.press_core.specs.Follows.{edition_of, AreBehind, Follows}
 use Rattle.press_core.proofs.Signing.{calls-of-signers}
@@ -127,11 +127,11 @@ pub prepared-vouched : (start : PrepareInput) (ring : List SignerState) (prepare
     → HasAllVouched vouched ring → All (IsVouchedBy vouched) (calls_for start ring prepared is)
 prepared-vouched start ring prepared is vouched has =
     let of = is.made in
-    let calls = calls_of (setting_for start of.work) of.is_made.trace in
+    let calls = calls_of (issue_input_for start of.work) of.is_made.trace in
     let long : length ring ≡ length start.ring = ap length of.is_made.signers ∙ calls-long start.ring calls in
     vouched-all vouched ring calls has
     (subst (λ (n : ℕ). All (λ (call : Call). signer_of call < n) calls) (sym long)
-    (calls-of-signers (length start.ring) (setting_for start of.work) start.at.rows of.is_made.trace of.able of.is_made.is_course))
+    (calls-of-signers (length start.ring) (issue_input_for start of.work) start.at.rows of.is_made.trace of.able of.is_made.is_trace))
     of.is_made.vouched
 
 -- ---- names

@@ -24,7 +24,7 @@ use Rattle.issue_keys.specs.declared.fault.MakeFault.TheVariants.{SignerFault, K
 use Rattle.issue_keys.specs.Making.{making as making_of}
 use Rattle.issue_drafts.specs.Certificates.{IssueInput}
 use Rattle.issue_make.specs.declared.outcome.Made.{Made}
-use Rattle.issue_make.specs.Work as making
+use Rattle.issue_make.specs.CanMake as making
 use Rattle.signer_ring.specs.Calls.{after_calls}
 use Rattle.issue_make.specs.Made.{IsMade, IsStop, calls_of}
 use Rattle.editions.specs.Edition.{cut_at}
@@ -40,7 +40,7 @@ use Rattle.editions.specs.PlannedAndMade.{CanBeRead}
 use Rattle.press_core.specs.declared.setup.EditionInput.{EditionInput}
 use Rattle.press_core.specs.PrepareInput.{PrepareInput}
 use Rattle.press_core.specs.Next.{PreparedValue}
-use Rattle.press_core.specs.Planned.{IsInRange, IsCalled, IsPlanned, IsPrepared, basis_for, setting_for}
+use Rattle.press_core.specs.Planned.{IsInRange, IsCalled, IsPlanned, IsPrepared, basis_for, issue_input_for}
 use Rattle.press_core.specs.Signers.{HoldKeys}
 use Rattle.press_core.proofs.Holding.{hold-calls, hold-fault, hold-further}
 use Rattle.press_core.specs.declared.fault.PressFault.TheVariants as press
@@ -91,14 +91,14 @@ can-follow start setup work ready typed = record {
 -- The input of the calls, of the laws, and of the press.
 pub settings-same : (start : PrepareInput) (setup : EditionInput) (work : Work) (names : List NameRow) (parts : StateParts) → IsReady start setup work
     → names ≡ names_of (settings_of setup.configs.items) → value_of parts ≡ start.at
-    → making.input_of work names parts.issued start.site ≡ setting_for start work
+    → making.input_with work names parts.issued start.site ≡ issue_input_for start work
 settings-same start setup work names parts ready named same =
     let names_same = named ∙ ap names_of ready.set_up.configs in
     let issued = ap (λ (v : PublishedStateValue). v.issued) same in
     λ i. record { work = work; names = names_same i; issued = issued i; site = start.site }
 
 pub law-input : (start : PrepareInput) (setup : EditionInput) (work : Work) → IsReady start setup work
-    → setting_over (basis_over start.at setup) start.at.issued start.site work ≡ setting_for start work
+    → setting_over (basis_over start.at setup) start.at.issued start.site work ≡ issue_input_for start work
 law-input start setup work ready =
     let names_same = ap names_of ready.set_up.configs in
     λ i. record { work = work; names = names_same i; issued = start.at.issued; site = start.site }
@@ -119,13 +119,13 @@ pub record WorkLaws : Type 0 where
       → IsTableAfter at.issued made.changes made.issued table → IsClear site made.rows table
 
 pub is-able : WorkLaws → (start : PrepareInput) (setup : EditionInput) (work : Work) → IsReady start setup work → AreTyped (basis_over start.at setup)
-    → making.CanMake (setting_for start work) start.at.rows (length start.ring)
+    → making.CanMake (issue_input_for start work) start.at.rows (length start.ring)
 is-able laws start setup work ready typed =
     subst (λ (s : IssueInput). making.CanMake s start.at.rows (length start.ring)) (law-input start setup work ready)
     (laws.work start.at start.site (length start.ring) (basis_over start.at setup) work ready.able.kept (can-follow start setup work ready typed) ready.plan)
 
 pub made-ready : WorkLaws → (start : PrepareInput) (setup : EditionInput) (work : Work) (ring : List SignerState) (made : Made) → IsReady start setup work
-    → AreTyped (basis_over start.at setup) → IsMade (setting_for start work) start.at.rows start.ring ring made → IsMadeReady start setup work ring made
+    → AreTyped (basis_over start.at setup) → IsMade (issue_input_for start work) start.at.rows start.ring ring made → IsMadeReady start setup work ring made
 made-ready laws start setup work ring made ready typed is =
     let basis = basis_over start.at setup in
     let follow = can-follow start setup work ready typed in
@@ -190,27 +190,27 @@ called-as laws start setup names parts rows configs names_are configs_are plain 
     }
 
 abbrev pub call_setting : PrepareInput → Work → List NameRow → StateParts → IssueInput
-call_setting start work names parts = making.input_of work names parts.issued start.site
+call_setting start work names parts = making.input_with work names parts.issued start.site
 
 pub call-able : (start : PrepareInput) (setup : EditionInput) (work : Work) (names : List NameRow) (parts : StateParts) (rows : List KeyRow) → Called start setup names parts rows
     → IsReady start setup work → making.CanMake (call_setting start work names parts) rows (length start.ring)
 call-able start setup work names parts rows c ready =
     subst (λ (s : IssueInput). making.CanMake s rows (length start.ring)) (sym (settings-same start setup work names parts ready c.named c.same))
-    (subst (λ (r : List KeyRow). making.CanMake (setting_for start work) r (length start.ring)) (sym c.rows_are) (is-able c.laws start setup work ready (typed-of c.laws start setup work ready c.plain)))
+    (subst (λ (r : List KeyRow). making.CanMake (issue_input_for start work) r (length start.ring)) (sym c.rows_are) (is-able c.laws start setup work ready (typed-of c.laws start setup work ready c.plain)))
 
 pub call-made : (start : PrepareInput) (setup : EditionInput) (work : Work) (names : List NameRow) (parts : StateParts) (rows : List KeyRow) (ring : List SignerState) (made : Made)
     → Called start setup names parts rows → IsReady start setup work → IsMade (call_setting start work names parts) rows start.ring ring made
     → IsMadeReady start setup work ring made
 call-made start setup work names parts rows ring made c ready is =
     made-ready c.laws start setup work ring made ready (typed-of c.laws start setup work ready c.plain)
-    (subst (λ (r : List KeyRow). IsMade (setting_for start work) r start.ring ring made) c.rows_are
+    (subst (λ (r : List KeyRow). IsMade (issue_input_for start work) r start.ring ring made) c.rows_are
     (subst (λ (s : IssueInput). IsMade s rows start.ring ring made) (settings-same start setup work names parts ready c.named c.same) is))
 
 pub call-stopped : (start : PrepareInput) (setup : EditionInput) (work : Work) (names : List NameRow) (parts : StateParts) (rows : List KeyRow) (ring : List SignerState) (fault : MakeFault)
     → Called start setup names parts rows → IsReady start setup work → IsStop (call_setting start work names parts) rows start.ring ring fault
-    → IsStop (setting_for start work) start.at.rows start.ring ring fault
+    → IsStop (issue_input_for start work) start.at.rows start.ring ring fault
 call-stopped start setup work names parts rows ring fault c ready stop =
-    subst (λ (r : List KeyRow). IsStop (setting_for start work) r start.ring ring fault) c.rows_are
+    subst (λ (r : List KeyRow). IsStop (issue_input_for start work) r start.ring ring fault) c.rows_are
     (subst (λ (s : IssueInput). IsStop s rows start.ring ring fault) (settings-same start setup work names parts ready c.named c.same) stop)
 
 -- ---- the signers' keys
@@ -238,7 +238,7 @@ planned-of start setup work ready = record {
 }
 
 pub refused-of : (start : PrepareInput) (setup : EditionInput) (work : Work) (ring : List SignerState) (fault : MakeFault) → IsReady start setup work
-    → IsStop (setting_for start work) start.at.rows start.ring ring fault → IsPressFault start ring (fault_of fault start.clock)
+    → IsStop (issue_input_for start work) start.at.rows start.ring ring fault → IsPressFault start ring (fault_of fault start.clock)
 refused-of start setup work ring (SignerFault signer) ready stop = (record { work = work; planned = planned-of start setup work ready; fault = stop }, refl)
 refused-of start setup work ring (KeyClash id) ready stop = (record { work = work; planned = planned-of start setup work ready; clash = stop }, refl)
 refused-of start setup work ring Memory ready stop = inr (record { work = work; planned = planned-of start setup work ready; out = inl stop })

@@ -21,14 +21,14 @@ use Rattle.issue_keys.specs.Making.{making}
 use Rattle.issue_drafts.specs.Finding.{Keys, all_keys, key_named}
 use Rattle.issue_drafts.specs.Certificates.{IssueInput, made_uri, name_at}
 use Rattle.key_ids.specs.Uris.{crl_uri, manifest_uri}
-use Rattle.issue_values.specs.Publishing.{roa_uri}
+use Rattle.issue_values.specs.Publishers.{roa_uri}
 use Rattle.issue_drafts.specs.Drafts.{Draft, Kind, drafts, manifests, certificate_draft, roa_draft, crl_draft, manifest_draft, AreOrdered}
 use Rattle.issue_drafts.specs.Drafts.Kind.{Certificate, Roa, Crl, Manifest}
 use Rattle.issue_sign.specs.Objects.{Signed, Entries, Answers}
 use Rattle.issue_sign.specs.Calls.{first_call, second_call, first_calls, second_calls, content_calls, last_calls}
-use Rattle.issue_make.specs.Outcome.{IssuingTrace, AreKeys, IsIssuingTrace, all_of}
+use Rattle.issue_make.specs.Trace.{IssuingTrace, AreKeys, IsIssuingTrace, all_of}
 use Rattle.issue_make.specs.Made.{calls_of}
-use Rattle.issue_make.specs.Work.{CanMake}
+use Rattle.issue_make.specs.CanMake.{CanMake}
 
 -- ---- lists
 

@@ -9,7 +9,7 @@ use Rattle.issue_make.specs.Made.{IsMade, IsOut, IsFault}
 use Rattle.editions.specs.PublishedState.{PublishedStateValue}
 use Rattle.editions.specs.Moments.{is_out_of_range, first_at_end}
 use Rattle.press_core.specs.PrepareInput.{PrepareInput}
-use Rattle.press_core.specs.Planned.{IsInRange, IsCalled, IsPlanned, setting_for}
+use Rattle.press_core.specs.Planned.{IsInRange, IsCalled, IsPlanned, issue_input_for}
 use Rattle.press_core.specs.Met.{MetValue}
 use Rattle.press_core.specs.declared.fault.PressFault.{PressFault}
 use Rattle.press_core.specs.declared.fault.PressFault.TheVariants.{ClockRange, SerialEnd, Nothing}
@@ -38,7 +38,7 @@ pub record IsSignersFault (start : PrepareInput) (ring : List SignerState) (sign
     : Type 0 where
   pub work : Work
   pub planned : IsPlanned start work
-  pub fault : IsFault (setting_for start work) start.at.rows start.ring ring signer
+  pub fault : IsFault (issue_input_for start work) start.at.rows start.ring ring signer
 
 -- A key that was made for the plan has the identifier of a live one, or of one made before it.
 pub record IsKeysClash (start : PrepareInput) (ring : List SignerState) (id : List ℕ)
@@ -52,8 +52,8 @@ pub record IsKeysClash (start : PrepareInput) (ring : List SignerState) (id : Li
 pub record IsShort (start : PrepareInput) (ring : List SignerState) : Type 0 where
   pub work : Work
   pub planned : IsPlanned start work
-  pub out : IsOut (setting_for start work) start.at.rows start.ring ring
-      ⊎ ((made : Made) × IsMade (setting_for start work) start.at.rows start.ring ring made)
+  pub out : IsOut (issue_input_for start work) start.at.rows start.ring ring
+      ⊎ ((made : Made) × IsMade (issue_input_for start work) start.at.rows start.ring ring made)
 
 -- Met at that clock, by the refusal of that code.
 abbrev pub IsMet : ℕ → ℕ → MetValue → Type 0

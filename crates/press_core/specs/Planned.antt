@@ -10,7 +10,7 @@ use Rattle.issue_plan.specs.Keys.{Basis, next_keys}
 use Rattle.issue_plan.specs.Work.{IsPlan}
 use Rattle.issue_drafts.specs.Certificates.{IssueInput}
 use Rattle.issue_make.specs.declared.outcome.Made.{Made}
-use Rattle.issue_make.specs.Work as making
+use Rattle.issue_make.specs.CanMake as making
 use Rattle.issue_make.specs.Made.{IsMade, calls_of}
 use Rattle.editions.specs.PublishedState.{PublishedStateValue}
 use Rattle.editions.specs.Moments.{moment_behind, is_out_of_range, AreBelowEnd}
@@ -53,8 +53,8 @@ pub record IsPlanned (start : PrepareInput) (work : Work) : Type 0 where
   pub plan : IsPlan (basis_for start sets) start.at.issued start.site work
 
 -- The making of that work.
-abbrev pub setting_for : PrepareInput → Work → IssueInput
-setting_for start work = record {
+abbrev pub issue_input_for : PrepareInput → Work → IssueInput
+issue_input_for start work = record {
   work = work;
   names = names_of (configs_with start.at.configs start.gathered);
   issued = start.at.issued;
@@ -66,9 +66,9 @@ pub record IsMadeOf (start : PrepareInput) (ring : List SignerState) (prepared :
     : Type 0 where
   pub work : Work
   pub planned : IsPlanned start work
-  pub able : making.CanMake (setting_for start work) start.at.rows (length start.ring)
+  pub able : making.CanMake (issue_input_for start work) start.at.rows (length start.ring)
   pub made : Made
-  pub is_made : IsMade (setting_for start work) start.at.rows start.ring ring made
+  pub is_made : IsMade (issue_input_for start work) start.at.rows start.ring ring made
   -- each object that is put can be read, and they are fewer than counters can count
   pub readable : All CanBeRead made.changes
   pub few : length made.issued < 2 ^ 62
@@ -93,4 +93,4 @@ pub record IsPrepared (start : PrepareInput) (ring : List SignerState) (prepared
 abbrev pub calls_for : (start : PrepareInput) (ring : List SignerState) (prepared : PreparedValue)
     → IsPrepared start ring prepared → List Call
 calls_for start ring prepared is =
-    calls_of (setting_for start is.made.work) is.made.is_made.trace
+    calls_of (issue_input_for start is.made.work) is.made.is_made.trace

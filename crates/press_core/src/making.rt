@@ -20,8 +20,8 @@ use editions::{
     PublishedState, StateParts, ended_keys, made_keys_are_live, made_keys_have_signers, next_set,
     next_table, other_uris_are_clear, planned_work_can_be_made,
 };
+use entitle::names_of;
 use issue_make::{Made, make};
-use issue_plan::names_of;
 use items::Items;
 use key_ids::Site;
 use key_roll::{Issued, IssuedRow, Work};

@@ -11,7 +11,7 @@ mod roas;
 use crate::bodies::places::BodyProbe;
 use anyhow::{Result, bail};
 use std::alloc::Global;
-use test_forms::{bytes_of, changes, cuts};
+use test_support::{bytes_of, changes, cuts};
 
 /// Prints the answer to the case of a line.
 pub fn print_case(rt: &HostRuntime, line: &str) -> Result<()> {

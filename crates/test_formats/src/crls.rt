@@ -14,7 +14,7 @@ use crl_obj::{Crl, ReadCrl};
 use key_ids::KeyId;
 use signer_api::Signature;
 use std::alloc::Global;
-use test_forms::{bytes_of, changes, cuts, digits_of, fixed_of, number_of};
+use test_support::{bytes_of, changes, cuts, digits_of, fixed_of, number_of};
 
 /// Prints the answer to the case of a line.
 pub fn print_case(rt: &HostRuntime, line: &str) -> Result<()> {

@@ -12,7 +12,7 @@ mod texts;
 
 use anyhow::{Context, Result};
 use std::alloc::Global;
-use test_forms::first_field;
+use test_support::first_field;
 
 pub fn print_case(rt: &HostRuntime, line: &str) -> Result<()> {
     let (name, rest) = first_field(line)?;

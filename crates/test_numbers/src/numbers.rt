@@ -12,7 +12,7 @@ mod sets;
 
 use anyhow::{Context, Result, bail};
 use std::alloc::Global;
-use test_forms::first_field;
+use test_support::first_field;
 
 pub fn print_case(rt: &HostRuntime, line: &str) -> Result<()> {
     let (name, rest) = first_field(line)?;

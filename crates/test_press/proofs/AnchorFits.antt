@@ -22,13 +22,13 @@ use Rattle.key_roll.specs.declared.work.NewKey.{NewKey}
 use Rattle.key_roll.specs.declared.work.PointWork.{PointWork}
 use Rattle.issue_values.specs.Certificates.{IsEditionMoment}
 use Rattle.issue_values.specs.Bodies.{AreRevoked}
-use Rattle.issue_values.specs.Publishing.{roa_uri}
+use Rattle.issue_values.specs.Publishers.{roa_uri}
 use Rattle.issue_keys.specs.Keys.{id_of, kept_rows, fresh_row, fresh_rows, AreFresh}
 use Rattle.issue_drafts.specs.Finding.{Keys}
 use Rattle.issue_drafts.specs.Certificates.{IssueInput, is_key, name_at, made_uri}
 use Rattle.issue_drafts.specs.Drafts.{Draft, roa_draft}
 use Rattle.issue_drafts.specs.Drafts.Kind.{Certificate, Roa, Crl, Manifest}
-use Rattle.issue_make.specs.Work.{IsThere, IsCertified, AreListable, Fits, CanMake}
+use Rattle.issue_make.specs.CanMake.{IsThere, IsCertified, AreListable, Fits, CanMake}
 use Rattle.test_press.specs.Anchor.{anchor_name, anchor_key, anchor_work, roa_under, unused_row, unused_rows}
 
 -- ---- the key that is made

@@ -17,7 +17,7 @@ mod print;
 
 use anyhow::{Context, Result};
 use pub_set::ObjectSet;
-use test_forms::read_set;
+use test_support::read_set;
 
 /// Takes the set of a line as the base of the cases behind it, or prints the answer to the case of a line.
 pub fn print_case(rt: &HostRuntime, base: &mut ObjectSet, line: &str) -> Result<()> {

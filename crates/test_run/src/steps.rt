@@ -4,7 +4,7 @@ use crate::bench::Bench;
 use anyhow::{Context, Result, bail};
 use krill_top::RunFault;
 use std::alloc::Global;
-use test_forms::{fixed_of, numbers_of};
+use test_support::{fixed_of, numbers_of};
 
 /// Takes a step: a word, and behind a blank what goes with it.
 pub fn take(alloc: Global, bench: &mut Bench, step: &str) -> Result<()> {

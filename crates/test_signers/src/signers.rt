@@ -17,7 +17,7 @@ use anyhow::{Result, bail};
 use signer_api::{MemorySigner, PublicKey, Rehearsal, Signer};
 use signer_line::LineSigner;
 use std::alloc::Global;
-use test_forms::numbers_of;
+use test_support::numbers_of;
 
 // Signers written as `KIND:START` or `memory:START:FAILS`, separated by commas, each boxed.
 fn run_ring(alloc: Global, written: &str, script: &str) -> Result<String> {

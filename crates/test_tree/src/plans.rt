@@ -18,7 +18,7 @@ use entitle::{certified, owed};
 use issue_plan::plan;
 use key_ids::Site;
 use std::alloc::Global;
-use test_forms::first_field;
+use test_support::first_field;
 
 pub fn print_case(rt: &HostRuntime, line: &str) -> Result<()> {
     let (name, rest) = first_field(line)?;

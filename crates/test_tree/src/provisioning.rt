@@ -9,7 +9,7 @@ use key_ids::KeyId;
 use provision::{Class, Reply, Request, answer};
 use res_sets::Resources;
 use std::str;
-use test_forms::resources_of;
+use test_support::resources_of;
 
 fn print_answer(rt: &HostRuntime, fields: &[&str]) -> Result<()> {
     let alloc = rt.alloc();

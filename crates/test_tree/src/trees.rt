@@ -12,7 +12,7 @@ mod trees;
 
 use anyhow::{Context, Result, bail};
 use std::alloc::Global;
-use test_forms::split_field;
+use test_support::split_field;
 
 pub fn print_case(rt: &HostRuntime, line: &str) -> Result<()> {
     let (name, rest) = split_field(line, '\t')?;

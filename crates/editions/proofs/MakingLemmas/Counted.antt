@@ -15,7 +15,7 @@ use Rattle.issue_drafts.specs.Certificates.{IssueInput}
 use Rattle.issue_drafts.specs.Drafts.{Draft, is_numbered}
 use Rattle.issue_sign.specs.Objects.{Signed}
 use Rattle.issue_drafts.specs.Revoking.{has_point}
-use Rattle.issue_make.specs.Outcome.{IssuingTrace, IsIssuingTrace, all_of, made_of, row_after}
+use Rattle.issue_make.specs.Trace.{IssuingTrace, IsIssuingTrace, all_of, made_of, row_after}
 use Rattle.editions.specs.Step.{most_counted}
 
 -- Both counters of a key are below their end.
@@ -39,7 +39,7 @@ below-fresh (new ∷ news) (key ∷ keys) =
     All-cons IsBelow (fresh_row new key) (fresh_rows news keys)
     (record { number = omega arith; serial = omega arith }) (below-fresh news keys)
 
-module _ (s : IssueInput) (live : List KeyRow) (trace : IssuingTrace) (is_course : IsIssuingTrace s live trace)
+module _ (s : IssueInput) (live : List KeyRow) (trace : IssuingTrace) (is_trace : IsIssuingTrace s live trace)
     (numbers : All (λ row. row.number < 2 ^ 62) live)
     (serials : All (λ row. row.next_serial < 2 ^ 62) live)
     (few : length (made_of trace) < 2 ^ 62) where
@@ -56,9 +56,9 @@ module _ (s : IssueInput) (live : List KeyRow) (trace : IssuingTrace) (is_course
       below-kept row (role_of s.work.roles row)
       (All-filter (λ row. not (is_dropped s.work.dropped row)) IsBelow live below-live k d inside)) in
       All-append IsBelow trace.keys.kept trace.keys.fresh
-      (subst (All IsBelow) (sym is_course.keys.kept) kept)
-      (subst (All IsBelow) (sym is_course.keys.fresh.rows)
-      (below-fresh is_course.keys.fresh.news is_course.keys.fresh.keys))
+      (subst (All IsBelow) (sym is_trace.keys.kept) kept)
+      (subst (All IsBelow) (sym is_trace.keys.fresh.rows)
+      (below-fresh is_trace.keys.fresh.news is_trace.keys.fresh.keys))
 
   -- No key takes more serials than there are objects.
   taken : (key : KeyRow) → count_by (is_numbered key) (all_of s trace) < 2 ^ 62
@@ -66,7 +66,7 @@ module _ (s : IssueInput) (live : List KeyRow) (trace : IssuingTrace) (is_course
       let most = count_by-le-length (is_numbered key) (all_of s trace) in
       let drafts : List Draft = map (λ (x : Signed). x.draft) trace.objects in
       let same : length drafts ≡ length (all_of s trace) =
-      length_permutation (all_of s trace) drafts is_course.objects.permutation in
+      length_permutation (all_of s trace) drafts is_trace.objects.permutation in
       let objects : length drafts ≡ length trace.objects =
       length-map trace.objects (λ (x : Signed). x.draft) in
       let more : length (made_of trace) ≡ length trace.objects + length trace.listed =

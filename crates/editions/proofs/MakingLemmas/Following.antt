@@ -17,12 +17,12 @@ use Rattle.issue_drafts.specs.Certificates.{IssueInput}
 use Rattle.issue_drafts.specs.Drafts.{Draft, drafts, manifests, certificate_draft, roa_draft, crl_draft, manifest_draft}
 use Rattle.issue_sign.specs.Objects.{Signed}
 use Rattle.issue_sign.specs.Calls.{first_calls, second_calls, content_calls, last_calls}
-use Rattle.issue_make.specs.Outcome.{IssuingTrace, IsIssuingTrace, all_of, made_of, final_bytes, wanted_at}
+use Rattle.issue_make.specs.Trace.{IssuingTrace, IsIssuingTrace, all_of, made_of, final_bytes, wanted_at}
 use Rattle.issue_plan.specs.Keys.{kept, next_keys}
 use Rattle.issue_plan.specs.Wanted.{PlanInput, point_of}
 use Rattle.issue_plan.specs.Uris.{wanted_uris}
-use Rattle.issue_make.specs.Plans.{puts}
-use Rattle.issue_make.specs.Work.{Fits}
+use Rattle.issue_make.specs.ObjectPlan.{puts}
+use Rattle.issue_make.specs.CanMake.{Fits}
 use Rattle.editions.specs.Edition.{Edition, State, state_after, set_after, AreChanges}
 use Rattle.editions.specs.Objects.{Issuance, IsObject, IsLeft, IsDone, IsNewSet}
 use Rattle.editions.specs.Step.{Premises, IsStep, AreSteps, AreCounted, plan_input_at, next_moment}
@@ -69,8 +69,8 @@ module _ (laws : Laws) (premises : Premises) (clock : ℕ) (editions : List Edit
   abbrev live : List KeyRow
   live = plan_input.basis.rows
 
-  abbrev is_course : IsIssuingTrace s live trace
-  is_course = by.is_made.is_course
+  abbrev is_trace : IsIssuingTrace s live trace
+  is_trace = by.is_made.is_trace
 
   abbrev pub before : Contents
   before = set_after editions
@@ -90,10 +90,10 @@ module _ (laws : Laws) (premises : Premises) (clock : ℕ) (editions : List Edit
   rising = subst (Rise uri_of) (sym by.changes) by.is_made.rising
 
   fits : Fits s trace.keys
-  fits = by.can_be_made.fits trace.keys is_course.keys
+  fits = by.can_be_made.fits trace.keys is_trace.keys
 
   pub own-places : AllPairs (λ a b. a ≢ b) (map (λ x. x.draft.uri) (made_of trace))
-  own-places = apart s live trace is_course fits.once
+  own-places = apart s live trace is_trace fits.once
 
   -- What is put stands then.
   pub stand : All (λ x. behind x.draft.uri ≡ Some (final_bytes s trace x x.draft.kind))
@@ -105,7 +105,7 @@ module _ (laws : Laws) (premises : Premises) (clock : ℕ) (editions : List Edit
   -- ---- the plan
 
   pub plan : AreOfPlan plan_input by.work trace.keys
-  plan = laws.next plan_input by.work trace.keys by.can_be_made.apart by.planned is_course.keys
+  plan = laws.next plan_input by.work trace.keys by.can_be_made.apart by.planned is_trace.keys
 
   abbrev pub m : Issuance
   m = record {
@@ -123,7 +123,7 @@ module _ (laws : Laws) (premises : Premises) (clock : ℕ) (editions : List Edit
   wanted : All (λ uri. Any (λ d. d.uri ≡ uri) (puts s trace.keys)) uris
   wanted = laws.wanted plan_input by.work trace.keys by.planned
       (record { tree = by.tree; certified = by.certified }) by.owes by.can_be_made.apart
-      is_course.keys
+      is_trace.keys
 
   -- ---- the signatures
 
@@ -171,12 +171,12 @@ module _ (laws : Laws) (premises : Premises) (clock : ℕ) (editions : List Edit
 
   are-objects : All (λ x. IsObject m x.draft x.draft.kind (final_bytes s trace x x.draft.kind))
       (made_of trace)
-  are-objects = laws.new premises.vouched plan_input by.work trace before behind plan is_course
+  are-objects = laws.new premises.vouched plan_input by.work trace before behind plan is_trace
       (none-kept s trace.keys uris by.planned.withdrawn wanted)
       (all-front (λ x. behind x.draft.uri ≡ Some (final_bytes s trace x x.draft.kind))
       trace.objects trace.listed stand)
       (all-from (λ x. IsInput (final_bytes s trace x x.draft.kind)) (made_of trace)
-      (input-of s live trace is_course fits.once by.made.changes by.is_made.changes by.readable))
+      (input-of s live trace is_trace fits.once by.made.changes by.is_made.changes by.readable))
       by.is_made.spelled are-vouched
       thirds lasts
 
@@ -215,7 +215,7 @@ module _ (laws : Laws) (premises : Premises) (clock : ℕ) (editions : List Edit
   pub made-for : (d : Draft) → Contains (all_objects plan_input plan.keys) d
       → (x : Signed) × Contains (made_of trace) x × (x.draft ≡ d)
   made-for d c =
-      made-of s live trace is_course fits.once d
+      made-of s live trace is_trace fits.once d
       (subst (λ (l : List Draft). Contains l d) (sym all-drafted) c)
 
   left-of : (d : Draft) → Contains (all_objects plan_input plan.keys) d → IsLeft m d false
@@ -233,7 +233,7 @@ module _ (laws : Laws) (premises : Premises) (clock : ℕ) (editions : List Edit
       by-held None stands is = absurd cc
       by-held (Some bytes) stands is =
           subst (Any (λ d. d.uri ≡ uri)) all-drafted
-          (put-there s trace.keys uris by.planned.withdrawn wanted live trace is_course refl fits.once
+          (put-there s trace.keys uris by.planned.withdrawn wanted live trace is_trace refl fits.once
           before behind edition.changes by.table are-changes each uri bytes stands)
 
   stands-at : (uri : List ℕ) → Any (λ d. d.uri ≡ uri) (all_objects plan_input plan.keys)
@@ -302,7 +302,7 @@ module _ (laws : Laws) (premises : Premises) (clock : ℕ) (editions : List Edit
       let few = by.few in
       let many = by.is_made.count in
       subst (All IsWithin) (sym by.rows)
-      (all-within s live trace is_course by.can_be_made.numbers by.can_be_made.serials
+      (all-within s live trace is_trace by.can_be_made.numbers by.can_be_made.serials
       (omega (arith, few, many)) by.made.rows by.is_made.rows)
 
   are-counted : AreCounted edition
@@ -336,7 +336,7 @@ module _ (laws : Laws) (premises : Premises) (clock : ℕ) (editions : List Edit
       rows = by.rows
           ∙ laws.counted plan_input by.work trace plan by.made.rows by.is_made.rows by.is_made.sorted;
       set = set;
-      listed = laws.told plan_input by.work trace before edition.changes plan is_course by.table each;
+      listed = laws.told plan_input by.work trace before edition.changes plan is_trace by.table each;
     };
     changes = are-changes;
   }

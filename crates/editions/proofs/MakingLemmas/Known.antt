@@ -15,12 +15,12 @@ use Rattle.issue_drafts.specs.Certificates.{IssueInput}
 use Rattle.issue_drafts.specs.Drafts.{Draft}
 use Rattle.issue_sign.specs.Calls.{content_calls, last_calls}
 use Rattle.issue_drafts.specs.Files.{kept_files}
-use Rattle.issue_make.specs.Outcome.{IssuingTrace, AreKeys, IsIssuingTrace, all_of, made_of, puts_of, final_bytes, wanted_at, IsSpelled, is_before, row_after}
+use Rattle.issue_make.specs.Trace.{IssuingTrace, AreKeys, IsIssuingTrace, all_of, made_of, puts_of, final_bytes, wanted_at, IsSpelled, is_before, row_after}
 use Rattle.issue_plan.specs.Keys.{next_keys}
 use Rattle.issue_plan.specs.Wanted.{PlanInput}
 use Rattle.issue_plan.specs.Work.{IsWork}
 use Rattle.issue_plan.specs.Uris.{wanted_uris}
-use Rattle.issue_make.specs.Plans.{puts}
+use Rattle.issue_make.specs.ObjectPlan.{puts}
 use Rattle.editions.specs.inner.PlannedWork.{AreApart, AreNamed}
 use Rattle.editions.specs.Edition.{Edition, state_after, state_from, set_after, AreChanges}
 use Rattle.editions.specs.Table.{IsTable}

@@ -22,8 +22,8 @@ use Rattle.issue_drafts.specs.Drafts.{Draft}
 use Rattle.issue_drafts.specs.laws.UriOrder.{apart-from-rise, found-some, found-there}
 use Rattle.issue_drafts.specs.Revoking.{is_touched}
 use Rattle.issue_drafts.specs.Files.{is_kept, kept_file, kept_files, folder_at}
-use Rattle.issue_make.specs.Outcome.{IssuingTrace, IsIssuingTrace, made_of, hash_at, put_of, withdrawal_at, or_else, wanted_at}
-use Rattle.issue_make.specs.Plans.{puts}
+use Rattle.issue_make.specs.Trace.{IssuingTrace, IsIssuingTrace, made_of, hash_at, put_of, withdrawal_at, or_else, wanted_at}
+use Rattle.issue_make.specs.ObjectPlan.{puts}
 use Rattle.editions.specs.Edition.{AreChanges}
 use Rattle.editions.specs.Table.{IsTable}
 use Rattle.items.specs.laws.ElementLaws.{into-map, into-filter, filter-none}
@@ -103,7 +103,7 @@ module _ (s : IssueInput) (keys : Keys) (uris : List (List ℕ))
       (is-touched row c)))
 
   -- And what stands then was put.
-  module _ (live : List KeyRow) (trace : IssuingTrace) (is_course : IsIssuingTrace s live trace)
+  module _ (live : List KeyRow) (trace : IssuingTrace) (is_trace : IsIssuingTrace s live trace)
       (same : trace.keys ≡ keys)
       (once : AllPairs (λ a b. a ≢ b)
       (map (λ d. d.uri) (puts s trace.keys) ++ s.work.withdrawn))
@@ -144,7 +144,7 @@ module _ (s : IssueInput) (keys : Keys) (uris : List (List ℕ))
             → found_at uri_at (put_of s trace) (made_of trace) uri ≡ o → IsDrafted s keys uri
         by (Some c) found =
             let x = found-some uri_at (put_of s trace) (made_of trace) uri c found in
-            let d = draft-of s live trace is_course once x.0 x.1 in
+            let d = draft-of s live trace is_trace once x.0 x.1 in
             subst (λ (k : Keys). IsDrafted s k uri) same (d.0, x.0.draft, d.1, d.2, x.2)
         by None found =
             let at : withdrawal_at s uri ≡ difference uri (before uri) (Some bytes) =

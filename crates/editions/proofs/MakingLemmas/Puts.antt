@@ -13,8 +13,8 @@ use Rattle.issue_drafts.specs.Certificates.{IssueInput}
 use Rattle.issue_drafts.specs.laws.UriOrder.{apart-permuted, found-some, found-there}
 use Rattle.issue_drafts.specs.Drafts.{Draft, drafts, manifests}
 use Rattle.issue_sign.specs.Objects.{Signed}
-use Rattle.issue_make.specs.Outcome.{IssuingTrace, IsIssuingTrace, made_of, final_bytes, put_of, withdrawal_at, or_else, wanted_at}
-use Rattle.issue_make.specs.Plans.{puts}
+use Rattle.issue_make.specs.Trace.{IssuingTrace, IsIssuingTrace, made_of, final_bytes, put_of, withdrawal_at, or_else, wanted_at}
+use Rattle.issue_make.specs.ObjectPlan.{puts}
 use Rattle.editions.specs.PlannedAndMade.{CanBeRead}
 use Rattle.items.specs.laws.ElementLaws.{into-map, from-map, map-map, pairs-front}
 
@@ -24,7 +24,7 @@ draft_at x = x.draft
 abbrev pub uri_at : Signed → List ℕ
 uri_at x = x.draft.uri
 
-module _ (s : IssueInput) (live : List KeyRow) (trace : IssuingTrace) (is_course : IsIssuingTrace s live trace)
+module _ (s : IssueInput) (live : List KeyRow) (trace : IssuingTrace) (is_trace : IsIssuingTrace s live trace)
     (once : AllPairs (λ a b. a ≢ b)
     (map (λ d. d.uri) (puts s trace.keys) ++ s.work.withdrawn)) where
   -- Each draft is made, in another order.
@@ -35,9 +35,9 @@ module _ (s : IssueInput) (live : List KeyRow) (trace : IssuingTrace) (is_course
       let first : IsPermutation (drafts s trace.keys ++ manifests s trace.keys)
       (made ++ manifests s trace.keys) =
       IsPermutation-append_left (manifests s trace.keys) (drafts s trace.keys) made
-      is_course.objects.permutation in
+      is_trace.objects.permutation in
       let second : IsPermutation (made ++ manifests s trace.keys) (made ++ listed) =
-      IsPermutation-append_right made (manifests s trace.keys) listed is_course.listed.permutation in
+      IsPermutation-append_right made (manifests s trace.keys) listed is_trace.listed.permutation in
       subst (IsPermutation (puts s trace.keys))
       (sym (map-append draft_at trace.objects trace.listed))
       (IsPermutation-trans (puts s trace.keys) (made ++ manifests s trace.keys) (made ++ listed)

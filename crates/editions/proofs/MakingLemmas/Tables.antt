@@ -28,7 +28,7 @@ use Rattle.issue_drafts.specs.Drafts.{Draft, Kind, drafts, serial_at, serial_beh
 use Rattle.issue_drafts.specs.Drafts.Kind.{Certificate, Roa, Crl, Manifest}
 use Rattle.issue_drafts.specs.laws.UriOrder.{apart-from-rise, found-some, found-there}
 use Rattle.issue_sign.specs.Objects.{Signed}
-use Rattle.issue_make.specs.Outcome.{IssuingTrace, all_of, made_of, final_bytes, IsIssued, Says, serial_of, life_of}
+use Rattle.issue_make.specs.Trace.{IssuingTrace, all_of, made_of, final_bytes, IsIssued, Says, serial_of, life_of}
 use Rattle.issue_plan.specs.Wanted.{PlanInput}
 use Rattle.editions.specs.Edition.{Edition, AreChanges}
 use Rattle.editions.specs.Table.{IsTold, IsRowOf, IsTable}

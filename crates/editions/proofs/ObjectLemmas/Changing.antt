@@ -20,7 +20,7 @@ use Rattle.issue_drafts.specs.Certificates.{IssueInput}
 use Rattle.issue_drafts.specs.laws.UriOrder.{found-some, found-none, found-there, apart-from-rise}
 use Rattle.pub_set.specs.laws.UriLaws.{same_is as same-is}
 use Rattle.issue_sign.specs.Objects.{Signed}
-use Rattle.issue_make.specs.Outcome.{IssuingTrace, made_of, final_bytes, hash_at, put_of, withdrawal_at, or_else, wanted_at}
+use Rattle.issue_make.specs.Trace.{IssuingTrace, made_of, final_bytes, hash_at, put_of, withdrawal_at, or_else, wanted_at}
 use Rattle.editions.specs.Edition.{AreChanges}
 use Rattle.editions.specs.Table.{IsTable}
 use Rattle.editions.proofs.StateLemmas.Carried.{left_at}

@@ -27,7 +27,7 @@ use Rattle.issue_drafts.specs.laws.UriOrder.{same-decides}
 use Rattle.issue_sign.specs.Objects.{Signed}
 use Rattle.issue_drafts.specs.Revoking.{revoked_row, is_listed, is_superseded, is_touched}
 use Rattle.issue_drafts.specs.Revoking as lists
-use Rattle.issue_make.specs.Outcome.{IssuingTrace, IsIssuingTrace, all_of, puts_of, made_of, hash_at, put_of, withdrawal_at, or_else, wanted_at}
+use Rattle.issue_make.specs.Trace.{IssuingTrace, IsIssuingTrace, all_of, puts_of, made_of, hash_at, put_of, withdrawal_at, or_else, wanted_at}
 use Rattle.issue_drafts.specs.Firsts.{AreFirsts}
 use Rattle.editions.specs.Table.{IsTable}
 use Rattle.editions.specs.inner.ByRows.{is_ended, with_ended, candidates, AreListed}

@@ -15,7 +15,7 @@ use Rattle.pub_set.specs.Changes.{Contents}
 use Rattle.signer_ring.specs.Calls.{Call}
 use Rattle.cms_obj.specs.declared.values.ObjectKind.TheVariants as ObjectKinds
 use Rattle.rp_rules.specs.Certificates.{Vouched}
-use Rattle.issue_values.specs.Publishing.{Publishing}
+use Rattle.issue_values.specs.Publishers.{Publishing}
 use Rattle.issue_values.specs.Certificates as values
 use Rattle.issue_values.specs.Bodies.{manifest_value_of}
 use Rattle.issue_plan.specs.Wanted.{PlanInput}
@@ -27,7 +27,7 @@ use Rattle.issue_sign.specs.Objects.{Signed, manifest_certificate, manifest_cont
 use Rattle.issue_sign.specs.Calls.{content_calls, last_calls, by_once, by_issuer}
 use Rattle.cert_obj.specs.Formats as certificates
 use Rattle.issue_drafts.specs.Files.{AreMerged, kept_files, made_files, made_file, folder_at, is_made_under, name_in}
-use Rattle.issue_make.specs.Outcome.{IssuingTrace, IsIssuingTrace, all_of, made_of, hashed, puts_of, final_bytes, IsSpelled}
+use Rattle.issue_make.specs.Trace.{IssuingTrace, IsIssuingTrace, all_of, made_of, hashed, puts_of, final_bytes, IsSpelled}
 use Rattle.editions.specs.Wanted.{there, whole, new_objects}
 use Rattle.editions.specs.Objects.{Issuance, IsObject, AreFiles, file_of}
 use Rattle.editions.specs.inner.PlanAndTable.{made_from, AreOfPlan}
@@ -134,7 +134,7 @@ files-of p f g h own (x ∷ xs) each =
 
 module _ (vouched : Vouched) (plan_input : PlanInput) (work : Work) (trace : IssuingTrace)
     (old new : Contents) (plan : AreOfPlan plan_input work trace.keys)
-    (is_course : IsIssuingTrace (made_from plan_input work) plan_input.basis.rows trace)
+    (is_trace : IsIssuingTrace (made_from plan_input work) plan_input.basis.rows trace)
     (none : (key : KeyRow) → kept_files (made_from plan_input work)
     (puts_of (made_from plan_input work) trace) key ≡ [])
     (stand : All (λ x. new x.draft.uri
@@ -158,7 +158,7 @@ module _ (vouched : Vouched) (plan_input : PlanInput) (work : Work) (trace : Iss
       draft-kind set trace.keys x.draft
       (Contains-permutation (map (λ (y : Signed). y.draft) trace.objects) every x.draft
       (IsPermutation-sym every (map (λ (y : Signed). y.draft) trace.objects)
-      is_course.objects.permutation)
+      is_trace.objects.permutation)
       (into-map (λ (y : Signed). y.draft) trace.objects x c))
 
   listed-kind : (x : Signed) → Contains trace.listed x → is_manifest x.draft.kind ≡ true
@@ -167,7 +167,7 @@ module _ (vouched : Vouched) (plan_input : PlanInput) (work : Work) (trace : Iss
       (Contains-permutation (map (λ (y : Signed). y.draft) trace.listed)
       (manifests set trace.keys) x.draft
       (IsPermutation-sym (manifests set trace.keys) (map (λ (y : Signed). y.draft) trace.listed)
-      is_course.listed.permutation)
+      is_trace.listed.permutation)
       (into-map (λ (y : Signed). y.draft) trace.listed x c))
 
   -- ---- the files of a key
@@ -203,7 +203,7 @@ module _ (vouched : Vouched) (plan_input : PlanInput) (work : Work) (trace : Iss
       let moved : IsPermutation (filter_map f every)
       (filter_map f (map (λ (x : Signed). x.draft) trace.objects)) =
       files-moved f every (map (λ (x : Signed). x.draft) trace.objects)
-      is_course.objects.permutation in
+      is_trace.objects.permutation in
       let whole : IsPermutation (made_files set key (map (hashed set trace) trace.objects)) files =
       subst (λ (l : List File). IsPermutation
       (l ++ made_files set key (map (hashed set trace) trace.objects)) files) (none key)
@@ -267,7 +267,7 @@ module _ (vouched : Vouched) (plan_input : PlanInput) (work : Work) (trace : Iss
             (All-contains (λ (y : Signed). AreMerged
             (kept_files set (puts_of set trace) y.draft.issuer)
             (made_files set y.draft.issuer (map (hashed set trace) trace.objects))
-            (trace.files y.draft.issuer)) trace.listed x is_course.files c);
+            (trace.files y.draft.issuer)) trace.listed x is_trace.files c);
         signed = record {
           body = ap (λ (n : ℕ). manifest_value_of n (number_of key) (trace.files key)) plan.moment;
           certificate = record {

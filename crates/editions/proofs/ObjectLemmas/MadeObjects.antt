@@ -14,7 +14,7 @@ use Rattle.pub_set.specs.Changes.{Contents}
 use Rattle.signer_ring.specs.Calls.{Call}
 use Rattle.rp_rules.specs.Certificates.{Vouched}
 use Rattle.entitle.specs.Certified.{names_of}
-use Rattle.issue_values.specs.Publishing.{Publishing}
+use Rattle.issue_values.specs.Publishers.{Publishing}
 use Rattle.issue_values.specs.Certificates as values
 use Rattle.issue_values.specs.Bodies.{roa_of, crl_value_of}
 use Rattle.issue_plan.specs.Wanted.{PlanInput}
@@ -24,7 +24,7 @@ use Rattle.issue_drafts.specs.Drafts.{Draft, Kind, serial_at}
 use Rattle.issue_drafts.specs.Drafts.Kind.{Certificate, Roa, Crl, Manifest}
 use Rattle.issue_sign.specs.Objects.{Signed, bytes_by, certificate, roa_certificate, crl_of, number_of}
 use Rattle.issue_sign.specs.Calls.{first_call, second_call}
-use Rattle.issue_make.specs.Outcome.{IssuingTrace, all_of, final_bytes, IsSpelled}
+use Rattle.issue_make.specs.Trace.{IssuingTrace, all_of, final_bytes, IsSpelled}
 use Rattle.editions.specs.Wanted.{there, whole, new_objects}
 use Rattle.editions.specs.Objects.{Issuance, moment_of, IsObject}
 use Rattle.editions.specs.inner.PlanAndTable.{made_from, AreOfPlan}

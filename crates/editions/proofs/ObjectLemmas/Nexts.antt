@@ -13,7 +13,7 @@ use Rattle.key_roll.specs.declared.work.KeyName.{KeyName}
 use Rattle.key_roll.specs.declared.work.KeyName.TheVariants.{Live, Fresh}
 use Rattle.key_roll.specs.Stages.{is_begun, is_activated}
 use Rattle.issue_keys.specs.Keys.{id_of}
-use Rattle.issue_make.specs.Outcome.{rank}
+use Rattle.issue_make.specs.Trace.{rank}
 use Rattle.issue_plan.specs.declared.keys.NextKey.{NextKey}
 use Rattle.issue_plan.specs.declared.keys.Asked.{Asked}
 use Rattle.issue_plan.specs.Keys.{Basis, row_of, kept, turned, made, keys_after, holds_nothing, asked_at, keys_of, keys_at, keys_of_first, next_keys}

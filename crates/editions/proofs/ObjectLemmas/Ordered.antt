@@ -11,7 +11,7 @@ use Rattle.key_roll.specs.declared.rows.KeyRow.{KeyRow}
 use Rattle.key_roll.specs.declared.rows.Role.{Role}
 use Rattle.issue_keys.specs.Keys.{id_of}
 use Rattle.issue_drafts.specs.laws.UriOrder.{apart-permuted}
-use Rattle.issue_make.specs.Outcome.{rank, is_before}
+use Rattle.issue_make.specs.Trace.{rank, is_before}
 use Rattle.editions.specs.inner.PlanAndTable.{KeepsUri}
 use Rattle.items.specs.laws.ElementLaws.{none, here, there, first-or-rest, from-map, into-map}
 use Rattle.items.specs.laws.PairLaws.{Twos, each-at, twos-map, twos-from, twos-cases, twos-pairs}

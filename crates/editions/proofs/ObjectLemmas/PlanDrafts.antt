@@ -13,7 +13,7 @@ use Rattle.key_roll.specs.declared.work.Work.{Work}
 use Rattle.key_roll.specs.declared.work.CertWork.{CertWork}
 use Rattle.key_roll.specs.declared.work.PointWork.{PointWork}
 use Rattle.key_roll.specs.declared.work.KeyName.{KeyName}
-use Rattle.issue_values.specs.Publishing.{roa_uri}
+use Rattle.issue_values.specs.Publishers.{roa_uri}
 use Rattle.issue_plan.specs.declared.keys.NextKey.{NextKey}
 use Rattle.issue_plan.specs.Keys.{kept}
 use Rattle.key_roll.specs.Roles.{is_role}

@@ -16,7 +16,7 @@ use Rattle.issue_keys.specs.Indexes.{has_id}
 use Rattle.issue_drafts.specs.Finding.{Keys, key_of, all_keys, key_named}
 use Rattle.issue_drafts.specs.Certificates.{names_key}
 use Rattle.issue_drafts.specs.Revoking.{has_point}
-use Rattle.issue_make.specs.Outcome.{AreKeys, rank}
+use Rattle.issue_make.specs.Trace.{AreKeys, rank}
 use Rattle.editions.specs.Wanted.{there}
 use Rattle.editions.specs.inner.PlanAndTable.{made_from, AreOfPlan}
 use Rattle.items.specs.laws.PairLaws.{Each, Sides, Twos, each-at, each-from, each-sides, twos-sides}

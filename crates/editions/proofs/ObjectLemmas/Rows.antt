@@ -10,7 +10,7 @@ use Rattle.issue_drafts.specs.Finding.{all_keys}
 use Rattle.issue_drafts.specs.Certificates.{IssueInput}
 use Rattle.issue_drafts.specs.Drafts.{Draft, serial_behind}
 use Rattle.issue_drafts.specs.Revoking.{has_point}
-use Rattle.issue_make.specs.Outcome.{IssuingTrace, all_of, row_after, is_before}
+use Rattle.issue_make.specs.Trace.{IssuingTrace, all_of, row_after, is_before}
 use Rattle.editions.specs.Wanted.{new_objects}
 use Rattle.editions.specs.Step.{counted}
 use Rattle.editions.specs.inner.PlanAndTable.{made_from, KeepsUri, AreOfPlan}

@@ -15,7 +15,7 @@ use Rattle.key_roll.specs.declared.work.KeyName.{KeyName}
 use Rattle.key_roll.specs.declared.work.KeyName.TheVariants.{Live, Fresh}
 use Rattle.key_ids.specs.Uris.{crl_uri, manifest_uri}
 use Rattle.entitle.specs.Certified.{names_of}
-use Rattle.issue_values.specs.Publishing.{roa_uri}
+use Rattle.issue_values.specs.Publishers.{roa_uri}
 use Rattle.issue_plan.specs.Keys.{kept}
 use Rattle.issue_plan.specs.Wanted.{PlanInput, point_of}
 use Rattle.issue_keys.specs.Keys.{id_of}

@@ -40,16 +40,16 @@ use Rattle.issue_drafts.specs.laws.UriOrder.{same-decides, apart-permuted, apart
 use Rattle.pub_set.specs.laws.UriLaws.{same_is as same-is, uri_total}
 use Rattle.issue_drafts.specs.Revoking.{has_point, is_listed, is_superseded, is_touched, revoked_row, candidates}
 use Rattle.issue_sign.specs.Objects.{Signed}
-use Rattle.issue_make.specs.Outcome.{IssuingTrace, AreKeys, IsIssuingTrace, all_of, puts_of, made_of, put_of, hash_at, withdrawal_at, or_else, wanted_at, IsIssued, row_after, is_before}
+use Rattle.issue_make.specs.Trace.{IssuingTrace, AreKeys, IsIssuingTrace, all_of, puts_of, made_of, put_of, hash_at, withdrawal_at, or_else, wanted_at, IsIssued, row_after, is_before}
 use Rattle.editions.specs.inner.PlanAndTable.{made_from, KeepsUri, AreOfPlan}
 use Rattle.issue_plan.specs.declared.keys.NextKey.{NextKey}
 use Rattle.issue_plan.specs.Keys.{next_keys}
 use Rattle.issue_plan.specs.Wanted.{PlanInput}
-use Rattle.issue_make.specs.Plans.{puts}
+use Rattle.issue_make.specs.ObjectPlan.{puts}
 use Rattle.editions.specs.Standing.{row_at, IsTableAfter}
 use Rattle.editions.specs.Standing as table
 use Rattle.editions.specs.PublishedState.{AreLive}
-use Rattle.issue_values.specs.Ends.{last_byte}
+use Rattle.issue_values.specs.UriEndings.{last_byte}
 use Rattle.issue_drafts.specs.Firsts.{AreFirsts}
 use Rattle.editions.specs.Clear.{IsElsewhere, IsClear}
 use Rattle.items.specs.laws.AmongLaws.{In, in-all, all-in, in-parts, in-map, map-in, filter-in, in-permuted, any-in, in-any, contains-in, in-contains}
@@ -184,7 +184,7 @@ module _ (s : IssueInput) (trace : IssuingTrace) where
           (in-all (λ (n : NewKey). n.signer < signers) w.0 s.work.new_keys asked new)
 
 module _ (plan_input : PlanInput) (work : Work) (trace : IssuingTrace) (plan : AreOfPlan plan_input work trace.keys)
-    (known : AreKnown plan_input plan.keys) (is_course : IsIssuingTrace (made_from plan_input work) plan_input.basis.rows trace) where
+    (known : AreKnown plan_input plan.keys) (is_trace : IsIssuingTrace (made_from plan_input work) plan_input.basis.rows trace) where
   abbrev s : IssueInput
   s = made_from plan_input work
 
@@ -214,7 +214,7 @@ module _ (plan_input : PlanInput) (work : Work) (trace : IssuingTrace) (plan : A
 
   firsts : (k : KeyRow) → In k ks → HasFirsts k
   firsts k here =
-      in-all HasFirsts k (all_keys trace.keys) is_course.entries
+      in-all HasFirsts k (all_keys trace.keys) is_trace.entries
       (contains-in k (all_keys trace.keys) ((plan.same k).0 (in-contains k ks here)))
 
   -- ---- entries
@@ -280,7 +280,7 @@ module _ (plan_input : PlanInput) (work : Work) (trace : IssuingTrace) (plan : A
     moved =
         subst (IsPermutation (puts s trace.keys)) (sym (map-append draft_of trace.objects trace.listed))
         (IsPermutation-append (drafts s trace.keys) (map draft_of trace.objects) (manifests s trace.keys)
-        (map draft_of trace.listed) is_course.objects.permutation is_course.listed.permutation)
+        (map draft_of trace.listed) is_trace.objects.permutation is_trace.listed.permutation)
 
     abbrev uri_of : Draft → List ℕ
     uri_of d = d.uri

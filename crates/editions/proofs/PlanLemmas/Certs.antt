@@ -12,7 +12,7 @@ use Rattle.key_ids.specs.declared.identifier.KeyId.{KeyId}
 use Rattle.key_ids.specs.Uris.{crl_uri, manifest_uri}
 use Rattle.authority_book.specs.declared.rows.NameRow.{NameRow}
 use Rattle.entitle.specs.Certified.{names_of}
-use Rattle.issue_values.specs.Publishing.{roa_uri}
+use Rattle.issue_values.specs.Publishers.{roa_uri}
 use Rattle.key_roll.specs.declared.rows.KeyRow.{KeyRow}
 use Rattle.key_roll.specs.declared.rows.Role.TheVariants.{New, Current, Old}
 use Rattle.key_roll.specs.Stages.{is_begun, is_activated}
@@ -28,7 +28,7 @@ use Rattle.issue_drafts.specs.Finding.{Keys, all_keys, key_named, key_of}
 use Rattle.issue_drafts.specs.Certificates.{IssueInput, names_key, issuer_for, made_uri, name_at}
 use Rattle.issue_drafts.specs.Drafts.{Draft, certificate_draft, roa_draft, crl_draft, manifest_draft, manifests}
 use Rattle.issue_drafts.specs.Drafts.Kind.{Certificate, Roa, Crl, Manifest}
-use Rattle.issue_make.specs.Outcome.{AreKeys}
+use Rattle.issue_make.specs.Trace.{AreKeys}
 use Rattle.issue_plan.specs.declared.keys.NextKey.{NextKey}
 use Rattle.issue_plan.specs.Keys as plan
 use Rattle.issue_plan.specs.Keys.{next_keys, row_of, kept, turned, made, keys_after, asked_at, keys_of, keys_at, keys_of_first}
@@ -36,8 +36,8 @@ use Rattle.key_roll.specs.Roles.{is_role}
 use Rattle.issue_plan.specs.Wanted as wanted
 use Rattle.issue_plan.specs.Wanted.{PlanInput, fits, current_of, current_at, parents_desk, issuer_of, certificate, certificate_of, wanted_certificates}
 use Rattle.issue_plan.specs.Work.{IsWork}
-use Rattle.issue_make.specs.Plans.{puts}
-use Rattle.issue_make.specs.Work.{IsThere, IsCertified}
+use Rattle.issue_make.specs.ObjectPlan.{puts}
+use Rattle.issue_make.specs.CanMake.{IsThere, IsCertified}
 use Rattle.editions.specs.inner.PlannedWork.{AreApart, AreNamed}
 use Rattle.items.specs.laws.AmongLaws.{In, in-map, in-front, in-behind, in-parts, in-all, map-in, filter-in, in-filter, in-filter-map, all-given, found-in, any-in, found-some}
 use Rattle.editions.proofs.PlanLemmas.NextKeys.{IsDesk, IsOf, row-fits, key-desk}

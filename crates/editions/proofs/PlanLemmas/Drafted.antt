@@ -13,7 +13,7 @@ use Rattle.authority_book.specs.Settings.{Settings}
 use Rattle.entitle.specs.declared.trees.Owed.{Owed}
 use Rattle.entitle.specs.Certified.{names_of}
 use Rattle.entitle.specs.Owed.{AreOwed}
-use Rattle.issue_values.specs.Publishing.{roa_uri}
+use Rattle.issue_values.specs.Publishers.{roa_uri}
 use Rattle.key_roll.specs.declared.rows.KeyRow.{KeyRow}
 use Rattle.key_roll.specs.declared.rows.Role.{Role}
 use Rattle.key_roll.specs.declared.rows.Role.TheVariants.{Current}

@@ -10,7 +10,7 @@ use Rattle.issue_values.specs.Bodies.{AreRevoked}
 use Rattle.issue_drafts.specs.Finding.{Keys}
 use Rattle.issue_drafts.specs.Certificates.{IssueInput}
 use Rattle.issue_make.specs.declared.outcome.Made.{Made}
-use Rattle.issue_make.specs.Outcome.{AreKeys, IsIssuingTrace}
+use Rattle.issue_make.specs.Trace.{AreKeys, IsIssuingTrace}
 use Rattle.issue_plan.specs.Keys.{Basis}
 use Rattle.issue_plan.specs.Wanted.{PlanInput}
 use Rattle.issue_plan.specs.Work.{IsPlan}
@@ -33,7 +33,7 @@ keys-signers at site signers basis work old new made published_state follow is_p
     let s : IssueInput = setting_over basis at.issued site work in
     let of = are-of-desks (record { basis = basis; owed = is_plan.0; issued = at.issued; site = site }) s signers is_plan.2
     (subst AreApart (sym follow.rows) published_state.live.apart) (record { same = refl; there = follow.name_signers }) in
-    have-signers s making.trace at.rows made.rows signers making.is_course.keys follow.live_signers of.new_signers making.rows
+    have-signers s making.trace at.rows made.rows signers making.is_trace.keys follow.live_signers of.new_signers making.rows
 
 module _ (planned : ArePlanned) (at : PublishedStateValue) (site : Bases) (signers : ℕ) (basis : Basis) (work : Work)
     (old new : List SignerState) (made : Made) (published_state : IsConsistentState at) (follow : CanFollow at site signers basis)
@@ -45,10 +45,10 @@ module _ (planned : ArePlanned) (at : PublishedStateValue) (site : Bases) (signe
   s = setting_over basis at.issued site work
 
   pub are : AreKeys s basis.rows making.trace.keys
-  are = subst (λ (rows : List KeyRow). AreKeys s rows making.trace.keys) (sym follow.rows) making.is_course.keys
+  are = subst (λ (rows : List KeyRow). AreKeys s rows making.trace.keys) (sym follow.rows) making.is_trace.keys
 
   pub is-trace : IsIssuingTrace s basis.rows making.trace
-  is-trace = subst (λ (rows : List KeyRow). IsIssuingTrace s rows making.trace) (sym follow.rows) making.is_course
+  is-trace = subst (λ (rows : List KeyRow). IsIssuingTrace s rows making.trace) (sym follow.rows) making.is_trace
 
   pub keys-live : AreLive basis.moment made.rows
   keys-live =

@@ -19,7 +19,7 @@ use Rattle.issue_keys.specs.Keys.{id_of}
 use Rattle.issue_drafts.specs.Drafts.{Draft}
 use Rattle.issue_plan.specs.Keys.{next_keys}
 use Rattle.issue_plan.specs.Wanted.{PlanInput}
-use Rattle.issue_values.specs.Ends.{last_byte}
+use Rattle.issue_values.specs.UriEndings.{last_byte}
 use Rattle.items.specs.laws.AmongLaws.{In, in-parts, filter-map-in}
 use Rattle.editions.proofs.PlanLemmas.Pairs.{Twos, twos-from, twos-right, twos-given, twos-append}
 use Rattle.editions.proofs.PlanLemmas.Places.{placed}

@@ -21,7 +21,7 @@ use Rattle.issue_drafts.specs.Certificates.{IssueInput}
 use Rattle.issue_drafts.specs.Drafts.{Draft, drafts, manifests}
 use Rattle.issue_drafts.specs.Revoking.{is_touched}
 use Rattle.issue_drafts.specs.Files.{is_kept, folder_at, IsListable}
-use Rattle.issue_make.specs.Outcome.{AreKeys}
+use Rattle.issue_make.specs.Trace.{AreKeys}
 use Rattle.editions.specs.Wanted.{there, whole}
 use Rattle.editions.specs.inner.PlanAndTable.{made_from, AreOfPlan}
 use Rattle.issue_plan.specs.declared.keys.NextKey.{NextKey}
@@ -30,8 +30,8 @@ use Rattle.issue_plan.specs.Wanted.{PlanInput}
 use Rattle.issue_plan.specs.Uris.{wanted_uris, is_among, withdrawn}
 use Rattle.issue_plan.specs.Work.{IsPlan}
 use Rattle.issue_plan.specs.Work as plan
-use Rattle.issue_make.specs.Plans.{puts}
-use Rattle.issue_make.specs.Work.{AreListable, Fits, CanMake}
+use Rattle.issue_make.specs.ObjectPlan.{puts}
+use Rattle.issue_make.specs.CanMake.{AreListable, Fits, CanMake}
 use Rattle.editions.specs.PublishedState.{PublishedStateValue, desks, AreTakenIn, IsConsistentState}
 use Rattle.editions.specs.Names.{AreTree}
 use Rattle.editions.specs.inner.PlannedWork.{AreApart, AreNamed}

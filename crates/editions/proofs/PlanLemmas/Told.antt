@@ -4,8 +4,8 @@ use Rattle.der.specs.Grammar.{AreBytes}
 use Rattle.names.specs.Name.{IsName}
 use Rattle.origins.specs.declared.Origin.{Origin}
 use Rattle.key_ids.specs.Uris.{Bases, anchor_uri, file_uri, cert_uri, crl_uri, manifest_uri}
-use Rattle.issue_values.specs.Publishing.{roa_uri}
-use Rattle.issue_values.specs.Ends.{last_byte}
+use Rattle.issue_values.specs.Publishers.{roa_uri}
+use Rattle.issue_values.specs.UriEndings.{last_byte}
 
 -- The URIs of two objects of one kind tell these apart.
 pub record AreTold : Type 0 where

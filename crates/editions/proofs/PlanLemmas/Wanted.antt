@@ -9,7 +9,7 @@ use Rattle.authority_book.specs.declared.rows.NameRow.{NameRow}
 use Rattle.authority_book.specs.Settings.{Settings}
 use Rattle.entitle.specs.declared.trees.Owed.{Owed}
 use Rattle.entitle.specs.Certified.{names_of}
-use Rattle.issue_values.specs.Publishing.{roa_uri}
+use Rattle.issue_values.specs.Publishers.{roa_uri}
 use Rattle.key_roll.specs.declared.rows.KeyRow.{KeyRow}
 use Rattle.key_roll.specs.declared.work.KeyName.{KeyName}
 use Rattle.key_roll.specs.declared.work.KeyName.TheVariants.{Live, Fresh}

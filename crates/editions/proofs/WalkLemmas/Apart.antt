@@ -17,12 +17,12 @@ use Rattle.key_roll.specs.declared.rows.KeyRow.{KeyRow}
 use Rattle.key_roll.specs.declared.rows.Role.TheVariants.{Current}
 use Rattle.cert_obj.specs.laws.IdentifierLaws.{sha1-bytes}
 use Rattle.cert_obj.specs.Values.{SignedCert}
-use Rattle.issue_values.specs.Ends.{last_byte}
+use Rattle.issue_values.specs.UriEndings.{last_byte}
 use Rattle.rp_rules.specs.Certificates.{File, is_revoked}
 use Rattle.rp_rules.specs.Authorities.{is_folder}
 use Rattle.rp_rules.specs.Yield.{Yielded}
 use Rattle.origins.specs.laws.Same.{same_prefix, same_origin}
-use Rattle.issue_values.specs.Publishing.{roa_uri}
+use Rattle.issue_values.specs.Publishers.{roa_uri}
 use Rattle.issue_values.specs.Bodies.{crl_entry}
 use Rattle.issue_plan.specs.Keys.{next_keys, row_of}
 use Rattle.issue_plan.specs.Uris.{roa_file}

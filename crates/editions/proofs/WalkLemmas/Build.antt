@@ -14,7 +14,7 @@ use Rattle.key_roll.specs.declared.rows.KeyRow.{KeyRow}
 use Rattle.cert_obj.specs.Values.{CertValue, SignedCert, sets_of}
 use Rattle.crl_obj.specs.Values.{CrlValue}
 use Rattle.crl_obj.specs.declared.values.CrlEntry.{CrlEntry}
-use Rattle.issue_values.specs.Ends.{last_byte}
+use Rattle.issue_values.specs.UriEndings.{last_byte}
 use Rattle.rp_rules.specs.Objects.{SignedRoa}
 use Rattle.rp_rules.specs.Authorities.{Authority, listed_uri, crl_uri_of, manifest_place, is_folder}
 use Rattle.rp_rules.specs.Certificates as walk
@@ -23,7 +23,7 @@ use Rattle.rp_rules.specs.Points.{Point, is_crl_file, other_files, accepted_poin
 use Rattle.rp_rules.specs.Walk.{Route}
 use Rattle.rp_rules.specs.Yield.{Yielded, yielded_by}
 use Rattle.payloads.specs.ManifestFormats.{Manifest}
-use Rattle.issue_values.specs.Publishing.{roa_uri}
+use Rattle.issue_values.specs.Publishers.{roa_uri}
 use Rattle.issue_values.specs.Certificates.{anchor_certificate, authority_certificate, prefix_sets}
 use Rattle.issue_values.specs.Bodies.{crl_entry}
 use Rattle.issue_plan.specs.Keys.{next_keys}

@@ -33,7 +33,7 @@ use Rattle.editions.proofs.WalkLemmas.Levels.{no-anchor, the-anchor, one-level}
 use Rattle.editions.proofs.PlanLemmas.Places.{placed}
 use Rattle.editions.proofs.WalkLemmas.Members.{Member, members, members-twos, member-of, filter-one}
 use Rattle.editions.proofs.WalkLemmas.NextKeys.{row-parts}
-use Rattle.issue_values.specs.Publishing.{Publishing}
+use Rattle.issue_values.specs.Publishers.{Publishing}
 use Rattle.editions.proofs.WalkLemmas.Point.{publishing}
 use Rattle.editions.proofs.WalkLemmas.Seats as seats
 use Rattle.editions.proofs.WalkLemmas.Files as files

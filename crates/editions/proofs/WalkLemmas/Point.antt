@@ -20,7 +20,7 @@ use Rattle.rp_rules.specs.Objects.{SignedManifest, manifest_in, crl_in}
 use Rattle.rp_rules.specs.Authorities.{Authority, key_id}
 use Rattle.rp_rules.specs.Certificates.{WalkContext, File, lies_in, is_valid_at, names_issuer, has_issuer_uris, is_among, is_revoked, is_signed_under, listed_bytes}
 use Rattle.rp_rules.specs.Points.{Point, crl_file, is_list, manifest_tests, accepted_manifest, crl_tests, accepted_crl, point_tests, accepted_point}
-use Rattle.issue_values.specs.Publishing.{Publishing}
+use Rattle.issue_values.specs.Publishers.{Publishing}
 use Rattle.issue_values.specs.Certificates.{manifest_certificate, point_life}
 use Rattle.issue_values.specs.Bodies.{crl_entry, crl_value_of, manifest_value_of}
 use Rattle.editions.proofs.WalkLemmas.Checks.{AllKept, tested-kept, found-there, handed-on}

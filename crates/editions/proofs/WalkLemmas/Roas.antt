@@ -22,7 +22,7 @@ use Rattle.rp_rules.specs.Certificates.{WalkContext, File, is_among, is_revoked,
 use Rattle.rp_rules.specs.Points.{Point, is_certificate_file, is_signed, is_identified, is_placed, roa_resources, roa_tests, accepted_roa}
 use Rattle.rp_rules.specs.Walk.{Route}
 use Rattle.rp_rules.specs.Yield.{yielded_of, yielded_by}
-use Rattle.issue_values.specs.Publishing.{roa_uri}
+use Rattle.issue_values.specs.Publishers.{roa_uri}
 use Rattle.issue_values.specs.Certificates.{certificate_life, prefix_sets, roa_certificate}
 use Rattle.issue_values.specs.Bodies.{roa_entry, roa_of}
 use Rattle.issue_plan.specs.Uris.{roa_file}

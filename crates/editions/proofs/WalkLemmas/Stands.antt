@@ -20,7 +20,7 @@ use Rattle.crl_obj.specs.declared.values.CrlEntry.{CrlEntry}
 use Rattle.rp_rules.specs.Certificates as walk
 use Rattle.rp_rules.specs.Certificates.{is_revoked}
 use Rattle.issue_values.specs.Bodies.{crl_entry}
-use Rattle.issue_values.specs.Publishing.{Publishing, roa_uri}
+use Rattle.issue_values.specs.Publishers.{Publishing, roa_uri}
 use Rattle.issue_values.specs.Certificates as values
 use Rattle.issue_values.specs.Certificates.{manifest_certificate}
 use Rattle.issue_plan.specs.Keys.{kept, next_keys, row_of}

@@ -7,7 +7,7 @@ use Rattle.entitle.specs.Certified.{names_of}
 use Rattle.issue_plan.specs.Keys.{next_keys}
 use Rattle.issue_plan.specs.Wanted.{PlanInput}
 use Rattle.issue_keys.specs.Keys.{id_of}
-use Rattle.issue_make.specs.Outcome.{is_before}
+use Rattle.issue_make.specs.Trace.{is_before}
 use Rattle.issue_drafts.specs.Finding.{Keys, all_keys}
 use Rattle.issue_drafts.specs.Certificates.{IssueInput, made_for}
 use Rattle.issue_drafts.specs.Drafts.{drafts, manifests}

@@ -7,7 +7,7 @@ use Rattle.issue_keys.specs.Keys.{id_of, kept_rows}
 use Rattle.issue_drafts.specs.Finding.{Keys}
 use Rattle.issue_drafts.specs.Certificates.{IssueInput}
 use Rattle.issue_plan.specs.Keys.{Basis}
-use Rattle.issue_make.specs.Work.{IsThere}
+use Rattle.issue_make.specs.CanMake.{IsThere}
 use Rattle.editions.specs.Names.{AreTree}
 
 -- Each key that the work names is there.

@@ -5,7 +5,7 @@ use Rattle.signer_ring.specs.Calls.Call.{Makes, Signs, Once}
 use Rattle.rp_rules.specs.Certificates.{Vouched}
 use Rattle.issue_drafts.specs.Certificates.{IssueInput}
 use Rattle.issue_sign.specs.Calls.{first_calls, second_calls}
-use Rattle.issue_make.specs.Outcome.{IssuingTrace, all_of}
+use Rattle.issue_make.specs.Trace.{IssuingTrace, all_of}
 
 -- The signature that the call gave is vouched.
 abbrev pub IsVouchedBy : Vouched → Call → Type 0

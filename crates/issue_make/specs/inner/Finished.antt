@@ -7,7 +7,7 @@ use Rattle.issue_drafts.specs.Finding.{Keys}
 use Rattle.issue_drafts.specs.Certificates.{IssueInput}
 use Rattle.issue_sign.specs.Calls.{first_calls, second_calls, content_calls, last_calls}
 use Rattle.issue_make.specs.declared.outcome.Made.{Made}
-use Rattle.issue_make.specs.Outcome.{IssuingTrace, IsIssuingTrace, all_of, made_of, IsSpelled}
+use Rattle.issue_make.specs.Trace.{IssuingTrace, IsIssuingTrace, all_of, made_of, IsSpelled}
 use Rattle.issue_make.specs.inner.Outcomes.{IsOutcome}
 
 -- The calls that sign, in their order.
@@ -23,7 +23,7 @@ pub record IsFinished
     (s : IssueInput) (live rows : List KeyRow) (keys : Keys) (old new : List SignerState)
     (made : Made) : Type 0 where
   pub trace : IssuingTrace
-  pub is_course : IsIssuingTrace s live trace
+  pub is_trace : IsIssuingTrace s live trace
   pub over : trace.keys ≡ keys
   pub signers : new ≡ after_calls old (signing_of s trace)
   pub vouched : All (IsVouched new) (signing_of s trace)

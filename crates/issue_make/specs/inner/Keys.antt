@@ -6,7 +6,7 @@ use Rattle.key_roll.specs.declared.rows.RevokedRow.{RevokedRow}
 use Rattle.issue_drafts.specs.Certificates.{IssueInput}
 use Rattle.issue_drafts.specs.Drafts.{serial_behind}
 use Rattle.issue_drafts.specs.Revoking.{has_point}
-use Rattle.issue_make.specs.Outcome.{IssuingTrace, all_of}
+use Rattle.issue_make.specs.Trace.{IssuingTrace, all_of}
 
 -- A key's row, from whether it gets a CRL and a manifest, the serial that comes next under it, and
 -- the entries of its CRL.

@@ -3,7 +3,7 @@ use Rattle.std.specs.Prelude.{◌≡◌, ℕ, true, List}
 use Rattle.origins.specs.declared.Origin.{Origin}
 use Rattle.cert_obj.specs.Values.{is_uri}
 use Rattle.key_ids.specs.Uris.{Bases, anchor_uri, cert_uri}
-use Rattle.issue_values.specs.Publishing.{roa_uri}
+use Rattle.issue_values.specs.Publishers.{roa_uri}
 
 -- Those of the trust anchor's certificate, and of the certificates and ROAs in the folder of that
 -- name.

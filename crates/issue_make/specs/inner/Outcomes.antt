@@ -15,9 +15,9 @@ use Rattle.issue_drafts.specs.Revoking.{has_point}
 use Rattle.issue_sign.specs.Objects.{bytes_of, manifest_bytes}
 use Rattle.issue_make.specs.declared.outcome.Made.{Made}
 use Rattle.issue_make.specs.declared.publishing.Published.{Published}
-use Rattle.issue_make.specs.Outcome.{IssuingTrace, all_of, made_of, wanted_at, IsIssued}
-use Rattle.issue_make.specs.Outcome.{row_after}
-use Rattle.issue_make.specs.Outcome.{is_before, signatures_of}
+use Rattle.issue_make.specs.Trace.{IssuingTrace, all_of, made_of, wanted_at, IsIssued}
+use Rattle.issue_make.specs.Trace.{row_after}
+use Rattle.issue_make.specs.Trace.{is_before, signatures_of}
 use Rattle.issue_make.specs.inner.Putting.{contents_of, hashes_of}
 use Rattle.issue_make.specs.declared.plans.ObjectPlan.{ObjectPlan}
 use Rattle.issue_make.specs.declared.objects.Objects.{Objects}

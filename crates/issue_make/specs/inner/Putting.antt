@@ -19,7 +19,7 @@ use Rattle.issue_drafts.specs.declared.draft.ManifestDraft.{ManifestDraft}
 use Rattle.issue_sign.specs.declared.object.Object.{Object}
 use Rattle.issue_sign.specs.Objects.{bytes_of, manifest_bytes}
 use Rattle.issue_make.specs.declared.publishing.Numbered.{Numbered}
-use Rattle.issue_make.specs.Outcome.{IssuingTrace, all_of, life_of}
+use Rattle.issue_make.specs.Trace.{IssuingTrace, all_of, life_of}
 
 -- ---- rows
 

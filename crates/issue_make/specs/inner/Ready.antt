@@ -6,8 +6,8 @@ use Rattle.issue_keys.specs.Making.{AreApart}
 use Rattle.issue_drafts.specs.Finding.{keys_at}
 use Rattle.issue_drafts.specs.Certificates.{IssueInput}
 use Rattle.issue_make.specs.inner.Naming.{CanName}
-use Rattle.issue_make.specs.Plans.{IsObjectPlan}
-use Rattle.issue_make.specs.Work.{CanMake}
+use Rattle.issue_make.specs.ObjectPlan.{IsObjectPlan}
+use Rattle.issue_make.specs.CanMake.{CanMake}
 use Rattle.issue_make.specs.declared.plans.ObjectPlan.{ObjectPlan}
 
 -- The rows of an edition's keys, of which those from that number on were made.

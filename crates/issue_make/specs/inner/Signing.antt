@@ -21,16 +21,16 @@ use Rattle.issue_drafts.specs.declared.draft.DraftKind.TheVariants.{Authority, R
 use Rattle.issue_drafts.specs.Files.{AreMerged, AreListable, kept_files, made_files}
 use Rattle.issue_drafts.specs.Touching.{AreTouched}
 use Rattle.issue_sign.specs.Objects.{Entries, Files}
-use Rattle.issue_sign.specs.SignInput.{SignInput}
+use Rattle.issue_sign.specs.SignInput.{SignInputValue}
 use Rattle.issue_sign.specs.Made.{AreMade, answers_of, signed, of_drafts, of_manifests}
 use Rattle.issue_make.specs.Made.{IsSigning}
-use Rattle.issue_make.specs.Plans.{puts, IsObjectPlan}
+use Rattle.issue_make.specs.ObjectPlan.{puts, IsObjectPlan}
 use Rattle.issue_make.specs.declared.plans.ObjectPlan.{ObjectPlan}
 use Rattle.issue_make.specs.declared.objects.Objects.{Objects}
 
 -- What the objects of a plan are made of.
-abbrev pub basis_of : IssueInput → Keys → List KeyRow → Entries → Files → SignInput
-basis_of s keys rows entries files = record {
+abbrev pub sign_input_of : IssueInput → Keys → List KeyRow → Entries → Files → SignInputValue
+sign_input_of s keys rows entries files = record {
   rows = rows;
   keys = keys;
   all = words.drafts s keys;
@@ -87,12 +87,12 @@ pub record AreSigned
       (made_files s m.issuer.row.now
       (zip (map draft_of plan.drafts.items) (map (λ o. o.hash) objects.drafted.items)))
       (files m.issuer.row.now)) plan.manifests.items
-  pub drafted : AreMade s (basis_of s keys rows entries files)
-      (of_drafts s (basis_of s keys rows entries files)) (map draft_of plan.drafts.items)
+  pub drafted : AreMade s (sign_input_of s keys rows entries files)
+      (of_drafts s (sign_input_of s keys rows entries files)) (map draft_of plan.drafts.items)
       old between objects.drafted.items
       (signed (map draft_of plan.drafts.items) (map answers_of objects.drafted.items))
-  pub listed : AreMade s (basis_of s keys rows entries files)
-      (of_manifests s (basis_of s keys rows entries files)) (map manifest_of plan.manifests.items)
+  pub listed : AreMade s (sign_input_of s keys rows entries files)
+      (of_manifests s (sign_input_of s keys rows entries files)) (map manifest_of plan.manifests.items)
       between new objects.listed.items
       (signed (map manifest_of plan.manifests.items) (map answers_of objects.listed.items))
 

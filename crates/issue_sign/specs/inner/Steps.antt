@@ -38,7 +38,7 @@ use Rattle.issue_sign.specs.Objects.{roa_content, crl_of, number_of, manifest_ce
 use Rattle.issue_sign.specs.Objects.{manifest_bytes}
 use Rattle.issue_sign.specs.Calls.{by_issuer, by_once, first_call, second_call, first_calls}
 use Rattle.issue_sign.specs.Calls.{content_calls}
-use Rattle.issue_sign.specs.SignInput.{SignInput}
+use Rattle.issue_sign.specs.SignInput.{SignInputValue}
 use Rattle.issue_sign.specs.Spelled.{IsSpelled}
 use Rattle.issue_sign.specs.Made.{answers_of, signed}
 
@@ -81,33 +81,33 @@ content_answers c = record {
 -- It has a spelling.
 abbrev pub IsWhole : Unsigned → Type 0
 IsWhole (unsigned.Certificate cert) = IsCert (cert_value cert)
-IsWhole (unsigned.List crl) = IsCrl (crl_value crl)
+IsWhole (unsigned.Crl crl) = IsCrl (crl_value crl)
 IsWhole (unsigned.Roa origin content) =
     IsRoa (roa_of origin) × (content.items ≡ roa_content origin)
 
 -- It is of the draft's kind.
 abbrev pub IsOfKind : DraftKind → Unsigned → Type 0
 IsOfKind (kinds.Authority subject held) (unsigned.Certificate cert) = Unit {0}
-IsOfKind (kinds.Authority subject held) (unsigned.List crl) = ⊥
+IsOfKind (kinds.Authority subject held) (unsigned.Crl crl) = ⊥
 IsOfKind (kinds.Authority subject held) (unsigned.Roa origin content) = ⊥
 IsOfKind (kinds.Route origin) (unsigned.Certificate cert) = ⊥
-IsOfKind (kinds.Route origin) (unsigned.List crl) = ⊥
+IsOfKind (kinds.Route origin) (unsigned.Crl crl) = ⊥
 IsOfKind (kinds.Route origin) (unsigned.Roa other content) = other ≡ origin
 IsOfKind kinds.Crl (unsigned.Certificate cert) = ⊥
-IsOfKind kinds.Crl (unsigned.List crl) = Unit {0}
+IsOfKind kinds.Crl (unsigned.Crl crl) = Unit {0}
 IsOfKind kinds.Crl (unsigned.Roa origin content) = ⊥
 
 -- It is what the draft says.
-abbrev pub IsValueOf : IssueInput → SignInput → Draft → Kind → Unsigned → Type 0
+abbrev pub IsValueOf : IssueInput → SignInputValue → Draft → Kind → Unsigned → Type 0
 IsValueOf s b d (Certificate subject held) (unsigned.Certificate cert) =
     cert_value cert ≡ certificate s b.keys b.all d subject held
-IsValueOf s b d (Certificate subject held) (unsigned.List crl) = ⊥
+IsValueOf s b d (Certificate subject held) (unsigned.Crl crl) = ⊥
 IsValueOf s b d (Certificate subject held) (unsigned.Roa origin content) = ⊥
 IsValueOf s b d (Roa origin) (unsigned.Certificate cert) = ⊥
-IsValueOf s b d (Roa origin) (unsigned.List crl) = ⊥
+IsValueOf s b d (Roa origin) (unsigned.Crl crl) = ⊥
 IsValueOf s b d (Roa origin) (unsigned.Roa other content) = other ≡ origin
 IsValueOf s b d Crl (unsigned.Certificate cert) = ⊥
-IsValueOf s b d Crl (unsigned.List crl) = crl_value crl ≡ crl_of s b.entries d.issuer
+IsValueOf s b d Crl (unsigned.Crl crl) = crl_value crl ≡ crl_of s b.entries d.issuer
 IsValueOf s b d Crl (unsigned.Roa origin content) = ⊥
 IsValueOf s b d Manifest u = ⊥
 
@@ -115,7 +115,7 @@ IsValueOf s b d Manifest u = ⊥
 abbrev pub call_of : ℕ → KeyRow → Unsigned → Answers → Call
 call_of moment key (unsigned.Certificate cert) a =
     by_issuer key (certificates.signed_bytes (cert_value cert)) a.last
-call_of moment key (unsigned.List crl) a =
+call_of moment key (unsigned.Crl crl) a =
     by_issuer key (crls.signed_bytes (crl_value crl)) a.last
 call_of moment key (unsigned.Roa origin content) a =
     by_once key (signed_attributes ObjectKinds.Roa content.items moment) a
@@ -135,9 +135,9 @@ abbrev pub IsHalfOf : Unsigned → Half → Type 0
 IsHalfOf (unsigned.Certificate cert) (Made object) =
     IsFramed (certificates.signed_bytes (cert_value cert)) (IsCertificate (cert_value cert)) object
 IsHalfOf (unsigned.Certificate cert) (Begun origin content) = ⊥
-IsHalfOf (unsigned.List crl) (Made object) =
+IsHalfOf (unsigned.Crl crl) (Made object) =
     IsFramed (crls.signed_bytes (crl_value crl)) (IsCrlOf (crl_value crl)) object
-IsHalfOf (unsigned.List crl) (Begun origin content) = ⊥
+IsHalfOf (unsigned.Crl crl) (Begun origin content) = ⊥
 IsHalfOf (unsigned.Roa origin content) (Made object) = ⊥
 IsHalfOf (unsigned.Roa origin content) (Begun other signed) =
     (other ≡ origin) × (signed.content ≡ content)
@@ -152,7 +152,7 @@ IsHalfOfKind kinds.Crl (Made object) = Unit {0}
 IsHalfOfKind kinds.Crl (Begun origin content) = ⊥
 
 -- What a draft is after its first signature.
-abbrev pub IsHalf : IssueInput → SignInput → Draft → Kind → Half → Type 0
+abbrev pub IsHalf : IssueInput → SignInputValue → Draft → Kind → Half → Type 0
 IsHalf s b d kind (Made o) =
     (second_call s b.keys b.all d kind (answers_of o) ≡ None)
     × IsObjectOf (bytes_by s b.keys b.all b.entries d kind (answers_of o))
@@ -170,14 +170,14 @@ Pairs R (x ∷ xs) [] = Unit {0}
 Pairs R (x ∷ xs) (y ∷ ys) = R x y × Pairs R xs ys
 
 -- A draft of that basis, with its serial.
-pub record IsDraft (b : SignInput) (d : code.Draft) (given : ℕ) : Type 0 where
+pub record IsDraft (b : SignInputValue) (d : code.Draft) (given : ℕ) : Type 0 where
   pub issuer : IsPlaced b.rows d.issuer
   pub subject : IsSubjectPlaced b.rows d.kind
   pub serial : given ≡ given_serial b.all (draft_of d)
 
 -- The signers made the first calls for these drafts, of which that came.
 pub record AreHalves
-    (s : IssueInput) (b : SignInput) (drafts : List code.Draft) (halves : List Half)
+    (s : IssueInput) (b : SignInputValue) (drafts : List code.Draft) (halves : List Half)
     (old new : List SignerState) : Type 0 where
   pub calls : AreCalled old new
       (first_calls s b.keys b.all b.entries (signed (map draft_of drafts) (map half_answers halves)))
@@ -187,7 +187,7 @@ pub record AreHalves
 
 -- The half is an object now, by the draft's second call.
 pub record IsFinished
-    (s : IssueInput) (b : SignInput) (d : Draft) (kind : Kind) (h : Half) (o : Object)
+    (s : IssueInput) (b : SignInputValue) (d : Draft) (kind : Kind) (h : Half) (o : Object)
     (old new : List SignerState) : Type 0 where
   pub same : first_call s b.keys b.all b.entries d kind (answers_of o)
       ≡ first_call s b.keys b.all b.entries d kind (half_answers h)
@@ -198,7 +198,7 @@ pub record IsFinished
 
 -- Why it didn't become one.
 abbrev pub IsFinishHalt :
-    IssueInput → SignInput → Draft → Half → List SignerState → List SignerState → MakeFault
+    IssueInput → SignInputValue → Draft → Half → List SignerState → List SignerState → MakeFault
     → Type 0
 IsFinishHalt s b d (Made object) old new fault = ⊥
 IsFinishHalt s b d (Begun origin content) old new fault =
@@ -221,7 +221,7 @@ pub record IsContent
 
 -- The signers signed the contents of these manifests.
 pub record AreContents
-    (s : IssueInput) (b : SignInput) (drafts : List manifests.ManifestDraft)
+    (s : IssueInput) (b : SignInputValue) (drafts : List manifests.ManifestDraft)
     (contents : List SignedContent) (old new : List SignerState) : Type 0 where
   pub calls : AreCalled old new
       (content_calls s b.files (signed (map manifest_of drafts) (map content_answers contents)))
@@ -229,14 +229,14 @@ pub record AreContents
       drafts contents
 
 -- The call for the certificate of a manifest.
-abbrev pub last_call : IssueInput → SignInput → Draft → List ℕ → List ℕ → Call
+abbrev pub last_call : IssueInput → SignInputValue → Draft → List ℕ → List ℕ → Call
 last_call s b d once last =
     by_issuer d.issuer
     (certificates.signed_bytes (manifest_certificate s b.keys b.all d once)) last
 
 -- The content is a manifest now, by that call.
 pub record IsManifestOf
-    (s : IssueInput) (b : SignInput) (d : Draft) (c : SignedContent) (o : Object)
+    (s : IssueInput) (b : SignInputValue) (d : Draft) (c : SignedContent) (o : Object)
     (old new : List SignerState) : Type 0 where
   pub once : o.once ≡ Some c.once
   pub call : IsCalled old new (last_call s b d c.once.key.bytes o.signature.bytes)

@@ -14,7 +14,7 @@ use Rattle.press_core.specs.Stands.{StandsFor}
 use Rattle.krill_top.specs.DeskStates.{most_desks, names_in}
 use Rattle.krill_top.specs.InstanceState.{InstanceState, TimedInstanceState, at_clock}
 use Rattle.krill_top.specs.InstanceState.{premises_of, AreTrusted}
-use Rattle.krill_top.specs.Stands.{AreIn, DesksGoOn}
+use Rattle.krill_top.specs.DesksInStates.{AreIn, DesksGoOn}
 use Rattle.krill_top.specs.Replies.{IsReply, IsText}
 
 -- The desks by their numbers, the press, what readers are shown of the last edition, and how many

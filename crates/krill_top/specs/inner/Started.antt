@@ -6,7 +6,7 @@ use Rattle.rp_rules.specs.Certificates.{Vouched}
 use Rattle.krill_top.specs.declared.starting.Started.{Started}
 use Rattle.krill_top.specs.DeskStates.{DeskStates, most_desks, names_in}
 use Rattle.krill_top.specs.InstanceState.{AreTrusted, default_bases}
-use Rattle.krill_top.specs.Stands.{AreIn}
+use Rattle.krill_top.specs.DesksInStates.{AreIn}
 use Rattle.krill_top.specs.inner.Instances.{IsInState}
 use Rattle.krill_top.specs.inner.Opened.{AreOpened}
 use Rattle.krill_top.specs.Run.{signers_needed}

@@ -17,7 +17,7 @@ use Rattle.issue_keys.specs.declared.fault.MakeFault.{MakeFault}
 use Rattle.issue_keys.specs.declared.fault.MakeFault.TheVariants as why
 use Rattle.key_roll.specs.declared.issued.IssuedRow.{IssuedRow}
 use Rattle.issue_make.specs.declared.outcome.Made.{Made}
-use Rattle.issue_make.specs.Work as making
+use Rattle.issue_make.specs.CanMake as making
 use Rattle.issue_make.specs.Made.{IsMade}
 use Rattle.editions.specs.declared.gathered.Gathered.{Gathered}
 use Rattle.editions.specs.PublishedState.{PublishedStateValue, IsConsistentState, AreLive}
@@ -29,7 +29,7 @@ use Rattle.editions.specs.Ended.{ended_keys}
 use Rattle.editions.specs.Clear.{IsClear}
 use Rattle.press_core.specs.PrepareInput.{PrepareInput, started}
 use Rattle.press_core.specs.Next.{PreparedValue}
-use Rattle.press_core.specs.Planned.{IsInRange, IsCalled, setting_for}
+use Rattle.press_core.specs.Planned.{IsInRange, IsCalled, issue_input_for}
 use Rattle.press_core.specs.declared.setup.EditionInput.{EditionInput}
 use Rattle.press_core.specs.declared.fault.PressFault.{PressFault}
 use Rattle.press_core.specs.declared.fault.PressFault.TheVariants.{SignerFault, KeyClash, Memory}
@@ -87,8 +87,8 @@ pub record IsSomehowReady (site : Bases) (at : PublishedStateValue) (ring : List
 pub record IsMadeReady (start : PrepareInput) (setup : EditionInput) (work : Work)
     (ring : List SignerState)
     (made : Made) : Type 0 where
-  pub able : making.CanMake (setting_for start work) start.at.rows (length start.ring)
-  pub is_made : IsMade (setting_for start work) start.at.rows start.ring ring made
+  pub able : making.CanMake (issue_input_for start work) start.at.rows (length start.ring)
+  pub is_made : IsMade (issue_input_for start work) start.at.rows start.ring ring made
   pub live : AreLive setup.moment made.rows
   pub signers : All (λ row. row.signer < length start.ring) made.rows
   pub names : All (λ (name : NameRow). IsName name.name) (names_of (settings_of setup.configs.items))

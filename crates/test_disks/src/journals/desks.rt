@@ -6,7 +6,7 @@ use anyhow::{Context, Result, bail};
 use desk_core::{Desk, DeskFault, DeskOpenFault, DeskRefused};
 use disk_api::MemoryDisk;
 use std::alloc::Global;
-use test_forms::step_parts;
+use test_support::step_parts;
 
 /// The number of a desk that isn't said.
 const NUMBER: u32 = 7;

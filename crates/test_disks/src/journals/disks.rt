@@ -4,7 +4,7 @@ use crate::journals::setup::Setup;
 use anyhow::{Context, Result, bail};
 use disk_api::{Disk, DiskStop, MemoryDisk};
 use std::alloc::Global;
-use test_forms::{numbers_of, step_parts};
+use test_support::{numbers_of, step_parts};
 
 /// Takes the steps over one disk, and tells their answers.
 pub fn run(alloc: Global, steps: &str) -> Result<String> {

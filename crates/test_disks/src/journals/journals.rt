@@ -7,7 +7,7 @@ use disk_api::{Disk, FileDisk, MemoryDisk};
 use gate_journal::{AppendFault, Entry, Journal, JournalFault, OpenRefused};
 use std::alloc::Global;
 use std::fs;
-use test_forms::step_parts;
+use test_support::step_parts;
 
 /// Takes the steps over one disk in memory, and tells their answers. Behind the journal's the images
 /// of the disk are opened.

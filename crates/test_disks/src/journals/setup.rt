@@ -3,7 +3,7 @@
 use anyhow::Result;
 use disk_api::MemoryDisk;
 use std::alloc::Global;
-use test_forms::numbers_of;
+use test_support::numbers_of;
 
 /// A disk in memory to be: its bytes, which calls fail, and after how many it stops.
 #[derive(Drop)]

@@ -5,7 +5,7 @@ use anyhow::{Result, bail};
 use line_loop::{Clock, ClockOver, ListClock, PlayedClock, SystemClock};
 use std::alloc::Global;
 use std::time::Duration;
-use test_forms::number_of;
+use test_support::number_of;
 
 /// How often a clock is asked.
 const ASKED: u32 = 4;

@@ -4,7 +4,7 @@ ghost use Rattle.std.specs.Prelude.{◌<◌, IfOk};
 use anyhow::{Result, bail};
 use host_calls::{CallFault, Play, Script};
 use std::alloc::Global;
-use test_forms::{number_of, numbers_of};
+use test_support::{number_of, numbers_of};
 
 /// What is left of a case's fields.
 #[derive(Drop)]

@@ -6,7 +6,7 @@ use anyhow::{Result, bail};
 use disk_api::{Disk, DiskStop, FileDisk, MemoryDisk, PlayedFile};
 use std::alloc::Global;
 use std::fs;
-use test_forms::number_of;
+use test_support::number_of;
 
 /// A file's bytes, how its calls go, and the calls of the disk: what each answers.
 pub fn played(alloc: Global, fields: &mut Fields<'_>) -> Result<String> {

@@ -3,7 +3,7 @@
 use anyhow::{Result, bail};
 use payloads::{ListedFile, ManifestBody};
 use std::alloc::Global;
-use test_forms::{bytes_of, digits_of, fixed_of, number_of};
+use test_support::{bytes_of, digits_of, fixed_of, number_of};
 
 /// The file of a name and a hash in hex, with a space between them.
 fn file_of(alloc: Global, text: &str) -> Result<ListedFile> {

@@ -3,7 +3,7 @@
 use anyhow::Result;
 use payloads::{BodyFault, ManifestBody, RoaBody};
 use std::alloc::Global;
-use test_forms::Probe;
+use test_support::Probe;
 
 /// Reads bodies of a kind.
 pub enum BodyProbe {

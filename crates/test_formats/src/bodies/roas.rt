@@ -4,7 +4,7 @@ use anyhow::{Result, bail};
 use origins::read_origin;
 use payloads::{RoaBody, RoaEntry};
 use std::alloc::Global;
-use test_forms::{bytes_of, digits_of};
+use test_support::{bytes_of, digits_of};
 
 /// The entry of an origin.
 fn entry_of(text: &str) -> Result<RoaEntry> {

@@ -3,7 +3,7 @@
 use anyhow::{Result, bail};
 use cert_obj::{CertKind, Held};
 use std::alloc::{AllocError, Global};
-use test_forms::resources_of;
+use test_support::resources_of;
 
 /// The same text in memory of its own.
 pub fn owned(alloc: Global, text: &str) -> Result<String, AllocError> {

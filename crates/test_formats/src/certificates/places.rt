@@ -2,7 +2,7 @@
 
 use anyhow::Result;
 use std::alloc::Global;
-use test_forms::{Probe, push_fault};
+use test_support::{Probe, push_fault};
 
 /// Reads certificates.
 pub struct CertProbe;

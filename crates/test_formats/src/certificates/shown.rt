@@ -3,7 +3,7 @@
 use anyhow::Result;
 use cert_obj::{CertUris, Held, ReadCert};
 use std::alloc::Global;
-use test_forms::digits_of;
+use test_support::digits_of;
 
 /// What a certificate says: its fields, the digest and the signature.
 pub fn shown(alloc: Global, read: &ReadCert) -> Result<String> {

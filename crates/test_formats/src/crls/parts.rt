@@ -3,7 +3,7 @@
 use anyhow::{Context, Result};
 use crl_obj::CrlEntry;
 use std::alloc::Global;
-use test_forms::number_of;
+use test_support::number_of;
 
 /// A serial, a colon and a time.
 fn entry_of(text: &str) -> Result<CrlEntry> {

@@ -6,7 +6,7 @@ ghost use Rattle.der.specs.Spelling.{AreBits};
 use anyhow::{Result, bail};
 use der::{Bits, Reader};
 use std::alloc::Global;
-use test_forms::{bytes_of, digits_of, number_of};
+use test_support::{bytes_of, digits_of, number_of};
 
 /// The answer to a call.
 pub fn answer(alloc: Global, call: &str, first: &str, second: &str, third: &str) -> Result<String> {

@@ -12,7 +12,7 @@ use anyhow::{Result, bail};
 use der::tags::SEQUENCE;
 use der::{FrontReader, Part, Placed, ShapeFault, WholeReader, many, number, object};
 use std::alloc::Global;
-use test_forms::bytes_of;
+use test_support::bytes_of;
 
 /// The answer to a call.
 pub fn answer(alloc: Global, call: &str, first: &str) -> Result<String> {

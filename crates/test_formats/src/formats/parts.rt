@@ -4,7 +4,7 @@ use crate::formats::objects::{refused, whole};
 use crate::formats::times::moment_of;
 use anyhow::{Result, bail};
 use std::alloc::Global;
-use test_forms::{bytes_of, digits_of};
+use test_support::{bytes_of, digits_of};
 
 /// The answer to a call.
 pub fn answer(alloc: Global, call: &str, first: &str, second: &str) -> Result<String> {

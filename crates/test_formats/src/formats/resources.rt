@@ -6,7 +6,7 @@ use anyhow::{Result, bail};
 use res_ext::{inherit_as as inherited_as, inherit_ip as inherited_ip};
 use res_sets::{Family, Ranges};
 use std::alloc::Global;
-use test_forms::{bytes_of, digits_of};
+use test_support::{bytes_of, digits_of};
 
 /// The answer to a call.
 pub fn answer(alloc: Global, call: &str, first: &str, second: &str) -> Result<String> {

@@ -6,7 +6,7 @@ ghost use Rattle.moments.specs.Civil.{IsMoment};
 use anyhow::{Result, bail};
 use moments::TimeText;
 use std::alloc::Global;
-use test_forms::number_of;
+use test_support::number_of;
 
 /// The answer to a call.
 pub fn answer(alloc: Global, call: &str, first: &str, second: &str) -> Result<String> {

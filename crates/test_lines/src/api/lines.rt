@@ -4,7 +4,7 @@ use crate::api::texts::push_command;
 use anyhow::{Context, Result, bail};
 use json_api::{Line, LineFault, LineReader, fault_into, read_line};
 use std::alloc::Global;
-use test_forms::first_field;
+use test_support::first_field;
 
 /// What the line says, or the reply to what is no line.
 ///

@@ -7,7 +7,7 @@ use hex::FromHex;
 use json_api::{Published, Refused, published_into, serial_into};
 use key_ids::KeyId;
 use std::alloc::Global;
-use test_forms::first_field;
+use test_support::first_field;
 
 pub fn answer(alloc: Global, call: &str, arguments: &str) -> Result<String> {
     let reason = match call {

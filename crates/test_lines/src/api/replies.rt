@@ -7,7 +7,7 @@ use json_api::{MEMORY_REPLY, Refused, accepted_into, refused_into, verdict_into}
 use names::Name;
 use origins::{Origin, read_origin};
 use std::alloc::Global;
-use test_forms::first_field;
+use test_support::first_field;
 
 pub fn answer(alloc: Global, call: &str, arguments: &str) -> Result<String> {
     match call {

@@ -10,7 +10,7 @@ use json_api::{
 use origins::read_origin;
 use res_sets::Resources;
 use std::alloc::Global;
-use test_forms::{first_field, resources_of};
+use test_support::{first_field, resources_of};
 
 pub fn answer(alloc: Global, call: &str, arguments: &str) -> Result<String> {
     match call {

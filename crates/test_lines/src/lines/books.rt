@@ -5,7 +5,7 @@ use anyhow::{Context, Result};
 use authority_book::{Command, Config, verdict};
 use json_api::verdict_into;
 use std::alloc::Global;
-use test_forms::first_field;
+use test_support::first_field;
 
 /// How long the list is, whether it is empty, its first repetition, which of the others it has, and
 /// the origins of its copy.

@@ -4,7 +4,7 @@ use anyhow::{Context, Result, bail};
 use authority_book::{Command, OriginList};
 use origins::{Origin, read_origin};
 use std::alloc::Global;
-use test_forms::first_field;
+use test_support::first_field;
 
 /// The origins that stand with `;` between them.
 pub fn origins_of(alloc: Global, text: &str) -> Result<Vec<Origin>> {

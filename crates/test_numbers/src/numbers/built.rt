@@ -7,7 +7,7 @@ use crate::numbers::sets::{range_of, set_of, shown};
 use anyhow::{Result, bail};
 use res_sets::{Family, Range, Ranges, Resources};
 use std::alloc::Global;
-use test_forms::first_field;
+use test_support::first_field;
 
 fn ranges_of(alloc: Global, text: &str) -> Result<Vec<Range>> {
     let mut ranges = Vec::new(alloc);

@@ -6,7 +6,7 @@ use crate::numbers::plain_text;
 use anyhow::{Context, Result, bail, ensure};
 use res_sets::{Family, MOST_RANGES, Range, Ranges, Resources};
 use std::alloc::Global;
-use test_forms::first_field;
+use test_support::first_field;
 
 /// The family of this name.
 pub fn family(name: &str) -> Result<Family> {

@@ -7,7 +7,7 @@ use anyhow::{Context, Result, bail};
 use pub_set::{Object, ObjectSet};
 use signer_api::{MemorySigner, Rehearsal, Signer};
 use std::alloc::Global;
-use test_forms::read_changes;
+use test_support::read_changes;
 
 /// The answer to a case.
 pub fn answer(alloc: Global, base: &ObjectSet, call: &str, line: &str) -> Result<String> {

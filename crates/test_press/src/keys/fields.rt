@@ -5,7 +5,7 @@ use key_ids::KeyId;
 use key_roll::Role;
 use signer_api::PublicKey;
 use std::alloc::Global;
-use test_forms::fixed_of;
+use test_support::fixed_of;
 
 /// The parts of a text between separators: none of an empty one.
 pub fn parts(alloc: Global, text: &str, between: char) -> Result<Vec<&str>> {

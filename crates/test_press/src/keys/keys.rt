@@ -13,7 +13,7 @@ use sha2::{Digest as Hasher, Sha256};
 use signer_api::{Digest, Rehearsal, Signer};
 use signer_ring::Ring;
 use std::alloc::Global;
-use test_forms::fixed_of;
+use test_support::fixed_of;
 
 /// A signer that made so many keys before.
 fn signer_of(alloc: Global, start: &str, before: &str) -> Result<Rehearsal> {

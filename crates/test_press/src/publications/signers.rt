@@ -3,7 +3,7 @@
 use anyhow::Result;
 use signer_api::{MemorySigner, Rehearsal};
 use std::alloc::Global;
-use test_forms::{fixed_of, number_of};
+use test_support::{fixed_of, number_of};
 
 /// A signer for rehearsals for each start. The starts stand between blanks.
 pub fn rehearsals(alloc: Global, starts: &str) -> Result<Vec<Rehearsal>> {

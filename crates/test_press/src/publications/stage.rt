@@ -11,7 +11,7 @@ use key_ids::Site;
 use signer_api::Signer;
 use signer_ring::Ring;
 use std::alloc::Global;
-use test_forms::digest_text;
+use test_support::digest_text;
 
 /// A press, the desks, the repository, and the last edition's changes as a text.
 #[derive(Drop)]

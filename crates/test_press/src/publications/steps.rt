@@ -11,7 +11,7 @@ use crate::publications::stage::Stage;
 use anyhow::{Context, Result, bail};
 use signer_api::Signer;
 use std::alloc::Global;
-use test_forms::number_of;
+use test_support::number_of;
 
 /// A step that is no line with a command.
 #[derive(Clone, Copy)]

@@ -20,7 +20,7 @@ use pub_set::Change;
 use signer_api::{Digest, MemorySigner, PublicKey, Rehearsal, Signer};
 use signer_ring::Ring;
 use std::alloc::Global;
-use test_forms::{fixed_of, number_of};
+use test_support::{fixed_of, number_of};
 
 /// A signer: its kind, its start, the number of a call that fails or nothing, and how many keys it made before.
 #[derive(Clone, Copy)]

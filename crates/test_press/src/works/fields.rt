@@ -9,7 +9,7 @@ use authority_book::OriginList;
 use origins::{Origin, read_origin};
 use signer_api::PublicKey;
 use std::alloc::Global;
-use test_forms::{fixed_of, number_of};
+use test_support::{fixed_of, number_of};
 
 /// A moment at which an edition can be made.
 pub fn moment(text: &str) -> Result<u64>

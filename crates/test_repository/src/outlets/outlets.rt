@@ -7,7 +7,7 @@ use outlet_api::{FolderOutlet, MemoryOutlet, PlayedFolder};
 use std::alloc::Global;
 use std::fs;
 use std::io::ErrorKind;
-use test_forms::{numbers_of, step_parts};
+use test_support::{numbers_of, step_parts};
 
 /// Steps over an outlet in memory, of which the calls with these numbers fail.
 pub fn in_memory(alloc: Global, fails: &str, steps: &str) -> Result<String> {

@@ -3,7 +3,7 @@
 use anyhow::{Context, Result, bail};
 use outlet_api::{ExportFault, OutFile, OutFiles, Outlet, OutletStop, export};
 use std::alloc::Global;
-use test_forms::step_parts;
+use test_support::step_parts;
 
 /// Takes a step: `put PATH=HEX`, `remove PATH`, `export PATH=HEX .. -PATH ..` or `faults`.
 pub fn take<O: Outlet>(alloc: Global, outlet: &mut O, told: &mut String, step: &str) -> Result<()> {

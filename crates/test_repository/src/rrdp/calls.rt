@@ -6,7 +6,7 @@ use crate::rrdp::sweeps::{changed, cut};
 use anyhow::{Context, Result, bail};
 use rrdp_text::{delta_text, locator_text, notification_text, snapshot_text};
 use std::alloc::Global;
-use test_forms::{read_changes, read_set};
+use test_support::{read_changes, read_set};
 use uuid::Uuid;
 
 /// The two kinds of text that are read.

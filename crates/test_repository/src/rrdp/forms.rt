@@ -3,7 +3,7 @@
 use anyhow::{Context, Result};
 use rrdp_text::{DeltaRef, FileRef};
 use std::alloc::Global;
-use test_forms::{read_hash, read_uri};
+use test_support::{read_hash, read_uri};
 
 /// The files of deltas, each `SERIAL=URI=HASH`, or nothing.
 pub fn read_deltas(alloc: Global, text: &str) -> Result<Vec<DeltaRef>> {

@@ -3,7 +3,7 @@
 use anyhow::{Result, bail};
 use rrdp_text::{read_delta, read_snapshot};
 use std::alloc::Global;
-use test_forms::{changes_text, set_text};
+use test_support::{changes_text, set_text};
 
 /// The text on one line. It fills the memory that was reserved for it.
 pub fn written(alloc: Global, text: &String) -> Result<String> {

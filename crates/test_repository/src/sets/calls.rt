@@ -4,7 +4,7 @@ use crate::sets::print::reply_text;
 use anyhow::{Context, Result, bail};
 use pub_set::changes;
 use std::alloc::Global;
-use test_forms::{changes_text, digest_text, read_changes, read_set, set_text};
+use test_support::{changes_text, digest_text, read_changes, read_set, set_text};
 
 /// What a line comes to.
 pub fn answer(alloc: Global, line: &str) -> Result<String> {

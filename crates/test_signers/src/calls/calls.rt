@@ -6,7 +6,7 @@ use sha2::{Digest as Hasher, Sha256};
 use signer_api::{Digest, MemorySigner, OneUse, PublicKey};
 use signer_ring::{CallFault, Ring, make_key, sign, sign_once};
 use std::alloc::Global;
-use test_forms::numbers_of;
+use test_support::numbers_of;
 
 fn signer_of(alloc: Global, first_byte: u8, fails: &str) -> Result<MemorySigner> {
     let mut start = [0; 32];

@@ -5,7 +5,7 @@ use items::Items;
 use notice_board::{Sheet, SheetRow, ShownStage};
 use origins::{Origin, read_origin};
 use std::alloc::Global;
-use test_forms::resources_of;
+use test_support::resources_of;
 
 /// Reads a sheet.
 pub fn read_sheet(alloc: Global, text: &str) -> Result<Sheet> {

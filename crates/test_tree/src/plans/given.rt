@@ -9,7 +9,7 @@ use origins::read_origin;
 use pub_set::Uri;
 use signer_api::PublicKey;
 use std::alloc::Global;
-use test_forms::resources_of;
+use test_support::resources_of;
 
 /// The live keys: of each its desk, signer, role, key, `since` and `done`.
 pub fn rows_of(alloc: Global, text: &str) -> Result<Vec<KeyRow>> {

@@ -5,7 +5,7 @@ use anyhow::Result;
 use authority_book::{Child, Command, Config, NameRow, Refusal, verdict, verdict_unasked};
 use res_sets::Resources;
 use std::alloc::Global;
-use test_forms::split_field;
+use test_support::split_field;
 
 /// The verdicts on the commands, of which those that are accepted are taken, and the configuration
 /// of the desk at the end, printed of a copy. Where the number of signers is left out, it isn't asked.

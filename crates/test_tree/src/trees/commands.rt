@@ -6,7 +6,7 @@ use names::Name;
 use origins::{Origin, read_origin};
 use res_sets::Resources;
 use std::alloc::Global;
-use test_forms::{resources_of, split_field};
+use test_support::{resources_of, split_field};
 
 /// The command whose kind stands before the first `;`, and its fields behind it.
 pub fn command_of(alloc: Global, text: &str) -> Result<Command> {

@@ -6,7 +6,7 @@ use Rattle.entitle.specs.declared.trees.Owed.{Owed}
 use Rattle.entitle.specs.Owed.{HasEach, AreThose}
 use Rattle.entitle.proofs.Those.{those-held, those-not_held, pushed-held}
 use Rattle.entitle.proofs.owing.push_owed.Goals as goal
-use Rattle.entitle.proofs.owing.push_owed.Goals.{then-is_held+in_ok-push, else-is_held}
+use Rattle.entitle.proofs.owing.push_owed.Goals.{then-is_certified+in_ok-push, else-is_certified}
 
 pub loop-origin-preserved : goal.loop-origin-preserved
 loop-origin-preserved c =
@@ -17,17 +17,17 @@ loop-origin-preserved c =
     let xs = take i all in
     let own = c.loop-origin.invariant.0 in
     let longer : take (i + 1) all ≡ xs ++ o ∷ [] = take_more all i o c.loop-origin-test.true ∙ ap (λ (x : Origin). xs ++ x ∷ []) (sym c.origin-item.is) in
-    elim c.if-is_held.branch [
-      | then-is_held+in_ok-push w ↦
-          let yes : IsHeld o = c.is_held.ensures.0 w.if-is_held.true in
+    elim c.if-is_certified.branch [
+      | then-is_certified+in_ok-push w ↦
+          let yes : IsHeld o = c.is_certified.ensures.0 w.if-is_certified.true in
           let new : Owed = record { desk = c.args.desk; origin = o } in
-          let put : c.if-is_held.owed.items ≡ c.loop-origin.owed.items ++ new ∷ [] = search rules in (
+          let put : c.if-is_certified.owed.items ≡ c.loop-origin.owed.items ++ new ∷ [] = search rules in (
             own ++ o ∷ [],
             subst (λ l. AreThose IsHeld l (own ++ o ∷ [])) (sym longer) (those-held IsHeld xs own o c.loop-origin.invariant.1 yes),
             put ∙ pushed-held c.args.owed.now.items c.loop-origin.owed.items c.args.desk own o c.loop-origin.invariant.2,
           )
-      | else-is_held w ↦
+      | else-is_certified w ↦
           let no : IsHeld o → ⊥ = search rules in
-          let kept : c.if-is_held.owed.items ≡ c.loop-origin.owed.items = search rules in
+          let kept : c.if-is_certified.owed.items ≡ c.loop-origin.owed.items = search rules in
           (own, subst (λ l. AreThose IsHeld l own) (sym longer) (those-not_held IsHeld xs own o c.loop-origin.invariant.1 no), kept ∙ c.loop-origin.invariant.2)
     ]

@@ -1,6 +1,6 @@
 use Rattle.std.proofs.Common.{map, ap, ◌∙◌}
 use Rattle.std.proofs.lemmas.List.{map-append}
-use Rattle.issue_values.specs.Publishing.{publishing}
+use Rattle.issue_values.specs.Publishers.{publishing}
 use Rattle.issue_drafts.specs.Finding.{keys_at}
 use Rattle.issue_drafts.specs.Certificates.{input_of, publishing_of}
 use Rattle.issue_drafts.proofs.NamedKeys.{map-more}

@@ -1,5 +1,5 @@
 use Rattle.std.proofs.Common.{◌≡◌, map, take}
-use Rattle.issue_values.specs.Publishing.{publishing}
+use Rattle.issue_values.specs.Publishers.{publishing}
 use Rattle.issue_drafts.specs.Finding.{keys_at}
 use Rattle.issue_drafts.specs.Certificates.{input_of, publishing_of}
 use Rattle.issue_drafts.proofs.certificates.publishers.Given as goal

@@ -2,7 +2,7 @@ use Rattle.std.proofs.Common.{◌≤◌, ◌*◌, take, arith}
 use Rattle.std.specs.Prelude.{sum_by}
 use Rattle.issue_drafts.specs.Views.{kind_of}
 use Rattle.issue_drafts.specs.declared.draft.Draft as code
-use Rattle.issue_make.specs.Outcome.{signatures_of}
+use Rattle.issue_make.specs.Trace.{signatures_of}
 use Rattle.issue_make.proofs.Sums.{first-few, sums-are}
 use Rattle.issue_make.proofs.counting.signatures.Goals as goal
 

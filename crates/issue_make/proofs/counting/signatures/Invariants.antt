@@ -1,7 +1,7 @@
 use Rattle.std.proofs.Common.{◌≡◌, ◌+◌, ◌*◌, length, take}
 use Rattle.std.specs.Prelude.{sum_by}
 use Rattle.issue_drafts.specs.Views.{kind_of}
-use Rattle.issue_make.specs.Outcome.{signatures_of}
+use Rattle.issue_make.specs.Trace.{signatures_of}
 use Rattle.issue_make.proofs.counting.signatures.Given as goal
 
 abbrev pub invariant-loop-draft : goal.invariant-loop-draft

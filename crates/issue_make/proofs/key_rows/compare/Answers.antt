@@ -1,6 +1,6 @@
 use Rattle.std.proofs.Common.{nat_cmp, ap, is_lt, Ordering, ◌∙◌}
 use Rattle.std.specs.Ordering.{ordering_then}
-use Rattle.issue_make.specs.Outcome.{rank}
+use Rattle.issue_make.specs.Trace.{rank}
 use Rattle.issue_make.proofs.KeyOrder.{then-is, ranks-compare}
 use Rattle.issue_make.proofs.key_rows.compare.Goals as goal
 

@@ -2,7 +2,7 @@ use Rattle.std.proofs.Common.{rules, List, sym, subst}
 use Rattle.std.specs.List.Sorted.{IsPermutation, IsSortedBy}
 use Rattle.std.proofs.lemmas.Fn.{always_returns_same}
 use Rattle.key_roll.specs.declared.rows.KeyRow.{KeyRow}
-use Rattle.issue_make.specs.Outcome.{is_before}
+use Rattle.issue_make.specs.Trace.{is_before}
 use Rattle.issue_make.proofs.KeyOrder.{before-order, rows-after-are}
 use Rattle.issue_make.proofs.key_rows.rows_after.Goals as goal
 

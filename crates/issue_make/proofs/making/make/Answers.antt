@@ -1,7 +1,7 @@
 use Rattle.std.proofs.Common.{List, length, sym, subst}
 use Rattle.std.specs.Result.{IfOk, IfErr}
 use Rattle.key_roll.specs.declared.issued.IssuedRow.{IssuedRow}
-use Rattle.issue_make.specs.Work.{CanMake}
+use Rattle.issue_make.specs.CanMake.{CanMake}
 use Rattle.issue_make.specs.Made.{IsMade, IsStop}
 use Rattle.issue_make.proofs.making.make.Goals as goal
 

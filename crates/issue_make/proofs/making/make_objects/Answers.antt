@@ -39,15 +39,15 @@ pub returns-clause-made : goal.returns-clause-made
 returns-clause-made g c =
     let s = input_of c.args.input.now in
     let keys = c.args.keys.now in
-    IfOk-weaker c.finish.result _ _
+    IfOk-weaker c.sign_and_assemble.result _ _
     (λ made h. λ live ready.
-    subst (λ (l : List KeyRow). IsFinished s live l (keys_at l keys.first_fresh) c.args.ring.now c.finish.new.ring made)
+    subst (λ (l : List KeyRow). IsFinished s live l (keys_at l keys.first_fresh) c.args.ring.now c.sign_and_assemble.new.ring made)
     c.deref-3.ensures.value
     (h live keys.first_fresh
     (ready-at s live keys.rows.items c.deref.result.now c.deref-2.result.now c.deref-3.result.now
     keys.first_fresh (length c.args.ring.now) c.in_ok-finder.finder c.in_ok-plan.plan ready
     c.deref.ensures.value c.deref-2.ensures.value c.deref-3.ensures.value c.in_ok-finder.ensures c.in_ok-plan.ensures)))
-    c.finish.ensures.made
+    c.sign_and_assemble.ensures.made
 
 pub returns-in_err-finder-clause-stopped : goal.returns-in_err-finder-clause-stopped
 returns-in_err-finder-clause-stopped g c =

@@ -11,7 +11,7 @@ use Rattle.issue_drafts.specs.Drafts as words
 use Rattle.issue_drafts.specs.Views.{draft_of, manifest_of}
 use Rattle.issue_drafts.specs.Revoking.{has_point}
 use Rattle.issue_drafts.specs.Touching.{AreTouched}
-use Rattle.issue_make.specs.Plans.{puts}
+use Rattle.issue_make.specs.ObjectPlan.{puts}
 use Rattle.issue_make.proofs.Planned.{front-once, behind-once, rise-back, touched-by, given-over, next-over}
 use Rattle.issue_make.proofs.plans.plan_objects.Goals as goal
 

@@ -16,8 +16,8 @@ returns-in_err-halves-clause-stopped g c =
     let p = err_from_is_err_and c.from_residual.result c.from_residual.ensures.1 in
     let le : 0 ≤ length c.args.drafts.now = omega arith in
     rw (p.1, p.2)
-    (λ b basis are. halves-short (input_of c.args.edition.now.input.now) b c.args.drafts.now [] c.args.ring.now c.args.ring.now le
-    (halves-none (input_of c.args.edition.now.input.now) b c.args.drafts.now [] c.args.ring.now refl))
+    (λ b basis are. halves-short (input_of c.args.sign_input.now.input.now) b c.args.drafts.now [] c.args.ring.now c.args.ring.now le
+    (halves-none (input_of c.args.sign_input.now.input.now) b c.args.drafts.now [] c.args.ring.now refl))
 
 pub loop-draft-init : goal.loop-draft-init
 loop-draft-init g c = record {
@@ -25,7 +25,7 @@ loop-draft-init g c = record {
   kept = kept-all c.args.ring.now;
   kinds = subst (λ (l : List Half). Pairs (λ (d : code.Draft) (h : Half). IsHalfOfKind d.kind h) c.args.drafts.now l) (sym c.in_ok-halves.ensures.items)
       (pairs-nil (λ (d : code.Draft) (h : Half). IsHalfOfKind d.kind h) c.args.drafts.now);
-  halves = λ b basis are. halves-none (input_of c.args.edition.now.input.now) b c.args.drafts.now c.in_ok-halves.halves.items c.args.ring.now
+  halves = λ b basis are. halves-none (input_of c.args.sign_input.now.input.now) b c.args.drafts.now c.in_ok-halves.halves.items c.args.ring.now
       c.in_ok-halves.ensures.items;
 }
 
@@ -38,7 +38,7 @@ returns-in_err-half-clause-stopped g c =
     let same : c.len-place.result ≡ c.loop-draft.draft-index = omega arith in
     let n = next drafts halves draft c.loop-draft.draft-index c.loop-draft.invariant.long c.loop-draft-test.true c.draft-item.is in
     rw (p.1, p.2)
-    (λ b basis are. halves-stop (input_of c.args.edition.now.input.now) b drafts halves draft c.args.ring.now c.loop-draft.ring c.sign_first.new.ring
+    (λ b basis are. halves-stop (input_of c.args.sign_input.now.input.now) b drafts halves draft c.args.ring.now c.loop-draft.ring c.sign_first.new.ring
     c.in_err-half.field-0.0 n (c.loop-draft.invariant.halves b basis are)
     (c.in_err-half.ensures.stopped b basis
     (read-draft b drafts c.args.serials.now c.loop-draft.draft-index c.len-place.result draft same are c.loop-draft-test.true c.draft-item.is)))
@@ -50,7 +50,7 @@ returns-in_err-half-clause-kept g c =
 pub returns-in_err-push-clause-stopped : goal.returns-in_err-push-clause-stopped
 returns-in_err-push-clause-stopped g c =
     let p = err_from_is_err_and c.from_residual-in_err-push.result c.from_residual-in_err-push.ensures.1 in
-    let s = input_of c.args.edition.now.input.now in
+    let s = input_of c.args.sign_input.now.input.now in
     let drafts = c.args.drafts.now in
     let halves = c.loop-draft.halves.items in
     let draft = c.draft-item.result in
@@ -72,7 +72,7 @@ returns-in_err-push-clause-kept g c =
 
 pub loop-draft-preserved : goal.loop-draft-preserved
 loop-draft-preserved g c =
-    let s = input_of c.args.edition.now.input.now in
+    let s = input_of c.args.sign_input.now.input.now in
     let drafts = c.args.drafts.now in
     let halves = c.loop-draft.halves.items in
     let draft = c.draft-item.result in

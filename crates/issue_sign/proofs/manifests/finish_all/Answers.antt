@@ -15,7 +15,7 @@ use Rattle.issue_sign.proofs.manifests.finish_all.Goals as goal
 pub returns-in_err-objects-clause-stopped : goal.returns-in_err-objects-clause-stopped
 returns-in_err-objects-clause-stopped g c =
     let p = err_from_is_err_and c.from_residual.result c.from_residual.ensures.1 in
-    let s = input_of c.args.edition.now.input.now in
+    let s = input_of c.args.sign_input.now.input.now in
     rw (p.1, p.2)
     (λ b lists old basis are was. manifests-short s b c.args.manifests.now c.args.contents.items [] c.args.contents.items old c.args.ring.now
     (manifests-start s b c.args.manifests.now c.args.contents.items [] old c.args.ring.now refl c.requires.each was))
@@ -23,7 +23,7 @@ returns-in_err-objects-clause-stopped g c =
 pub loop-content-init : goal.loop-content-init
 loop-content-init g c =
     let given = c.into_iter-content-iterator.ensures.into_iter_gives in
-    let s = input_of c.args.edition.now.input.now in
+    let s = input_of c.args.sign_input.now.input.now in
     let none = c.in_ok-objects.ensures.items in
     record {
       left = ap (λ (l : List Object). drop (length l) c.args.contents.items) none ∙ sym given.0;
@@ -38,7 +38,7 @@ loop-content-init g c =
 pub returns-in_err-object-clause-stopped : goal.returns-in_err-object-clause-stopped
 returns-in_err-object-clause-stopped g c =
     let p = err_from_is_err_and c.from_residual-in_err-object.result c.from_residual-in_err-object.ensures.1 in
-    let s = input_of c.args.edition.now.input.now in
+    let s = input_of c.args.sign_input.now.input.now in
     let drafts = c.args.manifests.now in
     let contents = c.args.contents.items in
     let objects = c.loop-content.objects.items in
@@ -50,7 +50,7 @@ returns-in_err-object-clause-stopped g c =
     c.requires.each c.loop-content.invariant.left
     c.in-Some.ensures.steps.0 c.index-manifests-place.is in
     rw (p.1, p.2)
-    (λ b lists old basis are was. manifest-stop s b drafts contents objects left draft content old c.loop-content.ring c.finish.new.ring c.in_err-object.field-0.0 t
+    (λ b lists old basis are was. manifest-stop s b drafts contents objects left draft content old c.loop-content.ring c.finish_manifest.new.ring c.in_err-object.field-0.0 t
     (subst (λ (l : List SignedContent). AreEnding s b drafts contents objects l old c.loop-content.ring) c.in-Some.ensures.steps.0
     (c.loop-content.invariant.going b lists old basis are was))
     (c.in_err-object.ensures.stopped b basis (issuer-at b drafts c.args.next.now lists contents left (length objects) draft content are t)
@@ -59,7 +59,7 @@ returns-in_err-object-clause-stopped g c =
 pub returns-in_err-push-clause-stopped : goal.returns-in_err-push-clause-stopped
 returns-in_err-push-clause-stopped g c =
     let p = err_from_is_err_and c.from_residual-in_err-push.result c.from_residual-in_err-push.ensures.1 in
-    let s = input_of c.args.edition.now.input.now in
+    let s = input_of c.args.sign_input.now.input.now in
     let drafts = c.args.manifests.now in
     let contents = c.args.contents.items in
     let objects = c.loop-content.objects.items in
@@ -74,8 +74,8 @@ returns-in_err-push-clause-stopped g c =
     (λ b lists old basis are was.
     let is = at-turn (λ (d : ManifestDraft) (x : SignedContent). IsContent s d.issuer.row.now (b.files d.issuer.row.now) x) drafts contents
     (length objects) left draft content t was.pairs in
-    manifests-short s b drafts contents (objects ++ c.in_ok-object.object ∷ []) left old c.finish.new.ring
-    (manifest-more c.vouched_stays.ensures s b drafts contents objects left draft content c.in_ok-object.object old c.loop-content.ring c.finish.new.ring t
+    manifests-short s b drafts contents (objects ++ c.in_ok-object.object ∷ []) left old c.finish_manifest.new.ring
+    (manifest-more c.vouched_stays.ensures s b drafts contents objects left draft content c.in_ok-object.object old c.loop-content.ring c.finish_manifest.new.ring t
     (subst (λ (l : List SignedContent). AreEnding s b drafts contents objects l old c.loop-content.ring) c.in-Some.ensures.steps.0
     (c.loop-content.invariant.going b lists old basis are was))
     (c.in_ok-object.ensures.finished b basis (issuer-at b drafts c.args.next.now lists contents left (length objects) draft content are t)
@@ -83,7 +83,7 @@ returns-in_err-push-clause-stopped g c =
 
 pub loop-content-preserved : goal.loop-content-preserved
 loop-content-preserved g c =
-    let s = input_of c.args.edition.now.input.now in
+    let s = input_of c.args.sign_input.now.input.now in
     let drafts = c.args.manifests.now in
     let contents = c.args.contents.items in
     let objects = c.loop-content.objects.items in
@@ -105,12 +105,12 @@ loop-content-preserved g c =
           let gone = c.in-Some.ensures.steps.1 in
           let short = ap length steps in
           omega arith;
-      kept = kept-on c.args.ring.now c.loop-content.ring c.finish.new.ring c.loop-content.invariant.kept c.finish.ensures.kept;
+      kept = kept-on c.args.ring.now c.loop-content.ring c.finish_manifest.new.ring c.loop-content.invariant.kept c.finish_manifest.ensures.kept;
       going = λ b lists old basis are was.
           let is = at-turn (λ (d : ManifestDraft) (x : SignedContent). IsContent s d.issuer.row.now (b.files d.issuer.row.now) x) drafts contents
           (length objects) left draft content t was.pairs in
-          subst (λ (l : List Object). AreEnding s b drafts contents l left old c.finish.new.ring) (sym items)
-          (manifest-more c.vouched_stays.ensures s b drafts contents objects left draft content o old c.loop-content.ring c.finish.new.ring t
+          subst (λ (l : List Object). AreEnding s b drafts contents l left old c.finish_manifest.new.ring) (sym items)
+          (manifest-more c.vouched_stays.ensures s b drafts contents objects left draft content o old c.loop-content.ring c.finish_manifest.new.ring t
           (subst (λ (l : List SignedContent). AreEnding s b drafts contents objects l old c.loop-content.ring) steps
           (c.loop-content.invariant.going b lists old basis are was))
           (c.in_ok-object.ensures.finished b basis (issuer-at b drafts c.args.next.now lists contents left (length objects) draft content are t)
@@ -122,6 +122,6 @@ returns-clause-made g c =
     let none : into_iter_items c.loop-content.content-iterator ≡ [] = nil_from_length (into_iter_items c.loop-content.content-iterator)
     (sym c.loop-content.invariant.count ∙ c.in-None.ensures.steps.0) in
     λ b lists old basis are was.
-    manifests-end (input_of c.args.edition.now.input.now) b c.args.manifests.now c.args.contents.items c.loop-content.objects.items
+    manifests-end (input_of c.args.sign_input.now.input.now) b c.args.manifests.now c.args.contents.items c.loop-content.objects.items
     (into_iter_items c.loop-content.content-iterator) old c.loop-content.ring
     none (c.loop-content.invariant.going b lists old basis are was)

@@ -18,8 +18,8 @@ returns-in_err-contents-clause-stopped g c =
     let p = err_from_is_err_and c.from_residual.result c.from_residual.ensures.1 in
     let le : 0 ≤ length c.args.manifests.now = omega arith in
     rw (p.1, p.2)
-    (λ b next are. contents-short (input_of c.args.edition.now.input.now) b c.args.manifests.now [] c.args.ring.now c.args.ring.now le
-    (contents-none (input_of c.args.edition.now.input.now) b c.args.manifests.now [] c.args.ring.now refl))
+    (λ b next are. contents-short (input_of c.args.sign_input.now.input.now) b c.args.manifests.now [] c.args.ring.now c.args.ring.now le
+    (contents-none (input_of c.args.sign_input.now.input.now) b c.args.manifests.now [] c.args.ring.now refl))
 
 pub loop-list-init : goal.loop-list-init
 loop-list-init g c =
@@ -31,7 +31,7 @@ loop-list-init g c =
       few = ap (λ (l : List SignedContent). length l + length (into_iter_items c.into_iter-list-iterator.result)) none
           ∙ (let all = ap length given.0 in let each = c.requires.each in omega arith);
       kept = kept-all c.args.ring.now;
-      contents = λ b next are. contents-none (input_of c.args.edition.now.input.now) b c.args.manifests.now c.in_ok-contents.contents.items c.args.ring.now none;
+      contents = λ b next are. contents-none (input_of c.args.sign_input.now.input.now) b c.args.manifests.now c.in_ok-contents.contents.items c.args.ring.now none;
     }
 
 pub sign_first-requires-clause-files : goal.sign_first-requires-clause-files
@@ -47,7 +47,7 @@ sign_first-requires-clause-files g c =
 pub returns-in_err-content-clause-stopped : goal.returns-in_err-content-clause-stopped
 returns-in_err-content-clause-stopped g c =
     let p = err_from_is_err_and c.from_residual-in_err-content.result c.from_residual-in_err-content.ensures.1 in
-    let s = input_of c.args.edition.now.input.now in
+    let s = input_of c.args.sign_input.now.input.now in
     let drafts = c.args.manifests.now in
     let contents = c.loop-list.contents.items in
     let left = into_iter_items c.next.new.self in
@@ -65,7 +65,7 @@ returns-in_err-content-clause-stopped g c =
 pub returns-in_err-push-clause-stopped : goal.returns-in_err-push-clause-stopped
 returns-in_err-push-clause-stopped g c =
     let p = err_from_is_err_and c.from_residual-in_err-push.result c.from_residual-in_err-push.ensures.1 in
-    let s = input_of c.args.edition.now.input.now in
+    let s = input_of c.args.sign_input.now.input.now in
     let drafts = c.args.manifests.now in
     let contents = c.loop-list.contents.items in
     let left = into_iter_items c.next.new.self in
@@ -86,7 +86,7 @@ returns-in_err-push-clause-stopped g c =
 
 pub loop-list-preserved : goal.loop-list-preserved
 loop-list-preserved g c =
-    let s = input_of c.args.edition.now.input.now in
+    let s = input_of c.args.sign_input.now.input.now in
     let drafts = c.args.manifests.now in
     let contents = c.loop-list.contents.items in
     let left = into_iter_items c.next.new.self in

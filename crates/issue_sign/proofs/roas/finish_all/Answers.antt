@@ -16,7 +16,7 @@ use Rattle.issue_sign.proofs.roas.finish_all.Goals as goal
 pub returns-in_err-objects-clause-stopped : goal.returns-in_err-objects-clause-stopped
 returns-in_err-objects-clause-stopped g c =
     let p = err_from_is_err_and c.from_residual.result c.from_residual.ensures.1 in
-    let s = input_of c.args.edition.now.input.now in
+    let s = input_of c.args.sign_input.now.input.now in
     rw (p.1, p.2)
     (λ b old basis are halves. drafts-short s b c.args.drafts.now c.args.halves.items [] c.args.halves.items old c.args.ring.now
     (drafts-start s b c.args.drafts.now c.args.halves.items [] old c.args.ring.now refl c.requires.each halves))
@@ -24,7 +24,7 @@ returns-in_err-objects-clause-stopped g c =
 pub loop-half-init : goal.loop-half-init
 loop-half-init g c =
     let given = c.into_iter-half-iterator.ensures.into_iter_gives in
-    let s = input_of c.args.edition.now.input.now in
+    let s = input_of c.args.sign_input.now.input.now in
     let none = c.in_ok-objects.ensures.items in
     record {
       left = ap (λ (l : List Object). drop (length l) c.args.halves.items) none ∙ sym given.0;
@@ -49,7 +49,7 @@ finish-requires-clause-kind g c =
 pub returns-in_err-object-clause-stopped : goal.returns-in_err-object-clause-stopped
 returns-in_err-object-clause-stopped g c =
     let p = err_from_is_err_and c.from_residual-in_err-object.result c.from_residual-in_err-object.ensures.1 in
-    let s = input_of c.args.edition.now.input.now in
+    let s = input_of c.args.sign_input.now.input.now in
     let drafts = c.args.drafts.now in
     let halves = c.args.halves.items in
     let objects = c.loop-half.objects.items in
@@ -65,7 +65,7 @@ returns-in_err-object-clause-stopped g c =
     rw (p.1, p.2)
     (λ b old basis are was.
     let is = at-turn (λ (d : code.Draft) (h : Half). IsHalf s b (draft_of d) (kind_of d.kind) h) drafts halves (length objects) left draft half t was.pairs in
-    turn-stop s b drafts halves objects left draft half old c.loop-half.ring c.finish.new.ring c.in_err-object.field-0.0 t
+    turn-stop s b drafts halves objects left draft half old c.loop-half.ring c.finish_draft.new.ring c.in_err-object.field-0.0 t
     (subst (λ (l : List Half). AreFinishing s b drafts halves objects l old c.loop-half.ring) c.in-Some.ensures.steps.0
     (c.loop-half.invariant.going b old basis are was))
     is
@@ -74,7 +74,7 @@ returns-in_err-object-clause-stopped g c =
 pub returns-in_err-push-clause-stopped : goal.returns-in_err-push-clause-stopped
 returns-in_err-push-clause-stopped g c =
     let p = err_from_is_err_and c.from_residual-in_err-push.result c.from_residual-in_err-push.ensures.1 in
-    let s = input_of c.args.edition.now.input.now in
+    let s = input_of c.args.sign_input.now.input.now in
     let drafts = c.args.drafts.now in
     let halves = c.args.halves.items in
     let objects = c.loop-half.objects.items in
@@ -90,15 +90,15 @@ returns-in_err-push-clause-stopped g c =
     rw (p.1, p.2)
     (λ b old basis are was.
     let is = at-turn (λ (d : code.Draft) (h : Half). IsHalf s b (draft_of d) (kind_of d.kind) h) drafts halves (length objects) left draft half t was.pairs in
-    drafts-short s b drafts halves (objects ++ c.in_ok-object.object ∷ []) left old c.finish.new.ring
-    (turn-more c.vouched_stays.ensures s b drafts halves objects left draft half c.in_ok-object.object old c.loop-half.ring c.finish.new.ring t
+    drafts-short s b drafts halves (objects ++ c.in_ok-object.object ∷ []) left old c.finish_draft.new.ring
+    (turn-more c.vouched_stays.ensures s b drafts halves objects left draft half c.in_ok-object.object old c.loop-half.ring c.finish_draft.new.ring t
     (subst (λ (l : List Half). AreFinishing s b drafts halves objects l old c.loop-half.ring) c.in-Some.ensures.steps.0
     (c.loop-half.invariant.going b old basis are was))
     (c.in_ok-object.ensures.finished b basis (is-draft b drafts c.args.serials.now c.len-place.result draft are lt c.index-drafts-place.is) is)))
 
 pub loop-half-preserved : goal.loop-half-preserved
 loop-half-preserved g c =
-    let s = input_of c.args.edition.now.input.now in
+    let s = input_of c.args.sign_input.now.input.now in
     let drafts = c.args.drafts.now in
     let halves = c.args.halves.items in
     let objects = c.loop-half.objects.items in
@@ -122,11 +122,11 @@ loop-half-preserved g c =
           let gone = c.in-Some.ensures.steps.1 in
           let short = ap length steps in
           omega arith;
-      kept = kept-on c.args.ring.now c.loop-half.ring c.finish.new.ring c.loop-half.invariant.kept c.finish.ensures.kept;
+      kept = kept-on c.args.ring.now c.loop-half.ring c.finish_draft.new.ring c.loop-half.invariant.kept c.finish_draft.ensures.kept;
       going = λ b old basis are was.
           let is = at-turn (λ (d : code.Draft) (h : Half). IsHalf s b (draft_of d) (kind_of d.kind) h) drafts halves (length objects) left draft half t was.pairs in
-          subst (λ (l : List Object). AreFinishing s b drafts halves l left old c.finish.new.ring) (sym items)
-          (turn-more c.vouched_stays.ensures s b drafts halves objects left draft half o old c.loop-half.ring c.finish.new.ring t
+          subst (λ (l : List Object). AreFinishing s b drafts halves l left old c.finish_draft.new.ring) (sym items)
+          (turn-more c.vouched_stays.ensures s b drafts halves objects left draft half o old c.loop-half.ring c.finish_draft.new.ring t
           (subst (λ (l : List Half). AreFinishing s b drafts halves objects l old c.loop-half.ring) steps (c.loop-half.invariant.going b old basis are was))
           (c.in_ok-object.ensures.finished b basis (is-draft b drafts c.args.serials.now c.len-place.result draft are lt c.index-drafts-place.is) is));
     }
@@ -136,6 +136,6 @@ returns-clause-made g c =
     let none : into_iter_items c.loop-half.half-iterator ≡ [] = nil_from_length (into_iter_items c.loop-half.half-iterator)
     (sym c.loop-half.invariant.count ∙ c.in-None.ensures.steps.0) in
     λ b old basis are was.
-    drafts-end (input_of c.args.edition.now.input.now) b c.args.drafts.now c.args.halves.items c.loop-half.objects.items
+    drafts-end (input_of c.args.sign_input.now.input.now) b c.args.drafts.now c.args.halves.items c.loop-half.objects.items
     (into_iter_items c.loop-half.half-iterator) old c.loop-half.ring
     none (c.loop-half.invariant.going b old basis are was)

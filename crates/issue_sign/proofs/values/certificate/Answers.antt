@@ -5,10 +5,10 @@ use Rattle.issue_sign.proofs.values.certificate.Goals as goal
 
 pub returns-then-eq-clause-value : goal.returns-then-eq-clause-value
 returns-then-eq-clause-value c =
-    let all = c.args.edition.now.publishers.now in
+    let all = c.args.sign_input.now.publishers.now in
     let i = c.args.issuer.now.place in
     let j = c.args.subject.now.place in
-    anchor-made c.args.edition.now c.args.issuer.now c.args.subject.now c.args.held.now c.args.serial
+    anchor-made c.args.sign_input.now c.args.issuer.now c.args.subject.now c.args.held.now c.args.serial
     (get_or all i c.index-edition-issuer.result) (get_or all j c.index-edition-subject.result)
     c.anchor_certificate.result c.requires.issuer.inside c.requires.subject
     (ap (λ (p : Publisher). get_or all i p) c.index-edition-issuer.is) (ap (λ (p : Publisher). get_or all j p) c.index-edition-subject.is)
@@ -16,10 +16,10 @@ returns-then-eq-clause-value c =
 
 pub returns-else-eq-clause-value : goal.returns-else-eq-clause-value
 returns-else-eq-clause-value c =
-    let all = c.args.edition.now.publishers.now in
+    let all = c.args.sign_input.now.publishers.now in
     let i = c.args.issuer.now.place in
     let j = c.args.subject.now.place in
-    authority-made c.args.edition.now c.args.issuer.now c.args.subject.now c.args.held.now c.args.serial
+    authority-made c.args.sign_input.now c.args.issuer.now c.args.subject.now c.args.held.now c.args.serial
     (get_or all i c.index-edition-issuer.result) (get_or all j c.index-edition-subject.result)
     c.authority_certificate.result c.requires.issuer.inside c.requires.subject
     (ap (λ (p : Publisher). get_or all i p) c.index-edition-issuer.is) (ap (λ (p : Publisher). get_or all j p) c.index-edition-subject.is)

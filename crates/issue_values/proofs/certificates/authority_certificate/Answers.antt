@@ -1,6 +1,6 @@
 use Rattle.std.proofs.Common.{◌<◌, ◌^◌, subst, sym, arith}
 use Rattle.cert_obj.specs.Values.{IsCert}
-use Rattle.issue_values.specs.Publishing.{publishing}
+use Rattle.issue_values.specs.Publishers.{publishing}
 use Rattle.issue_values.proofs.Leaves.{authority-spelled}
 use Rattle.issue_values.proofs.certificates.authority_certificate.Goals as goal
 

@@ -1,7 +1,7 @@
 use Rattle.std.proofs.Common.{◌≡◌, ◌<◌, ◌^◌, None, subst, sym, arith, ◌∙◌}
 use Rattle.std.specs.Prelude.{string_bytes}
 use Rattle.cert_obj.specs.Values.{IsCert, cert_value, held_value}
-use Rattle.issue_values.specs.Publishing.{publishing, manifest_of}
+use Rattle.issue_values.specs.Publishers.{publishing, manifest_of}
 use Rattle.issue_values.specs.Certificates.{point_life, manifest_certificate}
 use Rattle.issue_values.proofs.Leaves.{entity-same, manifest-spelled}
 use Rattle.issue_values.proofs.certificates.manifest_certificate.Goals as goal

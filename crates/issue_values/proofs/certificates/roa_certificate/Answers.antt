@@ -1,7 +1,7 @@
 use Rattle.std.proofs.Common.{◌≡◌, ◌<◌, ◌^◌, Some, subst, sym, arith, ◌∙◌}
 use Rattle.std.specs.Prelude.{string_bytes}
 use Rattle.cert_obj.specs.Values.{IsCert, cert_value, held_value}
-use Rattle.issue_values.specs.Publishing.{publishing}
+use Rattle.issue_values.specs.Publishers.{publishing}
 use Rattle.issue_values.specs.Certificates.{certificate_life, roa_certificate, prefix_sets}
 use Rattle.issue_values.proofs.Leaves.{entity-same, roa-spelled}
 use Rattle.issue_values.proofs.certificates.roa_certificate.Goals as goal

@@ -1,7 +1,7 @@
 use Rattle.std.proofs.Common.{◌≡◌, ◌+◌, [], ◌∷◌, ◌++◌, List, ℕ, length, sym, ◌∙◌, ap, subst, inr, arith, append_assoc, vec_len, rules}
 use Rattle.std.proofs.lemmas.List.{length-append}
 use Rattle.desk_core.specs.View.{View}
-use Rattle.krill_top.specs.Desks.{IsOpeningRefused}
+use Rattle.krill_top.specs.RunDisks.{IsOpeningRefused}
 use Rattle.krill_top.specs.inner.Opened.{IsOpened, AreOpened}
 use Rattle.krill_top.specs.declared.faults.OpenFault.{OpenFault}
 use Rattle.krill_top.proofs.InTurn.{opened_more, opened_length, stopped}

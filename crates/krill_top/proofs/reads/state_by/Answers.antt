@@ -26,7 +26,7 @@ returns-in-Some-2 c =
     let found : c.contains.result ≡ is_there row.published origin = c.contains.ensures.value ∙ ap (λ (l : List Origin). list_any (λ o. has_numbers o origin) l) c.as_slice.ensures ∙ found_there row.published origin in
     let same : c.in-Some-2.row.now ≡ row = same_Some c.in-Some-2.row.now row (sym (ap (λ (r : Option (Bor SheetRow)). option_copied r) c.in-Some-2.is) ∙ known) in
     pending_state (option_copied c.args.row) row origin known (sym found ∙ c.if-contains.false)
-    (subst (λ (r : SheetRow). HasEach (has r.certified) origin.prefix) same (c.is_held.ensures.0 c.if-is_held.true))
+    (subst (λ (r : SheetRow). HasEach (has r.certified) origin.prefix) same (c.is_certified.ensures.0 c.if-is_certified.true))
 
 pub returns-in_default : goal.returns-in_default
 returns-in_default c =
@@ -37,6 +37,6 @@ returns-in_default c =
     let same : c.in-Some-2.row.now ≡ row = same_Some c.in-Some-2.row.now row (sym (ap (λ (r : Option (Bor SheetRow)). option_copied r) c.in-Some-2.is) ∙ known) in
     held_state (option_copied c.args.row) row origin known (sym found ∙ c.if-contains.false)
     (λ each.
-    let held : c.is_held.result ≡ true = c.is_held.ensures.1 (subst (λ (r : SheetRow). HasEach (has r.certified) origin.prefix) (sym same) each) in
-    let none : true ≡ false = sym held ∙ c.if-is_held.false in
+    let held : c.is_certified.result ≡ true = c.is_certified.ensures.1 (subst (λ (r : SheetRow). HasEach (has r.certified) origin.prefix) (sym same) each) in
+    let none : true ≡ false = sym held ∙ c.if-is_certified.false in
     absurd (cc))

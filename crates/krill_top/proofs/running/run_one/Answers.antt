@@ -1,7 +1,7 @@
 use Rattle.std.proofs.Common.{◌⊎◌, List, length, map, inl, inr, sym, ◌∙◌, ap, subst}
 use Rattle.std.specs.Prelude.{Some}
-use Rattle.krill_top.specs.Desks.{IsOpeningRefused}
-use Rattle.krill_top.specs.Ends.{fault_status}
+use Rattle.krill_top.specs.RunDisks.{IsOpeningRefused}
+use Rattle.krill_top.specs.Statuses.{fault_status}
 use Rattle.krill_top.specs.Run.{IsClosedAgain}
 use Rattle.krill_top.proofs.running.run_one.Goals as goal
 

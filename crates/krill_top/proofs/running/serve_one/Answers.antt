@@ -1,7 +1,7 @@
 use Rattle.std.proofs.Common.{◌≡◌, [], ◌∷◌, List, map, sym, ◌∙◌, ap, subst}
 use Rattle.krill_top.specs.declared.serving.SessionEnds.{SessionEnds}
-use Rattle.krill_top.specs.Ends.{run_status}
-use Rattle.krill_top.specs.Ended.{Served}
+use Rattle.krill_top.specs.Statuses.{run_status}
+use Rattle.krill_top.specs.Sessions.{Served}
 use Rattle.krill_top.specs.inner.Opened.{AreClosed}
 use Rattle.krill_top.specs.inner.Instances.{InstanceValue, TimedInstance}
 use Rattle.krill_top.specs.inner.Handlers.{timed}

@@ -5,7 +5,7 @@ use Rattle.signer_api.specs.State.{SignerState}
 use Rattle.krill_top.specs.declared.faults.OpenFault.TheVariants.{WrongCount}
 use Rattle.krill_top.specs.DeskStates.{names_in}
 use Rattle.krill_top.specs.InstanceState.{AreTrusted, default_bases}
-use Rattle.krill_top.specs.Stands.{AreIn}
+use Rattle.krill_top.specs.DesksInStates.{AreIn}
 use Rattle.krill_top.specs.inner.Instances.{IsInState}
 use Rattle.krill_top.specs.inner.Opened.{AreOpened, AreClosed}
 use Rattle.krill_top.specs.Run.{signers_needed}

@@ -5,7 +5,7 @@ use Rattle.desk_core.specs.View.{View}
 use Rattle.krill_top.specs.declared.command_fault.CommandFault.{CommandFault}
 use Rattle.krill_top.specs.Outcomes.{Outcome, Commanded, outcome_of, fault_outcome}
 use Rattle.krill_top.specs.Outcomes.Outcome.{Accepted}
-use Rattle.krill_top.specs.Stands.{AreIn, Leads}
+use Rattle.krill_top.specs.DesksInStates.{AreIn, Leads}
 use Rattle.krill_top.proofs.Commanding.{accepted_step, fault_step, commanded, not_named}
 use Rattle.krill_top.proofs.desks.Desks.command.Goals.{in-Ok, in-Err}
 use Rattle.krill_top.proofs.desks.Desks.command.Goals as goal

@@ -8,7 +8,7 @@ use Rattle.desk_core.specs.View.{View}
 use Rattle.json_api.specs.declared.texts.ListLine.{ListLine}
 use Rattle.krill_top.specs.DeskStates.{settings_at}
 use Rattle.krill_top.specs.Reads.{list_lines}
-use Rattle.krill_top.specs.Stands.{AreIn}
+use Rattle.krill_top.specs.DesksInStates.{AreIn}
 use Rattle.krill_top.proofs.Standing.{At, at_place, settings_there}
 use Rattle.krill_top.proofs.Reading.{list_lines_push}
 use Rattle.krill_top.proofs.desks.Desks.list_lines.Goals as goal

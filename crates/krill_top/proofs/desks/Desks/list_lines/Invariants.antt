@@ -1,7 +1,7 @@
 use Rattle.std.proofs.Common.{◌≡◌, take}
 use Rattle.krill_top.specs.DeskStates.{DeskStates}
 use Rattle.krill_top.specs.Reads.{list_lines}
-use Rattle.krill_top.specs.Stands.{AreIn}
+use Rattle.krill_top.specs.DesksInStates.{AreIn}
 use Rattle.krill_top.proofs.desks.Desks.list_lines.Given as goal
 
 abbrev pub invariant-loop-place : goal.invariant-loop-place

@@ -4,7 +4,7 @@ use Rattle.std.specs.Prelude.{slice_get, Option}
 use Rattle.authority_book.specs.Settings.{Settings}
 use Rattle.desk_core.specs.View.{View}
 use Rattle.krill_top.specs.Reads.{IsRoasText, IsRoasTextAt}
-use Rattle.krill_top.specs.Stands.{AreIn}
+use Rattle.krill_top.specs.DesksInStates.{AreIn}
 use Rattle.krill_top.proofs.Standing.{At, at_place, settings_there}
 use Rattle.krill_top.proofs.Answering.{if_ok_so}
 use Rattle.krill_top.proofs.desks.Desks.roas.Goals as goal

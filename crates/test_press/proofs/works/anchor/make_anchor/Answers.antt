@@ -2,7 +2,7 @@ use Rattle.std.proofs.Common.{List, [], length, sym, subst, ◌∙◌}
 use Rattle.key_roll.specs.declared.rows.KeyRow.{KeyRow}
 use Rattle.key_roll.specs.declared.issued.IssuedRow.{IssuedRow}
 use Rattle.key_roll.specs.declared.work.Work.{Work}
-use Rattle.issue_make.specs.Work.{CanMake}
+use Rattle.issue_make.specs.CanMake.{CanMake}
 use Rattle.test_press.specs.Anchor.{unused_rows}
 use Rattle.test_press.proofs.AnchorFits.{anchor-is-work}
 use Rattle.test_press.proofs.works.anchor.make_anchor.Goals as goal

@@ -16,11 +16,11 @@ use Rattle.issue_drafts.specs.Finding.{Keys, key_named}
 use Rattle.issue_drafts.specs.Certificates.{IssueInput, made_for, standing_for}
 use Rattle.issue_drafts.specs.Drafts.{manifests}
 use Rattle.issue_drafts.specs.Files.{is_kept, folder_at, IsListable}
-use Rattle.issue_make.specs.Outcome.{AreKeys}
-use Rattle.issue_make.specs.Plans.{puts}
+use Rattle.issue_make.specs.Trace.{AreKeys}
+use Rattle.issue_make.specs.ObjectPlan.{puts}
 
-abbrev pub input_of : Work → List NameRow → Issued → Bases → IssueInput
-input_of work names issued site =
+abbrev pub input_with : Work → List NameRow → Issued → Bases → IssueInput
+input_with work names issued site =
     record { work = work; names = names; issued = issued.rows; site = site }
 
 -- The key is there.

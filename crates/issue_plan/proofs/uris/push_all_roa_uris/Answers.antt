@@ -6,7 +6,7 @@ use Rattle.authority_book.specs.declared.rows.NameRow.{NameRow}
 use Rattle.entitle.specs.Certified.{settings_of}
 use Rattle.entitle.specs.declared.trees.Owed.{Owed}
 use Rattle.issue_plan.specs.Uris.{owed_uris, roa_uris}
-use Rattle.issue_plan.proofs.places.push_all_roa_uris.Goals as goal
+use Rattle.issue_plan.proofs.uris.push_all_roa_uris.Goals as goal
 
 pub loop-each-preserved : goal.loop-each-preserved
 loop-each-preserved c =

@@ -8,7 +8,7 @@ use key_roll::RevokedRow;
 /// What the objects of an edition are made of. Each key has its place in the lists. So a place is
 /// an index, the same in each list.
 #[derive(Clone, Copy)]
-pub struct Edition<'a> {
+pub struct SignInput<'a> {
     pub input: &'a IssueInput<'a>,
     /// Where the keys publish.
     pub publishers: &'a [Publisher],

@@ -1,6 +1,6 @@
 -- The objects of an edition before they are signed.
 use Rattle.std.specs.Prelude.{◌≡◌, ◌≢◌, ◌<◌, ◌≤◌, ◌^◌, List, ◌++◌, map, length, All, AllPairs}
-use Rattle.issue_values.specs.Publishing.{publishing}
+use Rattle.issue_values.specs.Publishers.{publishing}
 use Rattle.issue_values.specs.Bodies.{AreRevoked}
 use Rattle.key_roll.specs.declared.rows.KeyRow.{KeyRow}
 use Rattle.issue_keys.specs.Keys.{id_of}

@@ -3,9 +3,9 @@ use Rattle.std.specs.BTreeSet.{contains_text}
 use Rattle.std.proofs.lemmas.List.{take_more}
 use Rattle.key_roll.specs.declared.issued.IssuedRow.{IssuedRow}
 use Rattle.issue_plan.specs.Uris.{is_among, withdrawn}
-use Rattle.issue_plan.proofs.PlaceLemmas.{withdrawn-stays, withdrawn-goes}
-use Rattle.issue_plan.proofs.places.withdrawn.Goals as goal
-use Rattle.issue_plan.proofs.places.withdrawn.Goals.{then-not-contains+in_ok-copy+in_ok-push, else-not-contains}
+use Rattle.issue_plan.proofs.UriLemmas.{withdrawn-stays, withdrawn-goes}
+use Rattle.issue_plan.proofs.uris.withdrawn.Goals as goal
+use Rattle.issue_plan.proofs.uris.withdrawn.Goals.{then-not-contains+in_ok-copy+in_ok-push, else-not-contains}
 
 pub loop-row-preserved : goal.loop-row-preserved
 loop-row-preserved c =

@@ -10,11 +10,11 @@ use Rattle.issue_drafts.specs.Files.{AreListable}
 use Rattle.issue_drafts.specs.Touching.{AreTouched}
 use Rattle.issue_sign.specs.Made.{signed, answers_of, of_drafts, of_manifests, AreMade}
 use Rattle.issue_sign.specs.declared.object.Object.{Object}
-use Rattle.issue_make.specs.Plans.{puts}
-use Rattle.issue_make.specs.inner.Signing.{basis_of}
+use Rattle.issue_make.specs.ObjectPlan.{puts}
+use Rattle.issue_make.specs.inner.Signing.{sign_input_of}
 use Rattle.issue_make.proofs.Stops.{drafts-sign, manifests-sign, stop-behind, short-behind}
 use Rattle.issue_make.proofs.Signed.{is-basis, are-drafts, are-manifests, as-many, as-many-made, lists-of}
-use Rattle.issue_make.proofs.objects.sign.Goals as goal
+use Rattle.issue_make.proofs.objects.sign_objects.Goals as goal
 
 pub returns-in_err-drafted-clause-stopped : goal.returns-in_err-drafted-clause-stopped
 returns-in_err-drafted-clause-stopped g c =
@@ -22,7 +22,7 @@ returns-in_err-drafted-clause-stopped g c =
     rw (p.1, p.2)
     (λ keys rows entries plan is.
     let s = input_of c.args.input.now in
-    let b = basis_of s keys rows entries (λ key. []) in
+    let b = sign_input_of s keys rows entries (λ key. []) in
     stop-behind (of_drafts s b) (map draft_of c.deref-3.result.now) [] c.args.ring.now c.args.ring.now c.sign_drafts.new.ring c.in_err-drafted.field-0.0
     (drafts-sign s b) (λ k d lt. absurd (omega arith)) refl
     (c.in_err-drafted.ensures.stopped b
@@ -35,7 +35,7 @@ returns-in_err-hashes-clause-stopped g c =
     rw (p.1, p.2)
     (λ keys rows entries plan is.
     let s = input_of c.args.input.now in
-    let b = basis_of s keys rows entries (λ key. []) in
+    let b = sign_input_of s keys rows entries (λ key. []) in
     short-behind (of_drafts s b) (signed (map draft_of c.deref-3.result.now) (map answers_of c.in_ok-drafted.drafted.items))
     c.args.ring.now c.sign_drafts.new.ring (drafts-sign s b)
     (c.in_ok-drafted.ensures.made b
@@ -46,7 +46,7 @@ pub files-requires-clause-each : goal.files-requires-clause-each
 files-requires-clause-each g c =
     let s = input_of c.args.input.now in
     let r = c.requires in
-    let b = basis_of s r.keys r.rows r.entries (λ key. []) in
+    let b = sign_input_of s r.keys r.rows r.entries (λ key. []) in
     let made = as-many-made s b (of_drafts s b) (map draft_of c.deref-3.result.now) c.args.ring.now c.sign_drafts.new.ring
     c.in_ok-drafted.drafted.items (signed (map draft_of c.deref-3.result.now) (map answers_of c.in_ok-drafted.drafted.items))
     (c.in_ok-drafted.ensures.made b
@@ -79,7 +79,7 @@ returns-in_err-files-clause-stopped g c =
     rw (p.1, p.2)
     (λ keys rows entries plan is.
     let s = input_of c.args.input.now in
-    let b = basis_of s keys rows entries (λ key. []) in
+    let b = sign_input_of s keys rows entries (λ key. []) in
     short-behind (of_drafts s b) (signed (map draft_of c.deref-3.result.now) (map answers_of c.in_ok-drafted.drafted.items))
     c.args.ring.now c.sign_drafts.new.ring (drafts-sign s b)
     (c.in_ok-drafted.ensures.made b
@@ -101,7 +101,7 @@ returns-in_err-listed-clause-stopped g c =
     (λ keys rows entries plan is.
     let s = input_of c.args.input.now in
     let table = c.in_ok-files.ensures.lists (puts s keys) plan.touched in
-    let b = basis_of s keys rows entries table.of in
+    let b = sign_input_of s keys rows entries table.of in
     let made = signed (map draft_of c.deref-3.result.now) (map answers_of c.in_ok-drafted.drafted.items) in
     stop-behind (of_manifests s b) (map manifest_of c.deref-9.result.now) ((of_drafts s b).calls made)
     c.args.ring.now c.sign_drafts.new.ring c.sign_manifests.new.ring c.in_err-listed.field-0.0
@@ -118,7 +118,7 @@ pub returns-clause-made : goal.returns-clause-made
 returns-clause-made g c = λ keys rows entries plan is.
     let s = input_of c.args.input.now in
     let table = c.in_ok-files.ensures.lists (puts s keys) plan.touched in
-    let b = basis_of s keys rows entries table.of in
+    let b = sign_input_of s keys rows entries table.of in
     let objects = c.in_ok-drafted.drafted.items in
     let listed = c.in_ok-listed.listed.items in record {
       files = table.of;

@@ -5,8 +5,8 @@ use Rattle.std.specs.BTreeSet.{contains_text}
 use Rattle.std.proofs.lemmas.List.{take_more}
 use Rattle.std.proofs.lemmas.Map.Text.{btree_set_updates_text}
 use Rattle.issue_plan.specs.Uris.{is_among}
-use Rattle.issue_plan.proofs.PlaceLemmas.{among_more}
-use Rattle.issue_plan.proofs.places.sorted.Goals as goal
+use Rattle.issue_plan.proofs.UriLemmas.{among_more}
+use Rattle.issue_plan.proofs.uris.sorted.Goals as goal
 
 pub loop-uri-preserved : goal.loop-uri-preserved
 loop-uri-preserved c = λ at.
