@@ -4,6 +4,7 @@ use Rattle.std.specs.Prelude.{AllPairs, ◌⊎◌, IsSome, IfSome}
 use Rattle.pub_set.specs.Objects.{found_at, Rise}
 use Rattle.cert_obj.specs.Values.{is_uri}
 use Rattle.key_ids.specs.Uris.{Bases}
+use Rattle.names.specs.Name.{IsName}
 use Rattle.authority_book.specs.declared.rows.NameRow.{NameRow}
 use Rattle.key_roll.specs.declared.rows.KeyRow.{KeyRow}
 use Rattle.key_roll.specs.declared.issued.Issued.{Issued}
@@ -63,6 +64,8 @@ pub record CanMake (s : IssueInput) (rows : List KeyRow) (signers : ℕ) : Type 
   -- desks that are places in the list of names
   pub new_desks : All (λ new. new.desk < length s.names) s.work.new_keys
   pub desks : All (λ row. row.desk < length s.names) (kept_rows s.work rows)
+  -- names that an authority can have
+  pub plain : All (λ row. IsName row.name) s.names
   -- live keys with identifiers of their own, and numbers below their end
   pub apart : AllPairs (λ a b. id_of a ≢ id_of b) rows
   pub serials : All (λ row. row.next_serial < 2 ^ 62) rows

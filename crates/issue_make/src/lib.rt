@@ -8,7 +8,6 @@ mod issued;
 mod key_rows;
 mod keys;
 mod making;
-mod naming;
 mod objects;
 mod outcome;
 mod outcomes;

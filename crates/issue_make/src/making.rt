@@ -11,7 +11,6 @@ ghost use Rattle.issue_make.specs.inner.Finished.{IsFinished};
 ghost use Rattle.issue_make.specs.Made.{IsMade, IsStop};
 
 use crate::keys::{EditionKeys, edition_keys};
-use crate::naming::can_all_be_named;
 use crate::objects::sign_objects;
 use crate::outcome::Made;
 use crate::outcomes::outcome;
@@ -19,6 +18,7 @@ use crate::plans::{ObjectPlan, plan_objects};
 use authority_book::NameRow;
 use issue_drafts::{IssueInput, KeyFinder};
 use issue_keys::MakeFault;
+use issue_values::can_be_named;
 use key_ids::Site;
 use key_roll::{Issued, KeyRow, Work};
 use signer_api::Signer;
@@ -84,7 +84,7 @@ fn make_in<S: Signer>(
     ensures kept { Keeps ring.old ring.new }
 {
     let keys = edition_keys(alloc, input.work, rows, ring)?;
-    can_all_be_named(input.site, input.names);
+    can_be_named(input.site);
     make_objects(alloc, input, &keys, ring)
 }
 

@@ -53,15 +53,14 @@ pub fn can_publish(site: &Site, publisher: &Publisher)
     is_identifier(&publisher.id.bytes);
 }
 
-/// What the types of a site and of a name say: certificates can name the certificates and the ROAs
-/// that stand there. It does nothing.
-pub fn can_be_named(site: &Site, name: &Name)
+/// What the type of a site says: certificates can name the anchor's certificate there, and the
+/// certificates and the ROAs in the folder of each name that an authority can have. It does nothing.
+pub fn can_be_named(site: &Site)
     ensures anchor { is_uri (anchor_uri site.now) ≡ true }
-    ensures certificate { (key : List ℕ) → is_uri (cert_uri site.now name.now key) ≡ true }
-    ensures roa { (origin : Origin) → is_uri (roa_uri site.now name.now origin) ≡ true }
+    ensures certificate { (name key : List ℕ) → IsName name → is_uri (cert_uri site.now name key) ≡ true }
+    ensures roa { (name : List ℕ) (origin : Origin) → IsName name → is_uri (roa_uri site.now name origin) ≡ true }
 {
     are_bases(site);
-    is_name(name);
 }
 
 /// The URIs of the trust anchor's certificate (RFC 6487 section 4.8.8.1).

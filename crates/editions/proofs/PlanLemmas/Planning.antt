@@ -240,6 +240,7 @@ module _ (laws : AreLaws) (at : PublishedStateValue) (site : Bases) (signers : �
         new_desks = of.new_desks;
         desks = subst (λ (rows : List KeyRow). All (λ row. row.desk < length (names_of basis.configs)) (kept_rows work rows)) follow.rows
             of.desks;
+        plain = follow.typed.names;
         apart = published_state.live.apart;
         serials = follow.counters.serials;
         numbers = follow.counters.numbers;
