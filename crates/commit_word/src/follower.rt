@@ -4,7 +4,7 @@ ghost use mathlib.Core.List.{IsPrefix};
 ghost use Rattle.commit_word.specs.Entries.{Has, ShareNoPlace, joined, longer, IsMadeIn};
 
 use crate::Word;
-use crate::views::{Copies, Load, Look, Meets};
+use crate::views::{Load, Look, Meets};
 use crate::word::Place;
 use std::alloc::{AllocError, Global};
 use std::marker::Model;
@@ -49,7 +49,7 @@ impl Follower {
         ensures taken { IsOk result }
         ensures given { IfOk result (λ f. f ≡ record self.old { mine = [] }) }
     {
-        let seat = word.table.shared.split_seat::<Copies>(&mut self.seat);
+        let seat = word.copied(&mut self.seat);
         Ok(Follower { seat })
     }
 

@@ -4,7 +4,7 @@ ghost use Rattle.std.specs.Prelude.{slice_get, IsOk, IfOk, IfSome, IfNone};
 ghost use mathlib.Core.List.{IsPrefix};
 ghost use Rattle.commit_word.specs.Entries.{ShareNoPlace, StandsIn, IsMadeIn, joined, with_coming};
 
-use crate::views::{Bump, Copies, Look, SetsAside, TakesIn};
+use crate::views::{Bump, Look, SetsAside, TakesIn};
 use crate::word::Place;
 use crate::{Entries, Follower, Word};
 use std::alloc::{AllocError, Global};
@@ -58,7 +58,7 @@ impl Owner {
         ensures taken { IsOk result }
         ensures given { IfOk result (λ f. f ≡ follower_seat self.old []) }
     {
-        let seat = word.table.shared.split_seat::<Copies>(&mut self.seat);
+        let seat = word.copied(&mut self.seat);
         Ok(Follower { seat })
     }
 

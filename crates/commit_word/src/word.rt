@@ -1,10 +1,11 @@
 // The word.
 ghost use Rattle.std.specs.Prelude.{◌≡◌, [], None, length, IfOk};
+ghost use Rattle.commit_word.specs.inner.Steps.{follower_of};
 
 use crate::Entries;
 use crate::owner::Owner;
 use crate::recovered::{Recovered, recovered};
-use crate::views::{Counts, View};
+use crate::views::{Copies, Counts, View};
 use atomic_table::{Seat, Table};
 use std::alloc::{AllocError, Global};
 use std::marker::Model;
@@ -40,6 +41,16 @@ impl Word {
     {
         let (table, seat) = Table::of_words(alloc, &[count], &recovered::<E>())?;
         Ok((Word { table }, Owner { seat }))
+    }
+
+    /// The seat of a follower that has seen what this seat has, and made nothing.
+    pub(crate) fn copied(&self, seat: &mut Place) -> Place
+        requires { seat.old.table_id ≡ self.now }
+        ensures same { (seat.new.table_id ≡ seat.old.table_id) × (seat.new.me ≡ seat.old.me) }
+        ensures given { (result.table_id ≡ self.now)
+            × (result.me ≡ (follower_of seat.old.me.0 [], [])) }
+    {
+        self.table.shared.split_seat::<Copies>(seat)
     }
 
     /// The length of the list at the end.
