@@ -14,10 +14,12 @@ use std::io::ErrorKind;
 use thiserror::Error;
 
 mod counting;
+mod schedule;
 mod script;
 mod tally;
 
 pub use counting::raised;
+pub use schedule::Schedule;
 pub use script::{Play, Script};
 pub use tally::Tally;
 

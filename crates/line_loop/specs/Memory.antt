@@ -1,32 +1,9 @@
 -- What is seen of the ends in memory.
-use Rattle.std.specs.Prelude.{◌≡◌, ℕ, zero, suc, ◌+◌, ◌-◌, ◌^◌, min, List, [], ◌∷◌, drop, Contains}
-use Rattle.line_loop.specs.declared.memory.Schedule.{Schedule}
+use Rattle.std.specs.Prelude.{ℕ, zero, suc, List, [], ◌∷◌, drop}
+use Rattle.host_calls.specs.declared.schedule.Schedule.{Schedule}
 use Rattle.line_loop.specs.declared.memory.MemorySource.{MemorySource}
 use Rattle.line_loop.specs.declared.memory.MemorySink.{MemorySink}
 use Rattle.line_loop.specs.declared.memory.ListClock.{ListClock}
-
--- the number of the next call, from 1, which stands at the last value of a u64
-abbrev pub next_call : Schedule → ℕ
-next_call schedule = min (schedule.calls + 1) (2 ^ 64 - 1)
-
--- the next call is one of those that are to fail
-abbrev pub IsToFail : Schedule → Type 0
-IsToFail schedule = Contains schedule.fails.items (next_call schedule)
-
--- no call was made yet, and these are to fail
-pub record IsFresh (schedule : Schedule) (fails : List ℕ) : Type 0 where
-  pub fails_are : schedule.fails.items ≡ fails
-  pub no_call : schedule.calls ≡ 0
-  pub no_fault : schedule.faults ≡ 0
-
--- how many calls have failed
-abbrev pub fault_count : Schedule → ℕ
-fault_count schedule = schedule.faults
-
--- a call was counted
-pub record CountsCall (old new : Schedule) : Type 0 where
-  pub calls : new.calls ≡ next_call old
-  pub fails : new.fails.items ≡ old.fails.items
 
 -- the bytes that a source will still give
 abbrev pub source_left : MemorySource → List ℕ
@@ -36,6 +13,7 @@ source_left source = drop source.at source.bytes.items
 abbrev pub source_piece : MemorySource → ℕ
 source_piece source = source.piece
 
+-- which of its calls fail
 abbrev pub source_schedule : MemorySource → Schedule
 source_schedule source = source.schedule
 
@@ -47,6 +25,7 @@ sink_bytes sink = sink.bytes.items
 abbrev pub sink_piece : MemorySink → ℕ
 sink_piece sink = sink.piece
 
+-- which of its calls fail
 abbrev pub sink_schedule : MemorySink → Schedule
 sink_schedule sink = sink.schedule
 

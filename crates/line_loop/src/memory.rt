@@ -1,51 +1,13 @@
 // Ends in memory, whose calls fail where they are told to.
 ghost use Rattle.std.specs.Prelude.{◌≡◌, ◌≢◌, ◌↔◌, ℕ, ◌+◌, ◌-◌, ◌^◌, ◌<◌, ◌≤◌, Some, Err, List, [], ◌++◌, length, take, drop, min, vec_len, IsTrue, IfOk, OnOk, OnErr};
-ghost use Rattle.std.specs.Bool.{OnTrue, OnFalse};
 ghost use Rattle.std.specs.Io.KnownBytes.{ReadConsumes};
 ghost use Rattle.line_loop.specs.Taking.{TakesFront};
 ghost use Rattle.host_calls.specs.Rise.{HasRisen};
+ghost use Rattle.host_calls.specs.Schedule.{IsFresh, CountsCall, fails_next, faults_of};
 
 use crate::{Clock, Sink, SinkStop, Source, SourceStop};
-use host_calls::raised;
+use host_calls::Schedule;
 use std::alloc::Global;
-
-/// Which calls of an end are to fail.
-#[derive(Drop)]
-pub struct Schedule {
-    fails: Vec<u64>,
-    calls: u64,
-    faults: u64,
-}
-
-impl Schedule {
-    ghost use Rattle.line_loop.specs.Memory.{IsToFail, IsFresh, CountsCall};
-
-    fn new(fails: Vec<u64>) -> Self
-        ensures { IsFresh result fails.items }
-    {
-        Schedule {
-            fails,
-            calls: 0,
-            faults: 0,
-        }
-    }
-
-    // Counts a call, and its fault where it is to fail.
-    fn count_call(&mut self) -> bool
-        ensures fails { IsTrue result ↔ IsToFail self.old }
-        ensures counts { CountsCall self.old self.new }
-        ensures fault { OnTrue result (HasRisen self.old.faults self.new.faults) }
-        ensures no_fault { OnFalse result (self.new.faults ≡ self.old.faults) }
-    {
-        self.calls = self.calls.saturating_add(1);
-        let call = self.calls;
-        let is_to_fail = self.fails.contains(&call);
-        if is_to_fail {
-            self.faults = raised(self.faults);
-        }
-        is_to_fail
-    }
-}
 
 /// A source that gives these bytes and then its end.
 #[derive(Drop)]
@@ -59,7 +21,7 @@ pub struct MemorySource {
 }
 
 impl MemorySource {
-    ghost use Rattle.line_loop.specs.Memory.{IsFresh, source_left, source_piece, source_schedule};
+    ghost use Rattle.line_loop.specs.Memory.{source_left, source_piece, source_schedule};
 
     /// A source whose calls of these numbers, from 1, fail.
     pub fn new(bytes: Vec<u8>, fails: Vec<u64>) -> Self
@@ -97,22 +59,22 @@ pub(crate) fn copy_front(from: &[u8], into: &mut [u8], most: usize) -> usize
 }
 
 impl Source for MemorySource {
-    ghost use Rattle.line_loop.specs.Memory.{source_left, source_piece, source_schedule, fault_count, IsToFail, CountsCall};
+    ghost use Rattle.line_loop.specs.Memory.{source_left, source_piece, source_schedule};
 
     ghost left = { λ source. Some (source_left source) };
 
-    ghost fault_count = { λ source. fault_count (source_schedule source) };
+    ghost fault_count = { λ source. faults_of (source_schedule source) };
 
     fn take(&mut self, _alloc: Global, into: &mut [u8]) -> Result<usize, SourceStop>
         ensures room { IfOk result (λ n. n ≤ length into.new) }
         ensures bytes { ReadConsumes (Some (source_left self.old)) (Some (source_left self.new)) result into.new }
-        ensures later { fault_count (source_schedule self.old) ≤ fault_count (source_schedule self.new) }
+        ensures later { faults_of (source_schedule self.old) ≤ faults_of (source_schedule self.new) }
         ensures fault { result ≡ Err SourceStop.Fault →
-            HasRisen (fault_count (source_schedule self.old)) (fault_count (source_schedule self.new)) }
+            HasRisen (faults_of (source_schedule self.old)) (faults_of (source_schedule self.new)) }
 
         // It fails where it is told to and nowhere else, and gives what there is room for.
-        ensures fails { (result ≡ Err SourceStop.Fault) ↔ IsToFail (source_schedule self.old) }
-        ensures ok { OnOk result (fault_count (source_schedule self.new) ≡ fault_count (source_schedule self.old)) }
+        ensures fails { (result ≡ Err SourceStop.Fault) ↔ IsTrue (fails_next (source_schedule self.old)) }
+        ensures ok { OnOk result (faults_of (source_schedule self.new) ≡ faults_of (source_schedule self.old)) }
         ensures memory { result ≢ Err SourceStop.Memory }
         ensures count { IfOk result (λ n. n ≡
             min (length (source_left self.old)) (min (length into.old) (source_piece self.old))) }
@@ -138,7 +100,7 @@ pub struct MemorySink {
 }
 
 impl MemorySink {
-    ghost use Rattle.line_loop.specs.Memory.{IsFresh, sink_bytes, sink_piece, sink_schedule};
+    ghost use Rattle.line_loop.specs.Memory.{sink_bytes, sink_piece, sink_schedule};
 
     /// An empty sink, whose calls of these numbers, from 1, fail.
     pub fn new(alloc: Global, fails: Vec<u64>) -> Self
@@ -172,24 +134,24 @@ impl MemorySink {
 }
 
 impl Sink for MemorySink {
-    ghost use Rattle.line_loop.specs.Memory.{sink_bytes, sink_piece, sink_schedule, fault_count, IsToFail, CountsCall};
+    ghost use Rattle.line_loop.specs.Memory.{sink_bytes, sink_piece, sink_schedule};
 
     ghost taken = { λ sink. Some (sink_bytes sink) };
 
-    ghost fault_count = { λ sink. fault_count (sink_schedule sink) };
+    ghost fault_count = { λ sink. faults_of (sink_schedule sink) };
 
     fn give(&mut self, _alloc: Global, bytes: &[u8]) -> Result<usize, SinkStop>
         ensures piece { IfOk result (λ n. n ≤ length bytes.now) }
         ensures some { IfOk result (λ n. 0 < length bytes.now → 0 < n) }
         ensures bytes { TakesFront (Some (sink_bytes self.old)) (Some (sink_bytes self.new)) result bytes.now }
         ensures none { OnErr result (sink_bytes self.new ≡ sink_bytes self.old) }
-        ensures later { fault_count (sink_schedule self.old) ≤ fault_count (sink_schedule self.new) }
+        ensures later { faults_of (sink_schedule self.old) ≤ faults_of (sink_schedule self.new) }
         ensures fault { result ≡ Err SinkStop.Fault →
-            HasRisen (fault_count (sink_schedule self.old)) (fault_count (sink_schedule self.new)) }
+            HasRisen (faults_of (sink_schedule self.old)) (faults_of (sink_schedule self.new)) }
 
         // It fails where it is told to and nowhere else.
-        ensures fails { (result ≡ Err SinkStop.Fault) ↔ IsToFail (sink_schedule self.old) }
-        ensures ok { OnOk result (fault_count (sink_schedule self.new) ≡ fault_count (sink_schedule self.old)) }
+        ensures fails { (result ≡ Err SinkStop.Fault) ↔ IsTrue (fails_next (sink_schedule self.old)) }
+        ensures ok { OnOk result (faults_of (sink_schedule self.new) ≡ faults_of (sink_schedule self.old)) }
         ensures count { IfOk result (λ n. n ≡ min (length bytes.now) (sink_piece self.old)) }
         ensures counts { CountsCall (sink_schedule self.old) (sink_schedule self.new) }
         ensures same_piece { sink_piece self.new ≡ sink_piece self.old }
