@@ -9,6 +9,7 @@ pub mod History
 pub mod Tables
 pub mod Lasts
 pub mod Crls
+pub mod NewCrls
 pub mod Noted
 pub mod Stepped
 pub mod Rising

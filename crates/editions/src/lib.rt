@@ -32,8 +32,9 @@ pub use making_laws::{the_table_goes_on, what_is_planned_and_made_follows};
 pub use object_laws::{
     all_that_is_made_is_new, certificates_have_own_serials, each_key_has_one_crl,
     issued_entries_are_told, issued_objects_are_new_ones, issued_rows_are_counted, manifests_rise,
-    objects_are_of_one_kind, puts_and_withdrawals_are_needed, rows_note_what_is_superseded,
-    the_plans_keys_are_next, what_is_made_did_not_stand, what_is_put_stands,
+    new_crls_list_what_is_superseded, objects_are_of_one_kind, puts_and_withdrawals_are_needed,
+    rows_note_what_is_superseded, the_plans_keys_are_next, what_is_made_did_not_stand,
+    what_is_put_stands,
 };
 pub use plan_laws::{
     made_keys_are_live, made_keys_have_signers, other_uris_are_clear, planned_work_can_be_made,

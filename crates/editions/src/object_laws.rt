@@ -1,8 +1,10 @@
 //! Laws of editions that follow one another. Among them: serials are a key's own (RFC 5280 section
 //! 4.1.2.2), and manifests rise (RFC 9286 section 4.2.1).
 
-ghost use Rattle.std.specs.Prelude.{◌≡◌, ◌<◌, ℕ, List, None, Some, [], ◌∷◌, ◌++◌, Contains, All, AllPairs, map, ◌≢◌};
+ghost use Rattle.std.specs.Prelude.{◌≡◌, ◌<◌, ℕ, List, None, Some, [], ◌∷◌, ◌++◌, Contains, All, AllPairs, map, length, ◌≢◌};
 ghost use Rattle.key_roll.specs.declared.rows.KeyRow.{KeyRow};
+ghost use Rattle.key_roll.specs.declared.rows.RevokedRow.{RevokedRow};
+ghost use Rattle.issue_values.specs.Bodies.{crl_entry};
 ghost use Rattle.cert_obj.specs.Values.{SignedCert};
 ghost use Rattle.crl_obj.specs.Values.{SignedCrl};
 ghost use Rattle.cms_obj.specs.Values.{ObjectValue};
@@ -44,7 +46,7 @@ ghost use Rattle.issue_keys.specs.Keys.{id_of};
 ghost use Rattle.editions.specs.Edition.{Edition, state_after, set_after, AreChanges};
 ghost use Rattle.editions.specs.Table.{IsTable};
 ghost use Rattle.editions.specs.Held.{HaveOwnSerials};
-ghost use Rattle.editions.specs.Superseded.{IsCrlOf};
+ghost use Rattle.editions.specs.Superseded.{AreSuperseded, IsCrlOf};
 ghost use Rattle.editions.specs.Published.{ManifestsRise};
 ghost use Rattle.editions.specs.Step.{Premises, IsStep, AreSteps, counted};
 ghost use Rattle.editions.specs.inner.ByRows.{IsStepByRows, AreListed};
@@ -80,6 +82,18 @@ pub fn each_key_has_one_crl()
         → AreSteps premises (editions ++ edition ∷ [])
         → IsCrlOf (set_after (editions ++ edition ∷ [])) id one
         → IsCrlOf (set_after (editions ++ edition ∷ [])) id other → one ≡ other }
+{}
+
+/// A CRL that an edition puts lists just the certificates that are superseded under its key (RFC 5280 section 5, RFC 6487
+/// section 5), each with the moment of the edition that superseded it.
+pub fn new_crls_list_what_is_superseded()
+    ensures { (premises : Premises) (editions : List Edition) (edition : Edition)
+        (uri bytes : List ℕ) (crl : SignedCrl)
+        → AreSteps premises (editions ++ edition ∷ [])
+        → set_after (editions ++ edition ∷ []) uri ≡ Some bytes
+        → set_after editions uri ≢ Some bytes → crl_in bytes ≡ Some crl
+        → (entries : List RevokedRow) × (crl.crl.entries ≡ map crl_entry entries)
+        × AreSuperseded (editions ++ edition ∷ []) (length editions) crl.crl.issuer entries }
 {}
 
 /// A manifest that takes the place of another has a greater number and a later thisUpdate (RFC 9286

@@ -12,3 +12,4 @@ mod Shut
 mod Ended
 mod GoesOn
 mod Worked
+mod Crls

@@ -1,10 +1,12 @@
 //! The theorem.
 
-ghost use Rattle.std.specs.Prelude.{◌≡◌, ℕ, ◌+◌, ◌≤◌, ◌++◌, ◌∷◌, [], List, Bool, false, Option, None, Some, drop, take};
+ghost use Rattle.std.specs.Prelude.{◌≡◌, ◌≢◌, ℕ, ◌+◌, ◌≤◌, ◌++◌, ◌∷◌, [], List, Bool, false, Option, None, Some, drop, take};
 ghost use Rattle.authority_book.specs.declared.commands.Command.{Command};
 ghost use Rattle.key_ids.specs.Base.{IsBase, rsync_scheme};
 ghost use Rattle.key_ids.specs.Uris.{Bases};
 ghost use Rattle.signer_api.specs.State.{SignerState};
+ghost use Rattle.crl_obj.specs.Values.{SignedCrl};
+ghost use Rattle.rp_rules.specs.Objects.{crl_in};
 ghost use Rattle.rrdp_text.specs.Values.{IsUuid};
 ghost use Rattle.editions.specs.Edition.{Edition};
 ghost use Rattle.editions.specs.Held.{HaveOwnSerials};
@@ -19,13 +21,14 @@ ghost use Rattle.histories.specs.Acknowledged.{acknowledged, commands_of, editio
 ghost use Rattle.histories.specs.Found.{AreFoundAfter, TakesIn, reopening_by, store_after};
 ghost use Rattle.histories.specs.Refused.{IsReopening, AreNoReopenings};
 ghost use Rattle.histories.specs.Worked.{worked};
-ghost use Rattle.histories.specs.Published.{HasEdition, HasSnapshot, HasDelta, set_of, applied};
+ghost use Rattle.histories.specs.Published.{HasEdition, HasSnapshot, HasDelta, ListsSuperseded, set_of, applied};
 
 use cmd_codec::listed_names_are_names;
 use editions::{
     accepted_names_are_apart, certificates_have_own_serials, editions_are_published,
-    editions_follow_one_another, editions_leave_a_set, manifests_rise, steps_count_up,
-    steps_stay_steps, what_is_planned_and_made_follows,
+    editions_follow_one_another, editions_leave_a_set, manifests_rise,
+    new_crls_list_what_is_superseded, steps_count_up, steps_stay_steps, superseded_by_then,
+    what_is_planned_and_made_follows,
 };
 use issue_values::origin_texts_are_ascii;
 use rrdp_text::texts_are_read_back;
@@ -74,6 +77,12 @@ pub fn headline()
     ensures delta_texts { (site : Bases) (history : History) (session : List ℕ) (serial : ℕ) (edition : Edition)
         → IsBase rsync_scheme site.rsync → IsUuid session → IsLegal site history
         → HasEdition history serial edition → HasDelta session edition }
+    // A CRL that it puts lists just the certificates that are superseded under its key.
+    ensures crls { (site : Bases) (history : History) (serial : ℕ) (edition : Edition)
+        (uri bytes : List ℕ) (crl : SignedCrl) → IsLegal site history
+        → HasEdition history (serial + 1) edition
+        → set_of history (serial + 1) uri ≡ Some bytes → set_of history serial uri ≢ Some bytes
+        → crl_in bytes ≡ Some crl → ListsSuperseded history serial crl }
     // A manifest that takes the place of another rises, and no two certificates of a key's life have one serial.
     ensures manifests { (site : Bases) (history : History) (serial : ℕ) (edition : Edition)
         → IsLegal site history → HasEdition history (serial + 1) edition
@@ -88,9 +97,11 @@ pub fn headline()
     editions_leave_a_set();
     listed_names_are_names();
     manifests_rise();
+    new_crls_list_what_is_superseded();
     origin_texts_are_ascii();
     steps_count_up();
     steps_stay_steps();
+    superseded_by_then();
     texts_are_read_back();
 }
 

@@ -2,6 +2,7 @@ use Rattle.histories.specs.Devices.{new_store}
 use Rattle.histories.proofs.Growing.{starts_legal}
 use Rattle.histories.proofs.Holds.{found, commands_stand, editions_stand, commands, limits, steps, number, published, cuts, deltas, manifests}
 use Rattle.histories.proofs.Shown.{snapshots, delta_texts}
+use Rattle.histories.proofs.Crls.{crls}
 use Rattle.histories.proofs.laws.headline.Goals as goal
 
 pub returns-clause-beginnings : goal.returns-clause-beginnings
@@ -58,3 +59,8 @@ returns-clause-delta_texts c = λ site history session serial edition base uuid 
     delta_texts c.steps_stay_steps.ensures.one c.accepted_names_are_apart.ensures c.listed_names_are_names.ensures c.origin_texts_are_ascii.ensures
     site base history legal c.steps_count_up.ensures.serials c.texts_are_read_back.ensures.deltas
     session uuid serial edition has
+
+pub returns-clause-crls : goal.returns-clause-crls
+returns-clause-crls c = λ site history serial edition uri bytes crl legal has.
+    crls c.steps_stay_steps.ensures.one site history legal c.new_crls_list_what_is_superseded.ensures c.superseded_by_then.ensures
+    serial edition has uri bytes crl
