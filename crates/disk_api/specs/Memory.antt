@@ -1,6 +1,8 @@
 -- A disk in memory, as the trait sees it.
-use Rattle.std.specs.Prelude.{◌≡◌, ℕ, zero, ◌+◌, ◌-◌, ◌^◌, ◌≤◌, ◌==◌, ◌||◌, min, Bool, true, false, cond, Option, None, Some, List, [], ◌∷◌, ◌++◌, length, take}
-use Rattle.std.specs.List.{list_any}
+use Rattle.std.specs.Prelude.{◌≡◌, ℕ, zero, ◌-◌, ◌≤◌, ◌||◌, Bool, true, false, cond, Option, None, Some, List, [], ◌∷◌, ◌++◌, length, take}
+use Rattle.host_calls.specs.Schedule as schedule
+use Rattle.host_calls.specs.Schedule.{faults_of}
+use Rattle.host_calls.specs.declared.schedule.Schedule.{Schedule}
 use Rattle.disk_api.specs.Steps.{IsImageAfter}
 use Rattle.disk_api.specs.declared.step.Step.{Step}
 use Rattle.disk_api.specs.declared.memory.MemoryDisk.{MemoryDisk}
@@ -21,9 +23,9 @@ IsImage m c = IsImageAfter m.first.items (λ e. e ≡ m.first.items) m.steps.ite
 abbrev pub IsImageSince : MemoryDisk → ℕ → List ℕ → Type 0
 IsImageSince m t c = (k : ℕ) × (t ≤ k) × (k ≤ length m.steps.items) × IsImageAt m k c
 
--- the number of the next call, from 1, which stands still at the last value of a u64
-abbrev pub next_call : MemoryDisk → ℕ
-next_call m = min (m.calls + 1) (2 ^ 64 - 1)
+-- which numbered calls fail, and how often one did
+abbrev pub memory_schedule : MemoryDisk → Schedule
+memory_schedule m = m.schedule
 
 -- no call goes on any more
 abbrev pub is_stopped : Option ℕ → Bool
@@ -35,14 +37,11 @@ abbrev pub left_after : Option ℕ → Option ℕ
 left_after None = None
 left_after (Some n) = Some (n - 1)
 
--- the next call is one that is to fail
+-- the next call is one that is to fail, by its number or since the disk has stopped
 abbrev pub fails_next : MemoryDisk → Bool
-fails_next m = is_stopped m.left || list_any (λ n. n == next_call m) m.fails.items
+fails_next m = is_stopped m.left || schedule.fails_next (memory_schedule m)
 
--- the numbers of the calls that are to fail, and of the calls that go on before the disk stops
-abbrev pub memory_fails : MemoryDisk → List ℕ
-memory_fails m = m.fails.items
-
+-- how many calls go on before the disk stops, where it is to stop
 abbrev pub memory_left : MemoryDisk → Option ℕ
 memory_left m = m.left
 
@@ -52,12 +51,6 @@ pub record IsSameFile (old new : MemoryDisk) : Type 0 where
   pub steps : new.steps.items ≡ old.steps.items
   pub bytes : memory_bytes new ≡ memory_bytes old
 
--- its calls go on and fail as those of the other
-pub record IsSameScript (old new : MemoryDisk) : Type 0 where
-  pub calls : new.calls ≡ old.calls
-  pub left : new.left ≡ old.left
-  pub fails : new.fails.items ≡ old.fails.items
-
 -- a change was made, or a sync
 pub record TakesStep (old new : MemoryDisk) (step : Step) : Type 0 where
   pub first : new.first.items ≡ old.first.items
@@ -65,13 +58,12 @@ pub record TakesStep (old new : MemoryDisk) (step : Step) : Type 0 where
 
 -- a call was counted
 pub record CountsCall (old new : MemoryDisk) : Type 0 where
-  pub calls : next_call new ≡ min (next_call old + 1) (2 ^ 64 - 1)
+  pub numbered : schedule.CountsCall (memory_schedule old) (memory_schedule new)
   pub left : memory_left new ≡ left_after (memory_left old)
-  pub fails : memory_fails new ≡ memory_fails old
 
 -- how many changes and syncs there were, and how often it has failed
 abbrev pub memory_moment : MemoryDisk → ℕ
 memory_moment m = length m.steps.items
 
 abbrev pub memory_faults : MemoryDisk → ℕ
-memory_faults m = m.faults
+memory_faults m = faults_of (memory_schedule m)

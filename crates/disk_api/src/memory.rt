@@ -1,13 +1,15 @@
 // A disk in memory, which keeps each change, so that each moment's images are known and can be made.
 ghost use Rattle.std.specs.Prelude.{◌≡◌, ◌+◌, ◌-◌, ◌≤◌, ℕ, min, Some, None, IsTrue, true, cond, length, vec_len, vec_capacity, ◌<◌, IfOk, OnOk, OnErr, ◌↔◌, IsErrOf, [], ◌∷◌, ◌++◌};
 ghost use Rattle.disk_api.specs.Content.{overwritten, cut_to, Gives};
+ghost use Rattle.std.specs.Bool.{OnTrue, OnFalse};
 ghost use Rattle.host_calls.specs.Rise.{HasRisen};
+ghost use Rattle.host_calls.specs.Schedule.{IsFresh, IsSameScript};
 ghost use Rattle.disk_api.specs.Steps.{content_after, steps_fit};
 
 use crate::image::{replayed, synced, torn};
 use crate::step::{Step, overwrite};
 use crate::{Disk, DiskStop};
-use host_calls::raised;
+use host_calls::Schedule;
 use std::alloc::{AllocError, Global};
 
 /// A file in memory, whose calls can be made to fail and whose crash images can be taken.
@@ -21,36 +23,30 @@ pub struct MemoryDisk {
     // What a read gives, from the first change on.
     bytes: Vec<u8>,
     is_copied: bool,
-    calls: u64,
-    fails: Vec<u64>,
+    schedule: Schedule,
     left: Option<u64>,
-    faults: u64,
     ghost held: { cond is_copied bytes.items first.items ≡ content_after first.items steps.items },
     ghost fit: { IsTrue (steps_fit first.items steps.items) },
 }
 
 impl MemoryDisk {
-    ghost use Rattle.disk_api.specs.Memory.{memory_bytes, memory_fails, memory_left, memory_faults, IsImage, next_call, fails_next, is_stopped, IsSameFile, IsSameScript, CountsCall, TakesStep};
+    ghost use Rattle.disk_api.specs.Memory.{memory_bytes, memory_schedule, memory_left, memory_faults, IsImage, fails_next, is_stopped, IsSameFile, CountsCall, TakesStep};
 
     /// A file with these bytes, all of them on the disk. `fails` has the numbers, from 1, of the
     /// calls that are to fail: each call but `faults` counts.
     pub fn new(alloc: Global, bytes: Vec<u8>, fails: Vec<u64>) -> Self
         ensures content { memory_bytes result ≡ bytes.items }
         ensures images { (c : _) → IsImage result c ↔ (c ≡ bytes.items) }
-        ensures fails { memory_fails result ≡ fails.items }
-        ensures first_call { next_call result ≡ 1 }
+        ensures fresh { IsFresh (memory_schedule result) fails.items }
         ensures unstopped { memory_left result ≡ None }
-        ensures no_fault { memory_faults result ≡ 0 }
     {
         MemoryDisk {
             first: bytes,
             steps: Vec::new(alloc),
             bytes: Vec::new(alloc),
             is_copied: false,
-            calls: 0,
-            fails,
+            schedule: Schedule::new(fails),
             left: None,
-            faults: 0,
         }
     }
 
@@ -58,9 +54,7 @@ impl MemoryDisk {
     pub fn stop_after(&mut self, calls: u64)
         ensures left { memory_left self.new ≡ Some calls }
         ensures file { IsSameFile self.old self.new }
-        ensures fails { memory_fails self.new ≡ memory_fails self.old }
-        ensures calls { next_call self.new ≡ next_call self.old }
-        ensures faults { memory_faults self.new ≡ memory_faults self.old }
+        ensures schedule { memory_schedule self.new ≡ memory_schedule self.old }
     {
         self.left = Some(calls);
     }
@@ -88,38 +82,44 @@ impl MemoryDisk {
         torn(alloc, bytes, rest, pick)
     }
 
-    /// Counts a call, and says whether it is one that is to fail.
+    /// Counts a call, and says whether it is one that is to fail. Where it is, its failure is counted
+    /// too.
     fn is_failing(&mut self) -> bool
         ensures fails { result ≡ fails_next self.old }
         ensures counts { CountsCall self.old self.new }
         ensures file { IsSameFile self.old self.new }
-        ensures faults { self.new.faults ≡ self.old.faults }
+        ensures risen { OnTrue result (HasRisen (memory_faults self.old) (memory_faults self.new)) }
+        ensures same { OnFalse result (memory_faults self.new ≡ memory_faults self.old) }
     {
-        self.calls = self.calls.saturating_add(1);
+        let is_listed = self.schedule.count_call();
         let is_stopped = self.left == Some(0);
         if let Some(left) = self.left {
             self.left = Some(left.saturating_sub(1));
         }
-        is_stopped || self.fails.contains(&self.calls)
+        if is_stopped && !is_listed {
+            self.schedule.count_fault();
+        }
+        is_stopped || is_listed
     }
 
-    /// Counts a failure, and hands on what it is.
-    fn stopped(&mut self, stop: DiskStop) -> DiskStop
-        ensures stop { result ≡ stop }
-        ensures risen { HasRisen self.old.faults self.new.faults }
+    /// Counts that memory was wanting.
+    fn short_of_memory(&mut self) -> DiskStop
+        ensures stop { result ≡ DiskStop.Memory }
+        ensures risen { HasRisen (memory_faults self.old) (memory_faults self.new) }
         ensures file { IsSameFile self.old self.new }
-        ensures calls { IsSameScript self.old self.new }
+        ensures script { IsSameScript (memory_schedule self.old) (memory_schedule self.new) }
+        ensures left { memory_left self.new ≡ memory_left self.old }
     {
-        self.faults = raised(self.faults);
-        stop
+        self.schedule.count_fault();
+        DiskStop::Memory
     }
 
     /// Makes the bytes that are to be changed, where there was no change yet.
     fn copy_first(&mut self, alloc: Global) -> Result<(), AllocError>
         ensures copied { OnOk result (self.new.is_copied ≡ true) }
         ensures file { IsSameFile self.old self.new }
-        ensures calls { IsSameScript self.old self.new }
-        ensures faults { self.new.faults ≡ self.old.faults }
+        ensures schedule { memory_schedule self.new ≡ memory_schedule self.old }
+        ensures left { memory_left self.new ≡ memory_left self.old }
     {
         if !self.is_copied {
             self.bytes = self.first.to_vec(alloc)?;
@@ -133,8 +133,8 @@ impl MemoryDisk {
         ensures done { OnOk result ((kept : _) × (kept.items ≡ bytes.now) × TakesStep self.old self.new (Step.Write at kept)) }
         ensures bytes { OnOk result (memory_bytes self.new ≡ overwritten at bytes.now (memory_bytes self.old)) }
         ensures err { OnErr result (IsSameFile self.old self.new) }
-        ensures calls { IsSameScript self.old self.new }
-        ensures faults { self.new.faults ≡ self.old.faults }
+        ensures schedule { memory_schedule self.new ≡ memory_schedule self.old }
+        ensures left { memory_left self.new ≡ memory_left self.old }
     {
         let kept = bytes.to_vec(alloc)?;
         self.copy_first(alloc)?;
@@ -148,8 +148,8 @@ impl MemoryDisk {
         ensures done { OnOk result (TakesStep self.old self.new (Step.Cut len)) }
         ensures bytes { OnOk result (memory_bytes self.new ≡ cut_to len (memory_bytes self.old)) }
         ensures err { OnErr result (IsSameFile self.old self.new) }
-        ensures calls { IsSameScript self.old self.new }
-        ensures faults { self.new.faults ≡ self.old.faults }
+        ensures schedule { memory_schedule self.new ≡ memory_schedule self.old }
+        ensures left { memory_left self.new ≡ memory_left self.old }
     {
         self.copy_first(alloc)?;
         self.steps.push(Step::Cut(len))?;
@@ -161,8 +161,8 @@ impl MemoryDisk {
         ensures done { OnOk result (TakesStep self.old self.new Step.Sync) }
         ensures bytes { memory_bytes self.new ≡ memory_bytes self.old }
         ensures err { OnErr result (IsSameFile self.old self.new) }
-        ensures calls { IsSameScript self.old self.new }
-        ensures faults { self.new.faults ≡ self.old.faults }
+        ensures schedule { memory_schedule self.new ≡ memory_schedule self.old }
+        ensures left { memory_left self.new ≡ memory_left self.old }
     {
         self.steps.push(Step::Sync)?;
         Ok(())
@@ -185,7 +185,7 @@ impl Disk for MemoryDisk {
 
     ghost left_since = { IsImageSince };
 
-    ghost fault_count = { λ m. m.faults };
+    ghost fault_count = { memory_faults };
 
     ghost left_as_read = { bytes_are_left };
 
@@ -207,7 +207,7 @@ impl Disk for MemoryDisk {
         ensures memory { result ≢ Err DiskStop.Memory }
     {
         if self.is_failing() {
-            return Err(self.stopped(DiskStop::Fault));
+            return Err(DiskStop::Fault);
         }
         Ok(self.bytes().len() as u64)
     }
@@ -228,7 +228,7 @@ impl Disk for MemoryDisk {
         ensures most { IfOk result (λ n. n ≡ min (length (memory_bytes self.old) - at) (length into.old)) }
     {
         if self.is_failing() {
-            return Err(self.stopped(DiskStop::Fault));
+            return Err(DiskStop::Fault);
         }
         Ok(read_from(self.bytes(), at, into))
     }
@@ -255,11 +255,11 @@ impl Disk for MemoryDisk {
         ensures ok { OnOk result (memory_faults self.new ≡ memory_faults self.old) }
     {
         if self.is_failing() {
-            return Err(self.stopped(DiskStop::Fault));
+            return Err(DiskStop::Fault);
         }
         match self.put(alloc, at as usize, bytes) {
             Ok(()) => Ok(()),
-            Err(AllocError) => Err(self.stopped(DiskStop::Memory)),
+            Err(AllocError) => Err(self.short_of_memory()),
         }
     }
 
@@ -281,11 +281,11 @@ impl Disk for MemoryDisk {
         ensures ok { OnOk result (memory_faults self.new ≡ memory_faults self.old) }
     {
         if self.is_failing() {
-            return Err(self.stopped(DiskStop::Fault));
+            return Err(DiskStop::Fault);
         }
         match self.shorten(alloc, len as usize) {
             Ok(()) => Ok(()),
-            Err(AllocError) => Err(self.stopped(DiskStop::Memory)),
+            Err(AllocError) => Err(self.short_of_memory()),
         }
     }
 
@@ -307,16 +307,16 @@ impl Disk for MemoryDisk {
         ensures ok { OnOk result (memory_faults self.new ≡ memory_faults self.old) }
     {
         if self.is_failing() {
-            return Err(self.stopped(DiskStop::Fault));
+            return Err(DiskStop::Fault);
         }
         match self.settle() {
             Ok(()) => Ok(()),
-            Err(AllocError) => Err(self.stopped(DiskStop::Memory)),
+            Err(AllocError) => Err(self.short_of_memory()),
         }
     }
 
     fn faults(&self) -> u64 {
-        self.faults
+        self.schedule.faults()
     }
 }
 
