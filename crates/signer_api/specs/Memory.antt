@@ -2,6 +2,9 @@
 use Rattle.std.specs.Prelude.{◌≡◌, ℕ, ◌==◌, nat_eq, Bool, is_ok, cond, List, Some, length, map, Result}
 use Rattle.std.specs.List.{list_any}
 use Rattle.std.specs.Cmp.Lexicographic.{pointwise}
+use Rattle.host_calls.specs.Schedule as schedule
+use Rattle.host_calls.specs.Schedule.{faults_of}
+use Rattle.host_calls.specs.declared.schedule.Schedule.{Schedule}
 use Rattle.signer_api.specs.State.{SignerState, Signed, next_count}
 use Rattle.signer_api.specs.State.Vouching.{Listed}
 use Rattle.signer_api.specs.declared.values.PublicKey.{PublicKey}
@@ -17,7 +20,7 @@ memory_state m = record {
   keys = Some (map (λ (key : PublicKey). key.bytes) m.keys.items);
   signatures = length m.signed.items;
   once = m.once;
-  faults = m.faults;
+  faults = faults_of m.schedule;
 }
 
 -- the bytes that its keys come from
@@ -28,17 +31,9 @@ memory_start m = m.start
 abbrev pub memory_next : MemorySigner → ℕ
 memory_next m = m.next
 
--- the number of its next call, from 1
-abbrev pub next_call : MemorySigner → ℕ
-next_call m = next_count m.calls
-
--- the numbers of the calls that are to fail
-abbrev pub memory_fails : MemorySigner → List ℕ
-memory_fails m = m.fails.items
-
--- the next call is one that is to fail
-abbrev pub fails_next : MemorySigner → Bool
-fails_next m = list_any (λ n. n == next_call m) m.fails.items
+-- which of its calls fail, and how often one did
+abbrev pub memory_schedule : MemorySigner → Schedule
+memory_schedule m = m.schedule
 
 -- it holds the key with these bytes
 abbrev pub holds_key : MemorySigner → List ℕ → Bool
@@ -46,15 +41,13 @@ holds_key m key = list_any (λ (held : PublicKey). pointwise nat_eq held.bytes k
 
 -- A numbered call was made, which made so many keys.
 pub record CountsCall (old new : MemorySigner) (made : ℕ) : Type 0 where
-  pub calls : next_call new ≡ next_count (next_call old)
-  pub fails : memory_fails new ≡ memory_fails old
+  pub numbered : schedule.CountsCall (memory_schedule old) (memory_schedule new)
   pub start : memory_start new ≡ memory_start old
   pub next : memory_next new ≡ cond (made == 0) (memory_next old) (next_count (memory_next old))
 
 -- Its keys to come and its calls to fail are as they were.
 pub record IsSameScript (old new : MemorySigner) : Type 0 where
-  pub calls : next_call new ≡ next_call old
-  pub fails : memory_fails new ≡ memory_fails old
+  pub numbered : schedule.IsSameScript (memory_schedule old) (memory_schedule new)
   pub start : memory_start new ≡ memory_start old
   pub next : memory_next new ≡ memory_next old
 

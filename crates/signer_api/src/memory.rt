@@ -6,7 +6,7 @@ ghost use Rattle.signer_api.specs.State.{SignerState, Answers, DropsKey, RisesBy
 
 use crate::hashed::{hashed_key, hashed_signature};
 use crate::{Digest, OneUse, PublicKey, Signature, Signer, SignerStop};
-use host_calls::raised;
+use host_calls::Schedule;
 use std::alloc::Global;
 
 /// What it once signed.
@@ -26,19 +26,18 @@ struct Remembered {
 pub struct MemorySigner {
     start: [u8; 32],
     next: u64,
-    calls: u64,
-    fails: Vec<u64>,
+    schedule: Schedule,
     keys: Vec<PublicKey>,
     signed: Vec<Remembered>,
     once: u64,
-    faults: u64,
 }
 
 impl MemorySigner {
     ghost use Rattle.std.specs.Prelude.{◌≡◌, ◌↔◌, [], Some, IsTrue, IsErr, IfOk, IfErr};
+    ghost use Rattle.host_calls.specs.Schedule.{IsFresh, fails_next};
     ghost use Rattle.signer_api.specs.Hashed as rule;
     ghost use Rattle.signer_api.specs.declared.signer.SignerStop.TheVariants.{Fault, Memory};
-    ghost use Rattle.signer_api.specs.Memory.{memory_state, memory_start, memory_next, memory_fails, next_call, fails_next, holds_key, CountsCall, IsSameScript};
+    ghost use Rattle.signer_api.specs.Memory.{memory_state, memory_start, memory_next, memory_schedule, holds_key, CountsCall, IsSameScript};
     ghost use Rattle.signer_api.specs.State.{SignerState, Signed, Answers, CountsFault, with_signature};
     ghost use Rattle.signer_api.specs.State.Vouching.{Listed};
 
@@ -47,19 +46,16 @@ impl MemorySigner {
     pub fn new(alloc: Global, start: [u8; 32], fails: Vec<u64>) -> Self
         ensures start { memory_start result ≡ start }
         ensures next { memory_next result ≡ 0 }
-        ensures fails { memory_fails result ≡ fails.items }
-        ensures first_call { next_call result ≡ 1 }
+        ensures fresh { IsFresh (memory_schedule result) fails.items }
         ensures new { memory_state result ≡ record { vouching = Listed []; keys = Some []; signatures = 0; once = 0; faults = 0 } }
     {
         MemorySigner {
             start,
             next: 0,
-            calls: 0,
-            fails,
+            schedule: Schedule::new(fails),
             keys: Vec::new(alloc),
             signed: Vec::new(alloc),
             once: 0,
-            faults: 0,
         }
     }
 
@@ -70,21 +66,20 @@ impl MemorySigner {
         ensures rest { IsSameScript self.old self.new }
         ensures keys { self.new.keys.items ≡ self.old.keys.items }
     {
-        self.faults = raised(self.faults);
+        self.schedule.count_fault();
         SignerStop::Fault
     }
 
     /// Counts a call, and refuses it where it is one that is to fail.
     fn begin(&mut self) -> Result<(), SignerStop>
-        ensures listed { IsErr result ↔ IsTrue (fails_next self.old) }
+        ensures listed { IsErr result ↔ IsTrue (fails_next (memory_schedule self.old)) }
         ensures fault { IfErr result (λ stop. stop ≡ Fault) }
         ensures counted { Answers (λ _ signer. signer) result (memory_state self.old) (memory_state self.new) }
         ensures call { CountsCall self.old self.new 0 }
         ensures keys { self.new.keys.items ≡ self.old.keys.items }
     {
-        self.calls = self.calls.saturating_add(1);
-        if self.fails.contains(&self.calls) {
-            return Err(self.failed());
+        if self.schedule.count_call() {
+            return Err(SignerStop::Fault);
         }
         Ok(())
     }
@@ -117,9 +112,10 @@ impl MemorySigner {
 
 impl Signer for MemorySigner {
     ghost use Rattle.std.specs.Prelude.{◌≡◌, ◌↔◌, ◌||◌, Err, not, IsTrue, IsErr, IfOk, IfErr};
+    ghost use Rattle.host_calls.specs.Schedule.{fails_next};
     ghost use Rattle.signer_api.specs.Hashed as rule;
     ghost use Rattle.signer_api.specs.declared.signer.SignerStop.TheVariants.{Fault, Memory};
-    ghost use Rattle.signer_api.specs.Memory.{memory_state, memory_start, memory_next, fails_next, holds_key, CountsCall, IsSameScript, made_by};
+    ghost use Rattle.signer_api.specs.Memory.{memory_state, memory_start, memory_next, memory_schedule, holds_key, CountsCall, IsSameScript, made_by};
     ghost use Rattle.signer_api.specs.State.{Signed, Answers, DropsKey, Tells, Vouches, is_other, with_key, with_signature, with_once};
 
     ghost state = { λ m. memory_state m };
@@ -127,7 +123,7 @@ impl Signer for MemorySigner {
     fn make_key(&mut self, _alloc: Global) -> Result<PublicKey, SignerStop>
         ensures made { Answers (λ key. with_key key.bytes) result (memory_state self.old) (memory_state self.new) }
         ensures key { IfOk result (λ key. key.bytes ≡ rule.hashed_key (memory_start self.old) (memory_next self.old)) }
-        ensures fault { (result ≡ Err Fault) ↔ IsTrue (fails_next self.old) }
+        ensures fault { (result ≡ Err Fault) ↔ IsTrue (fails_next (memory_schedule self.old)) }
         ensures call { CountsCall self.old self.new (made_by result) }
     {
         self.begin()?;
@@ -149,7 +145,7 @@ impl Signer for MemorySigner {
         ensures vouched { IfOk result (λ s. Tells (memory_state self.old)
             → Vouches (memory_state self.new) key.now.bytes digest.now.bytes s.bytes) }
         ensures signature { IfOk result (λ s. s.bytes ≡ rule.hashed_signature key.now.bytes digest.now.bytes) }
-        ensures fault { (result ≡ Err Fault) ↔ IsTrue (fails_next self.old || not (holds_key self.old key.now.bytes)) }
+        ensures fault { (result ≡ Err Fault) ↔ IsTrue (fails_next (memory_schedule self.old) || not (holds_key self.old key.now.bytes)) }
         ensures call { CountsCall self.old self.new 0 }
     {
         self.begin()?;
@@ -167,7 +163,7 @@ impl Signer for MemorySigner {
             → Vouches (memory_state self.new) once.key.bytes digest.now.bytes once.signature.bytes) }
         ensures key { IfOk result (λ once. once.key.bytes ≡ rule.hashed_key (memory_start self.old) (memory_next self.old)) }
         ensures signature { IfOk result (λ once. once.signature.bytes ≡ rule.hashed_signature once.key.bytes digest.now.bytes) }
-        ensures fault { (result ≡ Err Fault) ↔ IsTrue (fails_next self.old) }
+        ensures fault { (result ≡ Err Fault) ↔ IsTrue (fails_next (memory_schedule self.old)) }
         ensures call { CountsCall self.old self.new (made_by result) }
     {
         self.begin()?;
@@ -188,7 +184,7 @@ impl Signer for MemorySigner {
         ensures answer { IfOk result (λ yes. Tells (memory_state self.old)
             → (IsTrue yes ↔ Vouches (memory_state self.new) key.now.bytes digest.now.bytes signature.now.bytes)) }
         ensures stays { Answers (λ _ signer. signer) result (memory_state self.old) (memory_state self.new) }
-        ensures fault { (IsErr result) ↔ IsTrue (fails_next self.old) }
+        ensures fault { (IsErr result) ↔ IsTrue (fails_next (memory_schedule self.old)) }
         ensures call { CountsCall self.old self.new 0 }
     {
         self.begin()?;
@@ -213,6 +209,6 @@ impl Signer for MemorySigner {
     }
 
     fn faults(&self) -> u64 {
-        self.faults
+        self.schedule.faults()
     }
 }
