@@ -3,7 +3,6 @@
 ghost use Rattle.std.specs.Prelude.{◌≡◌, if◌then◌else◌, Some, None, IfOk, IfErr};
 ghost use Rattle.std.specs.Option.{option_map};
 ghost use Rattle.sha1.specs.Sha1.{sha1};
-ghost use Rattle.sha2.specs.Sha256.{sha256};
 ghost use Rattle.der.specs.Part.{place};
 ghost use Rattle.der.specs.Forms.{tested};
 ghost use Rattle.der.specs.Leaves.{octet_bits, are_same};
@@ -20,7 +19,6 @@ use der::tags::{BIT_STRING, CONTEXT_0, SEQUENCE};
 use der::{Part, ShapeFault, WholeReader, are_same, constant, number, object, octet_bits};
 use key_ids::KeyId;
 use object_parts::{key_algorithm, name, period, signature_algorithm, signed};
-use sha2::{Digest as Hasher, Sha256};
 use signer_api::{Digest, PublicKey, Signature};
 use std::alloc::Global;
 
@@ -142,15 +140,6 @@ fn tbs_content(alloc: Global, part: Part<'_>) -> Result<Cert, ShapeFault>
     })
 }
 
-/// The SHA-256 of bytes.
-fn digest_of(bytes: &[u8]) -> Digest
-    ensures { result.bytes ≡ sha256 bytes.now }
-{
-    Digest {
-        bytes: Sha256::digest(bytes),
-    }
-}
-
 /// What is signed, its digest, and the signature.
 #[tactic(auto, unfolding(crate::specs::Formats::signed_cert))]
 fn signed_cert(alloc: Global, part: Part<'_>) -> Result<ReadCert, ShapeFault>
@@ -160,7 +149,7 @@ fn signed_cert(alloc: Global, part: Part<'_>) -> Result<ReadCert, ShapeFault>
     let cert = tbs_content(alloc, parts.content)?;
     Ok(ReadCert {
         cert,
-        digest: digest_of(parts.whole),
+        digest: Digest::of(parts.whole),
         signature: Signature {
             bytes: parts.signature,
         },

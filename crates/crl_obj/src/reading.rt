@@ -1,7 +1,6 @@
 //! Readers of CRLs (RFC 5280 section 5.1, RFC 6487 section 5).
 
 ghost use Rattle.std.specs.Prelude.{◌≡◌, IfOk, IfErr};
-ghost use Rattle.sha2.specs.Sha256.{sha256};
 ghost use Rattle.der.specs.Part.{place};
 ghost use Rattle.der.specs.Outcome.{Gives, GivesUnlessMemory, UnlessMemory};
 ghost use Rattle.der.specs.Object.{Spells, read_object, IsTrueFault};
@@ -19,7 +18,6 @@ use der::{FrontReader, Part, ShapeFault, WholeReader, constant, many, number, ob
 use key_ids::KeyId;
 use object_parts::identifiers::CRL_NUMBER;
 use object_parts::{extension, issuer_key, name, signature_algorithm, signed, time};
-use sha2::{Digest as Hasher, Sha256};
 use signer_api::{Digest, Signature};
 use std::alloc::Global;
 
@@ -165,15 +163,6 @@ fn tbs_content(alloc: Global, part: Part<'_>) -> Result<Crl, ShapeFault>
     })
 }
 
-/// The SHA-256 of bytes.
-fn digest_of(bytes: &[u8]) -> Digest
-    ensures { result.bytes ≡ sha256 bytes.now }
-{
-    Digest {
-        bytes: Sha256::digest(bytes),
-    }
-}
-
 /// What is signed, its digest, and the signature.
 #[tactic(auto, unfolding(crate::specs::Formats::signed_crl))]
 fn signed_crl(alloc: Global, part: Part<'_>) -> Result<ReadCrl, ShapeFault>
@@ -183,7 +172,7 @@ fn signed_crl(alloc: Global, part: Part<'_>) -> Result<ReadCrl, ShapeFault>
     let crl = tbs_content(alloc, parts.content)?;
     Ok(ReadCrl {
         crl,
-        digest: digest_of(parts.whole),
+        digest: Digest::of(parts.whole),
         signature: Signature {
             bytes: parts.signature,
         },

@@ -1,6 +1,9 @@
 // Keys, digests and signatures, as bytes of fixed lengths.
 ghost use Rattle.std.specs.Prelude.{◌≡◌, ◌↔◌, IsSome, IfSome, length};
+ghost use Rattle.sha2.specs.Sha256.{sha256};
 ghost use Rattle.signer_api.specs.PublicKey.{IsPublicKey};
+
+use sha2::{Digest as Hasher, Sha256};
 
 // A SEQUENCE of 266 bytes, an INTEGER of 257 bytes, and the zero in front of the modulus.
 pub(crate) const HEADER: [u8; 9] = [0x30, 0x82, 0x01, 0x0a, 0x02, 0x82, 0x01, 0x01, 0x00];
@@ -43,6 +46,17 @@ pub struct Signature {
 #[derive(Clone, Copy, Debug, PartialEq, Eq)]
 pub struct Digest {
     pub bytes: [u8; 32],
+}
+
+impl Digest {
+    /// The digest of bytes that are signed: their SHA-256.
+    pub fn of(bytes: &[u8]) -> Digest
+        ensures { result.bytes ≡ sha256 bytes.now }
+    {
+        Digest {
+            bytes: Sha256::digest(bytes),
+        }
+    }
 }
 
 /// A key that signed once and is gone, with its one signature.

@@ -1,7 +1,6 @@
 //! Calls on one signer of a ring.
 
 ghost use Rattle.std.specs.Prelude.{◌≡◌, ◌<◌, length, IfOk, IfErr};
-ghost use Rattle.sha2.specs.Sha256.{sha256};
 ghost use Rattle.signer_ring.specs.Ring.{Keeps};
 ghost use Rattle.signer_ring.specs.Calls.{after_call, IsVouched, IsStopped, signed_of};
 ghost use Rattle.signer_ring.specs.Calls.Call.{Makes, Signs, Once};
@@ -9,18 +8,8 @@ ghost use Rattle.signer_ring.specs.Calls.Call.{Makes, Signs, Once};
 use crate::call_fault::CallFault;
 use crate::fault::RingFault;
 use crate::ring::Ring;
-use sha2::{Digest as Hasher, Sha256};
 use signer_api::{Digest, OneUse, PublicKey, Signature, Signer};
 use std::alloc::Global;
-
-/// The digest of bytes that are signed.
-fn digest_of(bytes: &[u8]) -> Digest
-    ensures { result.bytes ≡ sha256 bytes.now }
-{
-    Digest {
-        bytes: Sha256::digest(bytes),
-    }
-}
 
 /// Makes a key with a signer that is there. Signers are numbered from 0.
 pub fn make_key<S: Signer>(
@@ -58,7 +47,7 @@ pub fn sign<S: Signer>(
     ensures stopped { IfErr result (IsStopped signer ring.old ring.new) }
     ensures kept { Keeps ring.old ring.new }
 {
-    let digest = digest_of(bytes);
+    let digest = Digest::of(bytes);
     match ring.sign(alloc, signer, key, &digest) {
         Ok(signature) => Ok(signature),
         Err(RingFault::SignerFault { signer }) => Err(CallFault::SignerFault { signer }),
@@ -83,7 +72,7 @@ pub fn sign_once<S: Signer>(
     ensures stopped { IfErr result (IsStopped signer ring.old ring.new) }
     ensures kept { Keeps ring.old ring.new }
 {
-    let digest = digest_of(bytes);
+    let digest = Digest::of(bytes);
     match ring.sign_once(alloc, signer, &digest) {
         Ok(once) => Ok(once),
         Err(RingFault::SignerFault { signer }) => Err(CallFault::SignerFault { signer }),
