@@ -102,16 +102,16 @@ impl MemoryDisk {
         is_stopped || is_listed
     }
 
-    /// Counts that memory was wanting.
-    fn short_of_memory(&mut self) -> DiskStop
-        ensures stop { result ≡ DiskStop.Memory }
+    /// Counts a call that stopped though no number asked for it.
+    fn counted(&mut self, stop: DiskStop) -> DiskStop
+        ensures stop { result ≡ stop }
         ensures risen { HasRisen (memory_faults self.old) (memory_faults self.new) }
         ensures file { IsSameFile self.old self.new }
         ensures script { IsSameScript (memory_schedule self.old) (memory_schedule self.new) }
         ensures left { memory_left self.new ≡ memory_left self.old }
     {
         self.schedule.count_fault();
-        DiskStop::Memory
+        stop
     }
 
     /// Makes the bytes that are to be changed, where there was no change yet.
@@ -259,7 +259,7 @@ impl Disk for MemoryDisk {
         }
         match self.put(alloc, at as usize, bytes) {
             Ok(()) => Ok(()),
-            Err(AllocError) => Err(self.short_of_memory()),
+            Err(AllocError) => Err(self.counted(DiskStop::Memory)),
         }
     }
 
@@ -285,7 +285,7 @@ impl Disk for MemoryDisk {
         }
         match self.shorten(alloc, len as usize) {
             Ok(()) => Ok(()),
-            Err(AllocError) => Err(self.short_of_memory()),
+            Err(AllocError) => Err(self.counted(DiskStop::Memory)),
         }
     }
 
@@ -311,7 +311,7 @@ impl Disk for MemoryDisk {
         }
         match self.settle() {
             Ok(()) => Ok(()),
-            Err(AllocError) => Err(self.short_of_memory()),
+            Err(AllocError) => Err(self.counted(DiskStop::Memory)),
         }
     }
 

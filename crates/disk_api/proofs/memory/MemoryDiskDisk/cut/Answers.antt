@@ -9,10 +9,10 @@ pub returns-then-is_failing-clause-time : goal.returns-then-is_failing-clause-ti
 returns-then-is_failing-clause-time c = same_time c.is_failing.ensures.file
 
 pub returns-in-Err-clause-images : goal.returns-in-Err-clause-images
-returns-in-Err-clause-images c = follows_same (IsCut c.args.len) (cut_same c.args.len) (same_twice (same_twice c.is_failing.ensures.file c.in-Err.ensures.err) c.short_of_memory.ensures.file)
+returns-in-Err-clause-images c = follows_same (IsCut c.args.len) (cut_same c.args.len) (same_twice (same_twice c.is_failing.ensures.file c.in-Err.ensures.err) c.counted.ensures.file)
 
 pub returns-in-Err-clause-time : goal.returns-in-Err-clause-time
-returns-in-Err-clause-time c = same_time (same_twice (same_twice c.is_failing.ensures.file c.in-Err.ensures.err) c.short_of_memory.ensures.file)
+returns-in-Err-clause-time c = same_time (same_twice (same_twice c.is_failing.ensures.file c.in-Err.ensures.err) c.counted.ensures.file)
 
 pub returns-in-Ok-clause-images : goal.returns-in-Ok-clause-images
 returns-in-Ok-clause-images c = follows_cut c.args.len c.is_failing.ensures.file c.in-Ok.ensures.done

@@ -5,7 +5,7 @@ pub returns-then-is_failing-clause-time : goal.returns-then-is_failing-clause-ti
 returns-then-is_failing-clause-time c = same_time c.is_failing.ensures.file
 
 pub returns-in-Err-clause-time : goal.returns-in-Err-clause-time
-returns-in-Err-clause-time c = same_time (same_twice (same_twice c.is_failing.ensures.file c.in-Err.ensures.err) c.short_of_memory.ensures.file)
+returns-in-Err-clause-time c = same_time (same_twice (same_twice c.is_failing.ensures.file c.in-Err.ensures.err) c.counted.ensures.file)
 
 pub returns-in-Ok-clause-durable : goal.returns-in-Ok-clause-durable
 returns-in-Ok-clause-durable c = only_synced c.is_failing.ensures.file c.in-Ok.ensures.done

@@ -10,10 +10,10 @@ pub returns-then-is_failing-clause-time : goal.returns-then-is_failing-clause-ti
 returns-then-is_failing-clause-time c = same_time c.is_failing.ensures.file
 
 pub returns-in-Err-clause-images : goal.returns-in-Err-clause-images
-returns-in-Err-clause-images c = follows_same (Torn c.args.at (length c.args.bytes.now)) (torn_same c.args.at (length c.args.bytes.now)) (same_twice (same_twice c.is_failing.ensures.file c.in-Err.ensures.err) c.short_of_memory.ensures.file)
+returns-in-Err-clause-images c = follows_same (Torn c.args.at (length c.args.bytes.now)) (torn_same c.args.at (length c.args.bytes.now)) (same_twice (same_twice c.is_failing.ensures.file c.in-Err.ensures.err) c.counted.ensures.file)
 
 pub returns-in-Err-clause-time : goal.returns-in-Err-clause-time
-returns-in-Err-clause-time c = same_time (same_twice (same_twice c.is_failing.ensures.file c.in-Err.ensures.err) c.short_of_memory.ensures.file)
+returns-in-Err-clause-time c = same_time (same_twice (same_twice c.is_failing.ensures.file c.in-Err.ensures.err) c.counted.ensures.file)
 
 pub returns-in-Ok-clause-images : goal.returns-in-Ok-clause-images
 returns-in-Ok-clause-images c = follows_write c.args.at c.args.bytes.now c.is_failing.ensures.file c.in-Ok.ensures.done
