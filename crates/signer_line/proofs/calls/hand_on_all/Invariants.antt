@@ -1,12 +1,9 @@
-use Rattle.std.proofs.Common.{◌≡◌}
-use Rattle.std.specs.Io.KnownBytes.{Keeps}
+use Rattle.line_loop.specs.inner.Tries.{IsUntouched}
 use Rattle.signer_line.proofs.calls.hand_on_all.Given as goal
 
 abbrev pub invariant-tries : goal.invariant-tries
-invariant-tries g l = record {
-  kept : Keeps (g.W.RawWriter.taken l.fn.to) (g.W.RawWriter.taken l.to);
-  counted : g.W.RawWriter.fault_count l.to ≡ g.W.RawWriter.fault_count l.fn.to;
-}
+invariant-tries g l = IsUntouched (g.W.RawWriter.taken l.fn.to) (g.W.RawWriter.taken l.to)
+    (g.W.RawWriter.fault_count l.fn.to) (g.W.RawWriter.fault_count l.to)
 
 abbrev pub decreases-tries : goal.decreases-tries
 decreases-tries g l = g.W.RawWriter.patience l.to
