@@ -5,6 +5,7 @@ use Rattle.serde_json.specs.Data.{Data, Items, no_items, item, Members, no_membe
 use Rattle.serde_json.specs.Find.{get, as_str, as_array, as_object, as_number, as_u64}
 use Rattle.serde_json.specs.Read.{read}
 use Rattle.names.specs.Name.{IsName}
+use Rattle.line_loop.specs.declared.TheConstants.{LINE_LIMIT}
 use Rattle.res_sets.specs.declared.numbers.Family.{Family}
 use Rattle.res_sets.specs.declared.numbers.Family.TheVariants.{Asn, V4, V6}
 use Rattle.res_sets.specs.declared.holdings.Resources.{Resources}
@@ -23,10 +24,6 @@ use Rattle.json_api.specs.declared.line.LineFault.TheVariants.{BadLine}
 use Rattle.json_api.specs.Names.{name_of, kind_of}
 use Rattle.json_api.specs.Rows.{Slots, as_row, as_name, as_number as number_in, as_resources, as_origins}
 use Rattle.json_api.specs.Table.{row_named, line_of}
-
--- How many bytes a line has at most.
-abbrev pub longest_line : ℕ
-longest_line = 1048576
 
 -- The value is a text that spells the origin.
 abbrev pub IsOriginText : Data → Origin → Type 0
@@ -78,7 +75,7 @@ AreSlots value s = (f : Field) → Tells (kind_of f) (get (name_of f) value) (s 
 
 -- The bytes are a line at all: not too many, and the JSON text of the value.
 pub record IsDocument (bytes : List ℕ) (value : Data) : Type 0 where
-  pub short : length bytes ≤ longest_line
+  pub short : length bytes ≤ LINE_LIMIT
   pub utf8 : IsUtf8 bytes
   pub text : read bytes ≡ Some value
 

@@ -17,14 +17,12 @@ use crate::tokens::read_slots;
 use crate::values::{first_left, slots_of};
 use authority_book::Command;
 use json::Scratch;
+use line_loop::LINE_LIMIT;
 use names::Name;
 use serde_json::Value;
 use std::alloc::{AllocError, AllocFailed, Global};
 use std::marker::Model;
 use thiserror::Error;
-
-/// How many bytes a line has at most.
-pub const MAX_LINE_LEN: usize = 1_048_576;
 
 /// What a line says.
 #[derive(Drop)]
@@ -162,7 +160,7 @@ impl LineReader {
     pub fn read(&mut self, alloc: Global, line: &[u8]) -> Result<Line, LineFault>
         ensures { result ≢ Err Memory → ReadsLine line.now result }
     {
-        if line.len() > MAX_LINE_LEN {
+        if line.len() > LINE_LIMIT {
             return Err(LineFault::BadLine);
         }
         let Ok(text) = simdutf8::compat::from_utf8(line) else {

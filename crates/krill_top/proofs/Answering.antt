@@ -11,6 +11,7 @@ use Rattle.press_core.specs.declared.fault.PressFault.{PressFault}
 use Rattle.json_api.specs.declared.line.Line.{Line}
 use Rattle.json_api.specs.declared.line.LineFault.{LineFault}
 use Rattle.json_api.specs.declared.line.LineFault.TheVariants.{BadLine, UnknownCommand, BadField, Memory}
+use Rattle.line_loop.specs.declared.TheConstants.{LINE_LIMIT}
 use Rattle.json_api.specs.Refused.{fault_spelling}
 use Rattle.json_api.specs.Reply.{accepted_spelling}
 use Rattle.json_api.specs.Line.{ReadsLine, IsDocument}
@@ -167,7 +168,7 @@ module _ {D : Type 0} (disk_of : DiskGhosts D) where
       (λ vouched before after is. inr (record { not_blank = not_blank; text = text; reply_is = refl; answer = is }))
 
   -- a line above the limit is neither blank nor a line of the table
-  pub long_replies : (old : TimedInstance D) (line : List ℕ) → 1048576 < length line → MayReply disk_of old line (bad_line_text ++ 10 ∷ []) false old
+  pub long_replies : (old : TimedInstance D) (line : List ℕ) → LINE_LIMIT < length line → MayReply disk_of old line (bad_line_text ++ 10 ∷ []) false old
   long_replies old line long =
       let none : (value : _) → ¬ IsDocument line value = λ value is. omega (arith, is.short, long) in
       let not_blank : ¬ IsBlank line = λ blank. omega (arith, blank.short, long) in

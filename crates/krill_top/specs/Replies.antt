@@ -10,7 +10,8 @@ use Rattle.json_api.specs.declared.refusals.Refused.{Refused}
 use Rattle.json_api.specs.declared.refusals.Refused.TheVariants as refused
 use Rattle.json_api.specs.declared.reply.Published.{Published as ReplyPublished}
 use Rattle.json_api.specs.Refused.{refused_spelling, verdict_spelling, fault_spelling}
-use Rattle.json_api.specs.Line.{ReadsLine, longest_line}
+use Rattle.line_loop.specs.declared.TheConstants.{LINE_LIMIT}
+use Rattle.json_api.specs.Line.{ReadsLine}
 use Rattle.json_api.specs.Reply.{accepted_spelling, published_spelling, serial_spelling}
 use Rattle.rp_rules.specs.Certificates.{Vouched}
 use Rattle.editions.specs.Edition.{state_after}
@@ -33,7 +34,7 @@ is_blank_byte b = (b == 32) || (b == 9) || (b == 13)
 
 -- A line that gets no reply: one that is not too long and has nothing but blanks.
 pub record IsBlank (line : List ℕ) : Type 0 where
-  pub short : length line ≤ longest_line
+  pub short : length line ≤ LINE_LIMIT
   pub blank : IsTrue (list_all is_blank_byte line)
 
 -- A refusal, or a read: such a text is given, and nothing changes. The clock isn't read.

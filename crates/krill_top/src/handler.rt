@@ -14,10 +14,10 @@ use crate::instance::Instance;
 use authority_book::{Command, Refusal};
 use disk_api::Disk;
 use json_api::{
-    Line, LineFault, LineReader, MAX_LINE_LEN, Published, Refused, accepted_into, fault_into,
+    Line, LineFault, LineReader, Published, Refused, accepted_into, fault_into,
     published_into, refused_into, serial_into, verdict_into,
 };
-use line_loop::{Clock, LineHandler};
+use line_loop::{Clock, LINE_LIMIT, LineHandler};
 use names::Name;
 use press_core::PressFault;
 use signer_api::Signer;
@@ -355,7 +355,7 @@ fn append(out: &mut Vec<u8>, text: &[u8])
 fn is_blank(line: &[u8]) -> bool
     ensures { IsTrue result ↔ IsBlank line.now }
 {
-    line.len() <= MAX_LINE_LEN && has_blanks_alone(line)
+    line.len() <= LINE_LIMIT && has_blanks_alone(line)
 }
 
 fn has_blanks_alone(line: &[u8]) -> bool

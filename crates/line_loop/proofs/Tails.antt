@@ -3,6 +3,7 @@ use Rattle.std.proofs.Common.{◌≡◌, ◌⊎◌, inl, inr, ℕ, ◌+◌, ◌<
 use Rattle.std.proofs.lemmas.List.{append-nil}
 use Rattle.std.proofs.lemmas.List.Elements.{All-append}
 use Rattle.std.proofs.lemmas.Bool.{false≢true}
+use Rattle.line_loop.specs.declared.TheConstants.{LINE_LIMIT}
 use Rattle.line_loop.specs.Lines.{is_feed}
 use Rattle.line_loop.specs.inner.Pending.{Pending, NoFeed, EndsLine, IsTail, IsTailOf, IsShortened}
 
@@ -29,10 +30,10 @@ first_line true tail bytes n is ends =
     (line, (is.0, is.1, is.2, refl), is.3 ∙ (ap (λ (xs : List ℕ). is.0 ++ xs) ends.feed ∙ sym (append_assoc is.0 (take n bytes) (10 ∷ drop (n + 1) bytes))), NoFeed-append is.0 (take n bytes) is.2 ends.line)
 
 -- a line that is too long is longer than a line may be
-pub long_line : (line bytes : List ℕ) (skips : Bool) → IsTailOf line bytes skips → (skips ≡ true) ⊎ (1048576 < length bytes) → 1048576 < length line
-long_line line bytes true is why = subst (λ (xs : List ℕ). 1048576 < length xs) (sym is.3) (omega (arith, is.1, length-append is.0 bytes))
+pub long_line : (line bytes : List ℕ) (skips : Bool) → IsTailOf line bytes skips → (skips ≡ true) ⊎ (LINE_LIMIT < length bytes) → LINE_LIMIT < length line
+long_line line bytes true is why = subst (λ (xs : List ℕ). LINE_LIMIT < length xs) (sym is.3) (omega (arith, is.1, length-append is.0 bytes))
 long_line line bytes false is (inl skips) = absurd (false≢true skips)
-long_line line bytes false is (inr long) = subst (λ (xs : List ℕ). 1048576 < length xs) (sym is) long
+long_line line bytes false is (inr long) = subst (λ (xs : List ℕ). LINE_LIMIT < length xs) (sym is) long
 
 -- dropping a line that is too long changes no tail
 pub tail_shortened : (old new : Pending) (tail : List ℕ) → IsShortened old new → NoFeed old.bytes → IsTail tail old → IsTail tail new
@@ -45,6 +46,6 @@ pub shortened_no_feed : (old new : Pending) → IsShortened old new → NoFeed o
 shortened_no_feed old new (inl dropped) none = subst NoFeed (sym dropped.1) (λ k d below. absurd (omega arith))
 shortened_no_feed old new (inr kept) none = subst (λ (p : Pending). NoFeed p.bytes) (sym kept.0) none
 
-pub shortened_is_short : (old new : Pending) → IsShortened old new → length new.bytes ≤ 1048576
-shortened_is_short old new (inl dropped) = subst (λ (xs : List ℕ). length xs ≤ 1048576) (sym dropped.1) (omega arith)
-shortened_is_short old new (inr kept) = subst (λ (p : Pending). length p.bytes ≤ 1048576) (sym kept.0) kept.2
+pub shortened_is_short : (old new : Pending) → IsShortened old new → length new.bytes ≤ LINE_LIMIT
+shortened_is_short old new (inl dropped) = subst (λ (xs : List ℕ). length xs ≤ LINE_LIMIT) (sym dropped.1) (omega arith)
+shortened_is_short old new (inr kept) = subst (λ (p : Pending). length p.bytes ≤ LINE_LIMIT) (sym kept.0) kept.2

@@ -19,7 +19,7 @@ pub trait LineHandler {
     /// changed what its reply acknowledges: such a reply is given before the next line is answered.
     /// An `Err` changes nothing. Fewer than [`crate::REPLIES_LIMIT`] bytes of replies wait in `out`.
     fn answer(&mut self, alloc: Global, line: &[u8], out: &mut Vec<u8>) -> Result<bool, AllocError>
-        requires short { length line.now ≤ 1048576 }
+        requires short { length line.now ≤ LINE_LIMIT }
         requires few { vec_len out.old < 65536 }
         ensures ok { IfOk result (λ changes. (reply : List ℕ) × answers self.old line.now reply changes self.new
             × (out.new.items ≡ out.old.items ++ reply)) }
@@ -36,7 +36,7 @@ pub trait LineHandler {
     fn refuse_long(&mut self, alloc: Global, out: &mut Vec<u8>) -> Result<(), AllocError>
         requires { vec_len out.old < 65536 }
         ensures ok { OnOk result ((reply : List ℕ)
-            × ((line : List ℕ) → 1048576 < length line → answers self.old line reply false self.new)
+            × ((line : List ℕ) → LINE_LIMIT < length line → answers self.old line reply false self.new)
             × (out.new.items ≡ out.old.items ++ reply)) }
         ensures err { OnErr result ((self.new ≡ self.old) × (out.new.items ≡ out.old.items)) };
 }

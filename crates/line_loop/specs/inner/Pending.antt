@@ -1,6 +1,7 @@
 -- What is pending of a session's input: the bytes after the last line that was answered.
 use Rattle.std.specs.Prelude.{◌≡◌, ◌⊎◌, ℕ, ◌+◌, ◌<◌, ◌≤◌, Bool, true, false, List, [], ◌∷◌, ◌++◌, length, take, drop, All}
 use Rattle.line_loop.specs.Lines.{is_feed}
+use Rattle.line_loop.specs.declared.TheConstants.{LINE_LIMIT}
 
 -- the bytes that are kept, whether the front of their line was dropped, and how many more there is room for
 pub record Pending : Type 0 where
@@ -21,7 +22,7 @@ pub record EndsLine (bytes : List ℕ) (n : ℕ) : Type 0 where
 -- All of a tail is kept, or its front was dropped: more bytes than a line may have, with no line feed.
 abbrev pub IsTailOf : List ℕ → List ℕ → Bool → Type 0
 IsTailOf tail bytes false = tail ≡ bytes
-IsTailOf tail bytes true = (skipped : List ℕ) × (1048576 < length skipped) × NoFeed skipped × (tail ≡ skipped ++ bytes)
+IsTailOf tail bytes true = (skipped : List ℕ) × (LINE_LIMIT < length skipped) × NoFeed skipped × (tail ≡ skipped ++ bytes)
 
 -- this came after the last line that was answered
 abbrev pub IsTail : List ℕ → Pending → Type 0
@@ -30,5 +31,5 @@ IsTail tail pending = IsTailOf tail pending.bytes pending.skips
 -- A line that hasn't ended is dropped as far as it has come, if it is too long to be kept or its front
 -- was dropped before.
 abbrev pub IsShortened : Pending → Pending → Type 0
-IsShortened old new = ((new.skips ≡ true) × (new.bytes ≡ []) × ((old.skips ≡ true) ⊎ (1048576 < length old.bytes)))
-    ⊎ ((new ≡ old) × (old.skips ≡ false) × (length old.bytes ≤ 1048576))
+IsShortened old new = ((new.skips ≡ true) × (new.bytes ≡ []) × ((old.skips ≡ true) ⊎ (LINE_LIMIT < length old.bytes)))
+    ⊎ ((new ≡ old) × (old.skips ≡ false) × (length old.bytes ≤ LINE_LIMIT))

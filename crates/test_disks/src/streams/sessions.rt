@@ -15,8 +15,10 @@ use std::io::Cursor;
 struct Echo;
 
 impl LineHandler for Echo {
-    ghost answers = { λ old line reply changes new. ((length line ≤ 1048576) × (reply ≡ line ++ 10 ∷ []))
-        ⊎ ((1048576 < length line) × (reply ≡ 33 ∷ 10 ∷ [])) };
+    ghost use Rattle.line_loop.specs.declared.TheConstants.{LINE_LIMIT};
+
+    ghost answers = { λ old line reply changes new. ((length line ≤ LINE_LIMIT) × (reply ≡ line ++ 10 ∷ []))
+        ⊎ ((LINE_LIMIT < length line) × (reply ≡ 33 ∷ 10 ∷ [])) };
 
     fn answer(
         &mut self,
