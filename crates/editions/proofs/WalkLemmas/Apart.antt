@@ -42,7 +42,6 @@ use Rattle.editions.proofs.WalkLemmas.Levelled.{name-is}
 use Rattle.editions.proofs.WalkLemmas.Inside.{HaveSpans, AreInsides}
 use Rattle.editions.proofs.WalkLemmas.Point.{crl_listed}
 use Rattle.editions.proofs.WalkLemmas.Walks.{AreApart}
-use Rattle.editions.proofs.WalkLemmas.Whole.{uris_at}
 use Rattle.editions.proofs.WalkLemmas.Seats as seats
 use Rattle.editions.proofs.WalkLemmas.Stands as stands
 use Rattle.editions.proofs.WalkLemmas.Files as files
@@ -110,15 +109,13 @@ module _ (m : Issuance) (tree : AreTree (names_of m.plan_input.basis.configs))
   under k = filter (is_under k) (members m.plan_input.owed)
 
   abbrev place : O → List ℕ
-  place = build.place m tree are before next set anchor owes apart kinds spans insides folders unrevoked
+  place = files.place m tree are before next set anchor owes apart
 
   abbrev key_uri : K → List ℕ
-  key_uri c = (build.authority m tree are before next set anchor owes apart kinds spans insides folders
-      unrevoked c).uri
+  key_uri c = (files.authority m tree are before next set anchor owes apart c).uri
 
-  abbrev pub uris : K → List (List ℕ)
-  uris = uris_at (build.authority m tree are before next set anchor owes apart kinds spans insides folders
-      unrevoked) place below under
+  abbrev uris : K → List (List ℕ)
+  uris = files.uris m tree are before next set anchor owes apart
 
   cert-at : (k c : K) → is_below k c ≡ true → key_uri c ≡ cert_uri site (name k.0) (id_of c.0)
   cert-at k c so =

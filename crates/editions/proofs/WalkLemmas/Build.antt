@@ -85,12 +85,7 @@ module _ (m : Issuance) (tree : AreTree (names_of m.plan_input.basis.configs))
   site = m.plan_input.site
 
   abbrev pub seat : KeyRow → Seat
-  seat k = record {
-    key = k.key.bytes;
-    name = name_at (names_of m.plan_input.basis.configs) k.desk;
-    certificate = publishers.certificate_of (seats.w m tree are before next set)
-        (seats.ks m tree are before next set) k;
-  }
+  seat = files.seat m tree are before next set anchor owes apart
 
   abbrev issuer : K → KeyRow
   issuer c = files.issuer m tree are before next set anchor owes apart c
@@ -116,15 +111,11 @@ module _ (m : Issuance) (tree : AreTree (names_of m.plan_input.basis.configs))
   abbrev serial : K → ℕ
   serial c = seats.serial m tree are before next set c.0 c.1
 
-  -- What the certificate of a key says.
   abbrev pub value : K → CertValue
-  value c = cond (c.0.desk == 0)
-      (anchor_certificate site m.plan_input.basis.moment (publishing (seat c.0)) (held c) (serial c))
-      (authority_certificate site m.plan_input.basis.moment (publishing (seat (issuer c)))
-      (publishing (seat c.0)) (held c) (serial c))
+  value = files.value m tree are before next set anchor owes apart
 
   abbrev pub authority : K → Authority
-  authority c = authority_with s (seat c.0) (value c) (sets_of (held c))
+  authority = files.authority m tree are before next set anchor owes apart
 
   -- ---- points
 
@@ -409,7 +400,7 @@ module _ (m : Issuance) (tree : AreTree (names_of m.plan_input.basis.configs))
   -- ---- ROAs
 
   abbrev pub place : O → List ℕ
-  place o = (stands.roa_drafted m tree are before next set anchor owes o.0 o.1).uri
+  place = files.place m tree are before next set anchor owes apart
 
   abbrev pub roa : O → SignedRoa
   roa o = (stands.roa_object m tree are before next set anchor owes o.0 o.1).roa

@@ -29,34 +29,21 @@ use Rattle.editions.proofs.WalkLemmas.Levelled.{zero-or, top-place}
 use Rattle.editions.proofs.WalkLemmas.Seats as seats
 use Rattle.editions.proofs.WalkLemmas.Stands as stands
 use Rattle.editions.proofs.WalkLemmas.Files as files
-use Rattle.editions.proofs.WalkLemmas.Build as build
-use Rattle.editions.proofs.WalkLemmas.Build.{AreKinds}
-use Rattle.editions.proofs.WalkLemmas.Apart as apart_
-use Rattle.editions.proofs.WalkLemmas.Apart.{AreTold}
 
 module _ (m : Issuance) (tree : AreTree (names_of m.plan_input.basis.configs))
     (are : AreCertified m.plan_input.basis.configs m.plan_input.basis.sets)
     (before : AllPairs (λ a b. id_of a ≢ id_of b) m.plan_input.basis.rows)
     (next : AreNext m.plan_input.basis.rows (next_keys m.plan_input.basis) m.keys)
     (set : IsNewSet m) (anchor : List ℕ) (owes : AreOwed m.plan_input.basis.configs m.plan_input.owed)
-    (apart : (site : Bases) (a f : List ℕ) → anchor_uri site ≢ file_uri site a f) (kinds : AreKinds)
-    (spans : HaveSpans) (insides : AreInsides)
-    (folders : (k : KeyRow) → In k m.keys → is_folder m.plan_input.site
-    (folder_of m.plan_input.site (name_at (names_of m.plan_input.basis.configs) k.desk)) ≡ true)
-    (unrevoked : (k : KeyRow) → In k m.keys → (c : SignedCert) → IsHeld m.new (id_of k) c
-    → is_revoked (map crl_entry (m.entries k)) c.cert.serial ≡ false)
-    (told : AreTold)
-    (plain : (k : KeyRow) → In k m.keys
-    → IsName (name_at (names_of m.plan_input.basis.configs) k.desk)) where
+    (apart : (site : Bases) (a f : List ℕ) → anchor_uri site ≢ file_uri site a f) where
   abbrev K : Type 0
-  K = Member m.keys
+  K = files.K m tree are before next set anchor owes apart
 
   abbrev O : Type 0
-  O = Member m.plan_input.owed
+  O = files.O m tree are before next set anchor owes apart
 
   abbrev uris : K → List (List ℕ)
-  uris = apart_.uris m tree are before next set anchor owes apart kinds spans insides folders unrevoked told
-      plain
+  uris = files.uris m tree are before next set anchor owes apart
 
   abbrev all : List (List ℕ)
   all = anchor_uri m.plan_input.site ∷ flat_map uris (members m.keys)
@@ -85,13 +72,11 @@ module _ (m : Issuance) (tree : AreTree (names_of m.plan_input.basis.configs))
       (bytes_eq-Decides (id_of (files.signer m tree are before next set anchor owes apart o)) (id_of e.0)).1
       (sym (ap id_of same)) in
       inr (inr (in-behind (stands.roa_drafted m tree are before next set anchor owes o.0 o.1).uri
-      (map (λ (c : K). (build.authority m tree are before next set anchor owes apart kinds spans insides
-      folders unrevoked c).uri)
+      (map (λ (c : K). (files.authority m tree are before next set anchor owes apart c).uri)
       (filter (files.is_below m tree are before next set anchor owes apart e) (members m.keys)))
-      (map (build.place m tree are before next set anchor owes apart kinds spans insides folders unrevoked)
+      (map (files.place m tree are before next set anchor owes apart)
       (filter (files.is_under m tree are before next set anchor owes apart e) (members m.plan_input.owed)))
-      (in-map (build.place m tree are before next set anchor owes apart kinds spans insides folders
-      unrevoked) o (filter (files.is_under m tree are before next set anchor owes apart e)
+      (in-map (files.place m tree are before next set anchor owes apart) o (filter (files.is_under m tree are before next set anchor owes apart e)
       (members m.plan_input.owed))
       (in-filter (files.is_under m tree are before next set anchor owes apart e) o
       (members m.plan_input.owed) so at)))))
@@ -111,17 +96,14 @@ module _ (m : Issuance) (tree : AreTree (names_of m.plan_input.basis.configs))
           ((bytes_eq-Decides (id_of (files.issuer m tree are before next set anchor owes apart c)) (id_of e.0)).1
           (sym (ap id_of same))) in
           inr (inr (in-front (seats.place m tree are before next set c.0 c.1)
-          (map (λ (d : K). (build.authority m tree are before next set anchor owes apart kinds spans insides
-          folders unrevoked d).uri)
+          (map (λ (d : K). (files.authority m tree are before next set anchor owes apart d).uri)
           (filter (files.is_below m tree are before next set anchor owes apart e) (members m.keys)))
-          (map (build.place m tree are before next set anchor owes apart kinds spans insides folders unrevoked)
+          (map (files.place m tree are before next set anchor owes apart)
           (filter (files.is_under m tree are before next set anchor owes apart e) (members m.plan_input.owed)))
-          (subst (λ (u : List ℕ). In u (map (λ (d : K). (build.authority m tree are before next set anchor
-          owes apart kinds spans insides folders unrevoked d).uri)
+          (subst (λ (u : List ℕ). In u (map (λ (d : K). (files.authority m tree are before next set anchor owes apart d).uri)
           (filter (files.is_below m tree are before next set anchor owes apart e) (members m.keys))))
           (seats.certificate-at m tree are before next set c.0 c.1)
-          (in-map (λ (d : K). (build.authority m tree are before next set anchor owes apart kinds spans insides
-          folders unrevoked d).uri) c
+          (in-map (λ (d : K). (files.authority m tree are before next set anchor owes apart d).uri) c
           (filter (files.is_below m tree are before next set anchor owes apart e) (members m.keys))
           (in-filter (files.is_below m tree are before next set anchor owes apart e) c (members m.keys) so at))))))
         where

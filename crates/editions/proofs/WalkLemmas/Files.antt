@@ -15,7 +15,10 @@ use Rattle.entitle.specs.Owed.{AreOwed}
 use Rattle.key_roll.specs.declared.rows.KeyRow.{KeyRow}
 use Rattle.key_roll.specs.declared.work.CertWork.{CertWork}
 use Rattle.key_roll.specs.declared.work.RoaWork.{RoaWork}
+use Rattle.cert_obj.specs.Values.{CertValue, sets_of}
+use Rattle.rp_rules.specs.Authorities.{Authority}
 use Rattle.rp_rules.specs.Certificates.{File}
+use Rattle.issue_values.specs.Certificates.{anchor_certificate, authority_certificate}
 use Rattle.issue_plan.specs.declared.keys.NextKey.{NextKey}
 use Rattle.issue_plan.specs.Keys.{kept, next_keys}
 use Rattle.issue_plan.specs.Uris.{roa_file}
@@ -23,6 +26,7 @@ use Rattle.issue_plan.specs.Wanted as plan
 use Rattle.issue_plan.specs.Wanted.{certificate_of, point_of}
 use Rattle.issue_keys.specs.Keys.{id_of}
 use Rattle.issue_drafts.specs.Finding.{Keys}
+use Rattle.issue_drafts.specs.Certificates as publishers
 use Rattle.issue_drafts.specs.Certificates.{IssueInput, is_key, name_at}
 use Rattle.issue_drafts.specs.Drafts.{Draft, certificate_draft, roa_draft, crl_draft, drafts}
 use Rattle.issue_drafts.specs.Files.{name_in, folder_at, is_made_under}
@@ -33,9 +37,10 @@ use Rattle.editions.specs.Names.{AreTree}
 use Rattle.items.specs.laws.AmongLaws.{In, filter-in}
 use Rattle.editions.proofs.WalkLemmas.Elements.{pairs-twos, twos-from}
 use Rattle.editions.proofs.WalkLemmas.Members.{Member, members, members-are, members-twos, member-of, map-map, filter-map-some, filter-of-map, filter-one}
-use Rattle.editions.proofs.WalkLemmas.Point.{crl_listed}
+use Rattle.editions.proofs.WalkLemmas.Point.{Seat, publishing, authority_with, crl_listed}
 use Rattle.editions.proofs.WalkLemmas.Roas.{roa_listed}
 use Rattle.editions.proofs.WalkLemmas.Children.{key_listed}
+use Rattle.editions.proofs.WalkLemmas.Whole.{uris_at}
 use Rattle.editions.proofs.WalkLemmas.Seats as seats
 use Rattle.editions.proofs.WalkLemmas.Stands as stands
 
@@ -338,3 +343,34 @@ module _ (m : Issuance) (tree : AreTree (names_of m.plan_input.basis.configs))
                 (name_at (names_of m.plan_input.basis.configs) r.desk)
                 (encode_lower (id_of c.0) ++ codes ".crl")) is)
                 (stands.crl-left m tree are before next set anchor c.0 c.1).1
+
+  -- ---- places
+
+  abbrev pub seat : KeyRow → Seat
+  seat k = record {
+    key = k.key.bytes;
+    name = name_at (names_of m.plan_input.basis.configs) k.desk;
+    certificate = publishers.certificate_of w ks k;
+  }
+
+  -- What the certificate of a key says.
+  abbrev pub value : K → CertValue
+  value c =
+      let held = seats.held m tree are before next set c.0 c.1 in
+      let serial = seats.serial m tree are before next set c.0 c.1 in
+      cond (c.0.desk == 0)
+      (anchor_certificate m.plan_input.site m.plan_input.basis.moment (publishing (seat c.0)) held serial)
+      (authority_certificate m.plan_input.site m.plan_input.basis.moment (publishing (seat (issuer c)))
+      (publishing (seat c.0)) held serial)
+
+  abbrev pub authority : K → Authority
+  authority c = authority_with (stands.s m tree are before next set anchor) (seat c.0) (value c)
+      (sets_of (seats.held m tree are before next set c.0 c.1))
+
+  abbrev pub place : O → List ℕ
+  place o = (stands.roa_drafted m tree are before next set anchor owes o.0 o.1).uri
+
+  -- The places of a key's point and of what it lists.
+  abbrev pub uris : K → List (List ℕ)
+  uris = uris_at authority place (λ k. filter (is_below k) (members m.keys))
+      (λ k. filter (is_under k) (members m.plan_input.owed))

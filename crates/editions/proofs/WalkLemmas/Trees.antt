@@ -118,8 +118,7 @@ module _ (m : Issuance) (tree : AreTree (names_of m.plan_input.basis.configs))
       (seats.serial m tree are before next set top.0 top.1)))) (eq-eqb top.0.desk 0 top-desk))
 
   abbrev uris : K → List (List ℕ)
-  uris = apart_.uris m tree are before next set anchor owes apart kinds spans insides folders unrevoked told
-      plain
+  uris = files.uris m tree are before next set anchor owes apart
 
   is-tree : IsTree s m.new (members m.keys) (members m.plan_input.owed)
       (files.is_below m tree are before next set anchor owes apart)
@@ -145,8 +144,7 @@ module _ (m : Issuance) (tree : AreTree (names_of m.plan_input.basis.configs))
         (apart_.all-twos m tree are before next set anchor owes apart kinds spans insides folders
         unrevoked told plain);
     places = λ uri there. subst (λ (u : List ℕ). In uri (u ∷ flat_map uris (members m.keys))) (sym top-at)
-        (everywhere m tree are before next set anchor owes apart kinds spans insides folders unrevoked told
-        plain uri there);
+        (everywhere m tree are before next set anchor owes apart uri there);
   }
 
   told-is : map (build.told m tree are before next set anchor owes apart kinds spans insides folders
