@@ -14,8 +14,8 @@ use crate::instance::Instance;
 use authority_book::{Command, Refusal};
 use disk_api::Disk;
 use json_api::{
-    Line, LineFault, LineReader, Published, Refused, accepted_into, fault_into,
-    published_into, refused_into, serial_into, verdict_into,
+    Line, LineFault, LineReader, Published, Refused, accepted_into, fault_into, published_into,
+    refused_into, serial_into, verdict_into,
 };
 use line_loop::{Clock, LINE_LIMIT, LineHandler};
 use names::Name;

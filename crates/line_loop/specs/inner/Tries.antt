@@ -6,4 +6,4 @@ use Rattle.std.specs.Io.KnownBytes.{Keeps}
 -- the count of faults, before the first try and now.
 abbrev pub IsUntouched : Option (List ℕ) → Option (List ℕ) → ℕ → ℕ → Type 0
 IsUntouched held_before held count_before count =
-    record { kept : Keeps held_before held; counted : count ≡ count_before; }
+    record { kept : Keeps held_before held; counted : count ≡ count_before }
