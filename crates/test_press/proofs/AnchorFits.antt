@@ -14,6 +14,7 @@ use Rattle.res_sets.specs.declared.holdings.Resources.{Resources}
 use Rattle.signer_api.specs.declared.values.PublicKey.{PublicKey}
 use Rattle.key_ids.specs.Uris.{Bases, anchor_uri, folder_of, cert_uri, crl_uri, manifest_uri}
 use Rattle.authority_book.specs.declared.rows.NameRow.{NameRow}
+use Rattle.names.specs.Name.{IsName}
 use Rattle.pub_set.specs.Objects.{Rise}
 use Rattle.key_roll.specs.declared.rows.KeyRow.{KeyRow}
 use Rattle.key_roll.specs.declared.issued.IssuedRow.{IssuedRow}
@@ -201,15 +202,16 @@ unfolding IsStrictlySortedBy
 none-rise = tt
 
 pub anchor-is-work : (moment : ℕ) (held : Resources) (origins : List Origin) (names : List NameRow) (site : Bases)
-    (live : Option PublicKey) (signers : ℕ) → IsEditionMoment moment → 0 < length names → 0 < signers
+    (live : Option PublicKey) (signers : ℕ) → IsEditionMoment moment → 0 < length names → All (λ row. IsName row.name) names → 0 < signers
     → AllPairs (λ a b. a ≢ b) (map (roa_uri site (name_at names 0)) origins)
     → CanMake (input moment held origins names site) (unused_rows live) signers
-anchor-is-work moment held origins names site live signers at named there apart = record {
+anchor-is-work moment held origins names site live signers at named plain there apart = record {
   moment = at;
   new_signers = All-cons (λ (new : NewKey). new.signer < signers) anchor_key [] there (All-nil (λ (new : NewKey). new.signer < signers));
   live_signers = unused-all (λ row. row.signer < signers) live (λ key. there);
   new_desks = All-cons (λ (new : NewKey). new.desk < length names) anchor_key [] named (All-nil (λ (new : NewKey). new.desk < length names));
   desks = desks-in moment held origins names live named;
+  plain = plain;
   apart = unused-pairs (λ a b. id_of a ≢ id_of b) live;
   serials = unused-all (λ row. row.next_serial < 2 ^ 62) live (λ key. lit< tt);
   numbers = unused-all (λ row. row.number < 2 ^ 62) live (λ key. lit< tt);

@@ -6,7 +6,7 @@ use json_api::{Line, read_line};
 use std::alloc::Global;
 
 // How many desks there are.
-const DESKS: u32 = 64;
+const DESKS: u32 = authority_book::MOST_AUTHORITIES as u32;
 
 /// What an authority accepted, and what that comes to.
 #[derive(Drop)]

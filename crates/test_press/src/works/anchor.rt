@@ -1,6 +1,7 @@
 //! The trust anchor's edition: a new key, its certificate of all resources, its ROAs, its CRL and manifest.
 
-ghost use Rattle.std.specs.Prelude.{◌≡◌, ◌≢◌, ◌<◌, ◌∷◌, [], length, map, AllPairs, IfOk};
+ghost use Rattle.std.specs.Prelude.{◌≡◌, ◌≢◌, ◌<◌, ◌∷◌, [], All, length, map, AllPairs, IfOk};
+ghost use Rattle.names.specs.Name.{IsName};
 ghost use Rattle.issue_values.specs.Certificates.{IsEditionMoment};
 ghost use Rattle.issue_values.specs.Publishers.{roa_uri};
 ghost use Rattle.issue_drafts.specs.Certificates.{name_at};
@@ -132,6 +133,7 @@ pub fn make_anchor<S: Signer>(
     requires moment { IsEditionMoment moment }
     requires apart { AllPairs (λ a b. a ≢ b) (map (roa_uri site.now (name_at names.now 0)) origins.now) }
     requires names { 0 < length names.now }
+    requires plain { All (λ row. IsName row.name) names.now }
     requires signers { 0 < length ring.old }
 {
     let held = Resources::whole(alloc)?;

@@ -1,6 +1,6 @@
 //! Answers of cases.
 
-ghost use Rattle.std.specs.Prelude.{◌≡◌, None, length, IfOk};
+ghost use Rattle.std.specs.Prelude.{◌≡◌, None, All, length, IfOk};
 ghost use Rattle.names.specs.Name.{IsName};
 ghost use Rattle.authority_book.specs.Origins.{first_repeated};
 ghost use Rattle.issue_drafts.specs.Certificates.{name_at};
@@ -109,6 +109,7 @@ fn anchor_name() -> Result<Name>
 fn names_of(alloc: Global) -> Result<Vec<NameRow>>
     ensures one { IfOk result (λ names. length names.items ≡ 1) }
     ensures name { IfOk result (λ names. IsName (name_at names.items 0)) }
+    ensures plain { IfOk result (λ names. All (λ row. IsName row.name) names.items) }
 {
     let mut names = Vec::new(alloc);
     names.push(NameRow {

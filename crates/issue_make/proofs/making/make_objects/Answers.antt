@@ -25,8 +25,8 @@ plan_objects-requires g c =
     can-plan-at (input_of c.args.input.now) c.requires.live keys.rows.items c.deref.result.now c.deref-2.result.now keys.first_fresh
     (length c.args.ring.now) c.in_ok-finder.finder c.requires.ready c.deref.ensures.value c.deref-2.ensures.value c.in_ok-finder.ensures
 
-pub finish-requires : goal.finish-requires
-finish-requires g c =
+pub sign_and_assemble-requires : goal.sign_and_assemble-requires
+sign_and_assemble-requires g c =
     let keys = c.args.keys.now in record {
       live = c.requires.live;
       n = keys.first_fresh;

@@ -7,8 +7,8 @@ use Rattle.issue_make.proofs.ComesOut.{can-come-out}
 use Rattle.issue_make.proofs.Traced.{is-finished, stop-made}
 use Rattle.issue_make.proofs.making.sign_and_assemble.Goals as goal
 
-pub sign-requires : goal.sign-requires
-sign-requires g c =
+pub sign_objects-requires : goal.sign_objects-requires
+sign_objects-requires g c =
     let r = c.requires in
     can-be-signed (input_of c.args.input.now) r.live c.args.rows.now r.n (length c.args.ring.now) c.args.plan r.ready
 

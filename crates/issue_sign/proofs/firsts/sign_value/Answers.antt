@@ -12,12 +12,12 @@ returns-in_err-sign_certificate-in-Certificate-clause-stopped g c =
     c.in_err-sign_certificate-in-Certificate.field-0.0)
     (sym c.in-Certificate.is) c.in_err-sign_certificate-in-Certificate.ensures.stopped)
 
-pub returns-in_err-sign_crl-in-List-clause-stopped : goal.returns-in_err-sign_crl-in-List-clause-stopped
-returns-in_err-sign_crl-in-List-clause-stopped g c =
-    let p = err_from_is_err_and c.from_residual-in_err-sign_crl-in-List.result c.from_residual-in_err-sign_crl-in-List.ensures.1 in
+pub returns-in_err-sign_crl-in-Crl-clause-stopped : goal.returns-in_err-sign_crl-in-Crl-clause-stopped
+returns-in_err-sign_crl-in-Crl-clause-stopped g c =
+    let p = err_from_is_err_and c.from_residual-in_err-sign_crl-in-Crl.result c.from_residual-in_err-sign_crl-in-Crl.ensures.1 in
     rw (p.1, p.2)
-    (subst (λ (u : Unsigned). IsHalt (call_of c.args.moment c.args.issuer.now u) c.args.ring.now c.sign_crl.new.ring c.in_err-sign_crl-in-List.field-0.0)
-    (sym c.in-List.is) c.in_err-sign_crl-in-List.ensures.stopped)
+    (subst (λ (u : Unsigned). IsHalt (call_of c.args.moment c.args.issuer.now u) c.args.ring.now c.sign_crl.new.ring c.in_err-sign_crl-in-Crl.field-0.0)
+    (sym c.in-Crl.is) c.in_err-sign_crl-in-Crl.ensures.stopped)
 
 pub returns-in_err-sign_content-in-Roa-clause-stopped : goal.returns-in_err-sign_content-in-Roa-clause-stopped
 returns-in_err-sign_content-in-Roa-clause-stopped g c =

@@ -8,5 +8,5 @@ returns-clause-value c =
     let all = c.args.sign_input.now.publishers.now in
     let i = c.args.draft.now.issuer.place in
     roa-made c.args.sign_input.now c.args.draft.now c.as_str.result.now c.args.origin.now c.args.key.now.bytes c.args.serial
-    (get_or all i c.index-edition-draft.result) c.roa_certificate.result c.requires.issuer.inside
-    (ap (λ (p : Publisher). get_or all i p) c.index-edition-draft.is) c.as_str.ensures c.roa_certificate.ensures.value
+    (get_or all i c.index-sign_input-draft.result) c.roa_certificate.result c.requires.issuer.inside
+    (ap (λ (p : Publisher). get_or all i p) c.index-sign_input-draft.is) c.as_str.ensures c.roa_certificate.ensures.value

@@ -35,8 +35,8 @@ loop-half-init g c =
           (drafts-start s b c.args.drafts.now c.args.halves.items c.in_ok-objects.objects.items old c.args.ring.now none c.requires.each halves);
     }
 
-pub finish-requires-clause-kind : goal.finish-requires-clause-kind
-finish-requires-clause-kind g c =
+pub finish_draft-requires-clause-kind : goal.finish_draft-requires-clause-kind
+finish_draft-requires-clause-kind g c =
     let same : c.len-place.result ≡ length c.loop-half.objects.items = omega arith in
     let t = turn-at c.args.drafts.now c.args.halves.items (length c.loop-half.objects.items) (into_iter_items c.loop-half.half-iterator)
     (into_iter_items c.next.new.self)

@@ -9,9 +9,9 @@ returns-then-eq-clause-value c =
     let i = c.args.issuer.now.place in
     let j = c.args.subject.now.place in
     anchor-made c.args.sign_input.now c.args.issuer.now c.args.subject.now c.args.held.now c.args.serial
-    (get_or all i c.index-edition-issuer.result) (get_or all j c.index-edition-subject.result)
+    (get_or all i c.index-sign_input-issuer.result) (get_or all j c.index-sign_input-subject.result)
     c.anchor_certificate.result c.requires.issuer.inside c.requires.subject
-    (ap (λ (p : Publisher). get_or all i p) c.index-edition-issuer.is) (ap (λ (p : Publisher). get_or all j p) c.index-edition-subject.is)
+    (ap (λ (p : Publisher). get_or all i p) c.index-sign_input-issuer.is) (ap (λ (p : Publisher). get_or all j p) c.index-sign_input-subject.is)
     (sym c.eq.ensures ∙ c.if-eq.true) c.anchor_certificate.ensures.value
 
 pub returns-else-eq-clause-value : goal.returns-else-eq-clause-value
@@ -20,7 +20,7 @@ returns-else-eq-clause-value c =
     let i = c.args.issuer.now.place in
     let j = c.args.subject.now.place in
     authority-made c.args.sign_input.now c.args.issuer.now c.args.subject.now c.args.held.now c.args.serial
-    (get_or all i c.index-edition-issuer.result) (get_or all j c.index-edition-subject.result)
+    (get_or all i c.index-sign_input-issuer.result) (get_or all j c.index-sign_input-subject.result)
     c.authority_certificate.result c.requires.issuer.inside c.requires.subject
-    (ap (λ (p : Publisher). get_or all i p) c.index-edition-issuer.is) (ap (λ (p : Publisher). get_or all j p) c.index-edition-subject.is)
+    (ap (λ (p : Publisher). get_or all i p) c.index-sign_input-issuer.is) (ap (λ (p : Publisher). get_or all j p) c.index-sign_input-subject.is)
     (sym c.eq.ensures ∙ c.if-eq.false) c.authority_certificate.ensures.value

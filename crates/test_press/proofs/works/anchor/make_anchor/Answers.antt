@@ -19,4 +19,4 @@ make-requires g c =
     (subst (λ (w : Work). CanMake (record { work = w; names = names; issued = []; site = site }) (unused_rows c.args.live) signers)
     (sym c.in_ok-work.ensures)
     (anchor-is-work c.args.moment c.in_ok-held.held c.args.origins.now names site c.args.live signers c.requires.moment
-    c.requires.names c.requires.signers c.requires.apart)))
+    c.requires.names c.requires.plain c.requires.signers c.requires.apart)))
