@@ -34,7 +34,7 @@ make_objects-requires g c =
     let k = c.in_ok-keys.ensures in record {
       live = c.args.rows.now;
       ready = are-ready (input_of c.args.input.now) c.args.rows.now c.in_ok-keys.keys.rows.items c.in_ok-keys.keys.first_fresh
-          c.args.ring.now c.edition_keys.new.ring c.requires c.edition_keys.ensures.signers k.inside k.kept k.made (can-name c.args.input.site.now c.args.input.names.now c.can_be_named.ensures.anchor c.can_be_named.ensures.certificate c.can_be_named.ensures.roa c.requires.plain);
+          c.args.ring.now c.edition_keys.new.ring c.requires c.edition_keys.ensures.signers k.inside k.kept k.made (can-name c.args.input.now.site.now c.args.input.now.names.now c.can_be_named.ensures.anchor c.can_be_named.ensures.certificate c.can_be_named.ensures.roa c.requires.plain);
     }
 
 pub returns-clause-made : goal.returns-clause-made
@@ -47,7 +47,7 @@ returns-clause-made g c =
     is-made s c.args.rows.now keys.rows.items keys.first_fresh c.args.ring.now c.edition_keys.new.ring c.make_objects.new.ring made k.made
     (h c.args.rows.now
     (are-ready s c.args.rows.now keys.rows.items keys.first_fresh
-    c.args.ring.now c.edition_keys.new.ring c.requires c.edition_keys.ensures.signers k.inside k.kept k.made (can-name c.args.input.site.now c.args.input.names.now c.can_be_named.ensures.anchor c.can_be_named.ensures.certificate c.can_be_named.ensures.roa c.requires.plain))))
+    c.args.ring.now c.edition_keys.new.ring c.requires c.edition_keys.ensures.signers k.inside k.kept k.made (can-name c.args.input.now.site.now c.args.input.now.names.now c.can_be_named.ensures.anchor c.can_be_named.ensures.certificate c.can_be_named.ensures.roa c.requires.plain))))
     c.make_objects.ensures.made
 
 pub returns-clause-stopped : goal.returns-clause-stopped
