@@ -44,7 +44,7 @@ use Rattle.editions.specs.Standing.{IsTableAfter}
 use Rattle.editions.specs.Names.{AreTree}
 use Rattle.editions.specs.PlannedAndMade.{IsPlannedAndMade}
 use Rattle.press_core.specs.PrepareInput.{PrepareInput}
-use Rattle.press_core.specs.Next.{PreparedValue}
+use Rattle.press_core.specs.Next.{NextValue}
 use Rattle.press_core.specs.Signers.{HasAllVouched}
 use Rattle.press_core.specs.Planned.{IsPrepared, basis_for, issue_input_for, calls_for}
 use Rattle.press_core.specs.Stands.{IsLeftBy, StandsFor}
@@ -123,7 +123,7 @@ vouched-all vouched ring (call ∷ calls) has inside is =
     (vouched-all vouched ring calls has (All-tail (λ (c : Call). signer_of c < length ring) call calls inside) (All-tail (IsVouched ring) call calls is))
 
 -- What was signed for an edition is vouched where all that the signers vouch for is.
-pub prepared-vouched : (start : PrepareInput) (ring : List SignerState) (prepared : PreparedValue) (is : IsPrepared start ring prepared) (vouched : Vouched)
+pub prepared-vouched : (start : PrepareInput) (ring : List SignerState) (prepared : NextValue) (is : IsPrepared start ring prepared) (vouched : Vouched)
     → HasAllVouched vouched ring → All (IsVouchedBy vouched) (calls_for start ring prepared is)
 prepared-vouched start ring prepared is vouched has =
     let of = is.made in
@@ -148,26 +148,26 @@ tree-of law configs cut long taken =
 
 -- ---- what is left
 
-pub record GivenLeft (start : PrepareInput) (ring : List SignerState) (prepared : PreparedValue) (lists : List (List Command)) (editions : List Edition) : Type 0 where
+pub record GivenLeft (start : PrepareInput) (ring : List SignerState) (prepared : NextValue) (lists : List (List Command)) (editions : List Edition) : Type 0 where
   pub laws : LeftLaws
   pub is : IsPrepared start ring prepared
   pub left : IsLeftBy lists editions start.at
   pub gathered : AreNextCommands lists start.at.cut start.gathered
 
-configs-are : (start : PrepareInput) (ring : List SignerState) (prepared : PreparedValue) (lists : List (List Command)) (editions : List Edition) → GivenLeft start ring prepared lists editions
+configs-are : (start : PrepareInput) (ring : List SignerState) (prepared : NextValue) (lists : List (List Command)) (editions : List Edition) → GivenLeft start ring prepared lists editions
     → configs_with start.at.configs start.gathered ≡ configs_at lists prepared.next.cut
 configs-are start ring prepared lists editions g =
     ap (λ (c : List Settings). configs_with c start.gathered) g.left.configs
     ∙ (g.laws.configs lists start.at.cut start.gathered (sym g.left.desks) g.gathered
     ∙ ap (configs_at lists) (sym g.is.cut))
 
-cut-is : (start : PrepareInput) (ring : List SignerState) (prepared : PreparedValue) (lists : List (List Command)) (editions : List Edition) → GivenLeft start ring prepared lists editions
+cut-is : (start : PrepareInput) (ring : List SignerState) (prepared : NextValue) (lists : List (List Command)) (editions : List Edition) → GivenLeft start ring prepared lists editions
     → IsCut lists start.at.cut prepared.next.cut
 cut-is start ring prepared lists editions g =
     subst (IsCut lists start.at.cut) (sym g.is.cut)
     (g.laws.cut lists start.at.cut start.gathered (sym g.left.desks) g.gathered)
 
-state-is : LeftLaws → (prepared : PreparedValue) (editions : List Edition)
+state-is : LeftLaws → (prepared : NextValue) (editions : List Edition)
     → state_after (editions ++ edition_of prepared ∷ []) ≡ record {
       serial = prepared.next.serial;
       moment = prepared.next.moment;
@@ -177,7 +177,7 @@ state-is : LeftLaws → (prepared : PreparedValue) (editions : List Edition)
     }
 state-is laws prepared editions = laws.left editions (edition_of prepared ∷ [])
 
-contents-are : (start : PrepareInput) (ring : List SignerState) (prepared : PreparedValue) (lists : List (List Command)) (editions : List Edition) → GivenLeft start ring prepared lists editions
+contents-are : (start : PrepareInput) (ring : List SignerState) (prepared : NextValue) (lists : List (List Command)) (editions : List Edition) → GivenLeft start ring prepared lists editions
     → (uri : List ℕ) → content_at prepared.next.set uri ≡ set_after (editions ++ edition_of prepared ∷ []) uri
 contents-are start ring prepared lists editions g uri =
     let before : content_at start.at.set ≡ set_after editions = g.laws.same (content_at start.at.set) (set_after editions) g.left.set in
@@ -188,7 +188,7 @@ contents-are start ring prepared lists editions g uri =
     ∙ ap (λ (held : Contents). held uri) (sym after))
 
 -- What will stand is left by the editions with that one behind them.
-pub left-then : (start : PrepareInput) (ring : List SignerState) (prepared : PreparedValue) (lists : List (List Command)) (editions : List Edition) → GivenLeft start ring prepared lists editions
+pub left-then : (start : PrepareInput) (ring : List SignerState) (prepared : NextValue) (lists : List (List Command)) (editions : List Edition) → GivenLeft start ring prepared lists editions
     → IsLeftBy lists (editions ++ edition_of prepared ∷ []) prepared.next
 left-then start ring prepared lists editions g =
     let state = state-is g.laws prepared editions in
@@ -207,12 +207,12 @@ left-then start ring prepared lists editions g =
 
 -- ---- what it was made over
 
-pub record Given (start : PrepareInput) (ring : List SignerState) (prepared : PreparedValue) (premises : Premises) (editions : List Edition) : Type 0 where
+pub record Given (start : PrepareInput) (ring : List SignerState) (prepared : NextValue) (premises : Premises) (editions : List Edition) : Type 0 where
   pub laws : Laws
   pub is : IsPrepared start ring prepared
   pub behind : AreBehind start (calls_for start ring prepared is) premises editions
 
-given-left : (start : PrepareInput) (ring : List SignerState) (prepared : PreparedValue) (premises : Premises) (editions : List Edition) → Given start ring prepared premises editions
+given-left : (start : PrepareInput) (ring : List SignerState) (prepared : NextValue) (premises : Premises) (editions : List Edition) → Given start ring prepared premises editions
     → GivenLeft start ring prepared premises.lists editions
 given-left start ring prepared premises editions g = record { laws = g.laws.left; is = g.is; left = g.behind.stands.left; gathered = g.behind.gathered }
 
@@ -220,7 +220,7 @@ given-left start ring prepared premises editions g = record { laws = g.laws.left
 abbrev own-standing : PrepareInput → List Resources → List Owed → PlanInput
 own-standing start sets owed = record { basis = basis_for start sets; owed = owed; issued = start.at.issued; site = start.site }
 
-standings-same : (start : PrepareInput) (ring : List SignerState) (prepared : PreparedValue) (premises : Premises) (editions : List Edition) (sets : List Resources) (owed : List Owed) → Given start ring prepared premises editions
+standings-same : (start : PrepareInput) (ring : List SignerState) (prepared : NextValue) (premises : Premises) (editions : List Edition) (sets : List Resources) (owed : List Owed) → Given start ring prepared premises editions
     → own-standing start sets owed ≡ plan_input_at premises (state_after editions) (edition_of prepared) sets owed start.at.issued
 standings-same start ring prepared premises editions sets owed g =
     let rows = g.behind.stands.left.rows in
@@ -234,7 +234,7 @@ standings-same start ring prepared premises editions sets owed g =
       site = site i;
     }
 
-pub planned-and-made : (start : PrepareInput) (ring : List SignerState) (prepared : PreparedValue) (premises : Premises) (editions : List Edition) → Given start ring prepared premises editions
+pub planned-and-made : (start : PrepareInput) (ring : List SignerState) (prepared : NextValue) (premises : Premises) (editions : List Edition) → Given start ring prepared premises editions
     → IsPlannedAndMade premises start.clock editions (edition_of prepared) start.ring ring
 planned-and-made start ring prepared premises editions g =
     let state = state_after editions in
@@ -284,7 +284,7 @@ planned-and-made start ring prepared premises editions g =
 
 -- ---- what stands then
 
-stands-then : (start : PrepareInput) (ring : List SignerState) (prepared : PreparedValue) (premises : Premises) (editions : List Edition) → Given start ring prepared premises editions
+stands-then : (start : PrepareInput) (ring : List SignerState) (prepared : NextValue) (premises : Premises) (editions : List Edition) → Given start ring prepared premises editions
     → IsStep premises start.clock editions (edition_of prepared) → StandsFor premises (editions ++ edition_of prepared ∷ []) prepared.next
 unfolding planned-and-made
 stands-then start ring prepared premises editions g step =
@@ -298,7 +298,7 @@ stands-then start ring prepared premises editions g step =
           (subst (λ (changes : List Change). IsTableAfter start.at.issued changes g.is.made.made.issued prepared.next.issued) (sym g.is.made.changes) g.is.made.table);
     }
 
-called-then : (start : PrepareInput) (ring : List SignerState) (prepared : PreparedValue) (premises : Premises) (editions : List Edition) → Given start ring prepared premises editions
+called-then : (start : PrepareInput) (ring : List SignerState) (prepared : NextValue) (premises : Premises) (editions : List Edition) → Given start ring prepared premises editions
     → IsCalledFor premises editions prepared.next.cut prepared.next.moment true
 called-then start ring prepared premises editions g =
     let state = state_after editions in
@@ -323,7 +323,7 @@ called-then start ring prepared premises editions g =
     }
 
 -- It follows them.
-pub prepared-follows : Laws → (start : PrepareInput) (ring : List SignerState) (prepared : PreparedValue) (is : IsPrepared start ring prepared) (premises : Premises) (editions : List Edition)
+pub prepared-follows : Laws → (start : PrepareInput) (ring : List SignerState) (prepared : NextValue) (is : IsPrepared start ring prepared) (premises : Premises) (editions : List Edition)
     → AreBehind start (calls_for start ring prepared is) premises editions → Follows premises start.clock editions prepared
 prepared-follows laws start ring prepared is premises editions behind =
     let g : Given start ring prepared premises editions = record { laws = laws; is = is; behind = behind } in
@@ -349,7 +349,7 @@ IsWalkLaw = (premises : Premises) (editions : List Edition) (edition : Edition) 
     → IsPublished premises edition (set_after (editions ++ edition ∷ []))
 
 pub prepared-published : IsNamesLaw → ((one other : Contents) → ((uri : List ℕ) → one uri ≡ other uri) → one ≡ other) → IsWalkLaw
-    → (start : PrepareInput) (ring : List SignerState) (prepared : PreparedValue) (premises : Premises) (editions : List Edition)
+    → (start : PrepareInput) (ring : List SignerState) (prepared : NextValue) (premises : Premises) (editions : List Edition)
     → IsPrepared start ring prepared → Follows premises start.clock editions prepared
     → IsPublished premises (edition_of prepared) (content_at prepared.next.set)
 prepared-published names law walk start ring prepared premises editions is follows =

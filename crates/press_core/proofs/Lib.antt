@@ -6,3 +6,5 @@ pub mod Signing
 pub mod Following
 pub mod Readied
 pub mod Standing
+pub mod Told
+pub mod Shown

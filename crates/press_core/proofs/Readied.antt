@@ -39,7 +39,7 @@ use Rattle.editions.specs.Clear.{IsClear}
 use Rattle.editions.specs.PlannedAndMade.{CanBeRead}
 use Rattle.press_core.specs.declared.setup.EditionInput.{EditionInput}
 use Rattle.press_core.specs.PrepareInput.{PrepareInput}
-use Rattle.press_core.specs.Next.{PreparedValue}
+use Rattle.press_core.specs.Next.{NextValue}
 use Rattle.press_core.specs.Planned.{IsInRange, IsCalled, IsPlanned, IsPrepared, basis_for, issue_input_for}
 use Rattle.press_core.specs.Signers.{HoldKeys}
 use Rattle.press_core.proofs.Holding.{hold-calls, hold-fault, hold-further}
@@ -264,7 +264,7 @@ can-stand start setup work ring made ready is = record {
   issued = is.is_made.listed;
 }
 
-pub prepared-of : (start : PrepareInput) (setup : EditionInput) (work : Work) (ring : List SignerState) (made : Made) (prepared : PreparedValue) → IsReady start setup work
+pub prepared-of : (start : PrepareInput) (setup : EditionInput) (work : Work) (ring : List SignerState) (made : Made) (prepared : NextValue) → IsReady start setup work
     → IsMadeReady start setup work ring made → All CanBeRead made.changes → length made.issued < 2 ^ 62 → IsNextOf start.at setup made prepared
     → IsPrepared start ring prepared
 prepared-of start setup work ring made prepared ready is readable few next = record {

@@ -13,10 +13,10 @@ use Rattle.editions.specs.inner.Vouched.{IsVouchedBy}
 use Rattle.editions.specs.Gathering.{AreNextCommands}
 use Rattle.press_core.specs.PrepareInput.{PrepareInput}
 use Rattle.press_core.specs.Planned.{IsPrepared, calls_for}
-use Rattle.press_core.specs.Next.{PreparedValue}
+use Rattle.press_core.specs.Next.{NextValue}
 use Rattle.press_core.specs.Stands.{IsLeftBy, StandsFor}
 
-abbrev pub edition_of : PreparedValue → Edition
+abbrev pub edition_of : NextValue → Edition
 edition_of prepared = record {
   serial = prepared.next.serial;
   moment = prepared.next.moment;
@@ -39,7 +39,7 @@ pub record AreBehind (start : PrepareInput) (calls : List Call) (premises : Prem
 -- leave. A manifest that takes another's place has a greater number and a later time (RFC 9286
 -- section 4.2.1), and no two certificates of one life of a key have one serial (RFC 6487 section 4.2).
 pub record Follows (premises : Premises) (clock : ℕ) (editions : List Edition)
-    (prepared : PreparedValue) : Type 0 where
+    (prepared : NextValue) : Type 0 where
   pub step : IsStep premises clock editions (edition_of prepared)
   pub called : IsCalledFor premises editions prepared.next.cut prepared.next.moment true
   pub stands : StandsFor premises (editions ++ edition_of prepared ∷ []) prepared.next
@@ -49,7 +49,7 @@ pub record Follows (premises : Premises) (clock : ℕ) (editions : List Edition)
 
 -- What a press prepares. The calls of its signers are the same ones throughout.
 pub record IsNextEdition (start : PrepareInput) (ring : List SignerState)
-    (prepared : PreparedValue) : Type 0 where
+    (prepared : NextValue) : Type 0 where
   -- an edition was called for, and this is what the signers made of its plan
   pub is_prepared : IsPrepared start ring prepared
   -- behind whatever editions left what stood, it leaves what will stand

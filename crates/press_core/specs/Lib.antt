@@ -5,6 +5,8 @@ pub mod Next
 pub mod Planned
 pub mod Stands
 pub mod Follows
+pub mod Files
+pub mod Exports
 pub mod Met
 pub mod Faults
 pub mod inner

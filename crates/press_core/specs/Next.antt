@@ -9,17 +9,23 @@ use Rattle.editions.specs.declared.ended.EndedKey.{EndedKey}
 use Rattle.editions.specs.PublishedState.{PublishedStateValue, IsConsistentState}
 use Rattle.editions.specs.Ended.{ended_keys}
 use Rattle.editions.specs.Clear.{IsClear}
+use Rattle.rrdp_state.specs.declared.next.NextFiles.{NextFiles}
 
 -- What will stand, what changes, and the keys that end.
-pub record PreparedValue : Type 0 where
+pub record NextValue : Type 0 where
   pub next : PublishedStateValue
   pub changes : List Change
   pub ended : List EndedKey
 
+-- The edition that was prepared, and its RRDP files.
+pub record PreparedValue : Type 0 where
+  pub edition : NextValue
+  pub files : NextFiles
+
 -- It follows what stands: with the next serial, a later moment, and a cut that takes in no less; the
 -- set is what the changes make of the old one, the keys that end are those that don't go on, and at
 -- the places of keys that aren't live nothing stands.
-pub record IsNext (site : Bases) (at : PublishedStateValue) (prepared : PreparedValue)
+pub record IsNext (site : Bases) (at : PublishedStateValue) (prepared : NextValue)
     : Type 0 where
   pub serial : prepared.next.serial ≡ at.serial + 1
   pub moment : at.moment < prepared.next.moment

@@ -19,7 +19,7 @@ use Rattle.editions.specs.Calling.{is_called_for}
 use Rattle.editions.specs.Standing.{IsTableAfter}
 use Rattle.editions.specs.PlannedAndMade.{CanBeRead}
 use Rattle.press_core.specs.PrepareInput.{PrepareInput}
-use Rattle.press_core.specs.Next.{PreparedValue, IsNext}
+use Rattle.press_core.specs.Next.{NextValue, IsNext}
 
 -- What the next edition is made from, where that is certified.
 abbrev pub basis_for : PrepareInput → List Resources → Basis
@@ -62,7 +62,7 @@ issue_input_for start work = record {
 }
 
 -- The signers made what was planned, and nothing else; and what is prepared is what it came to.
-pub record IsMadeOf (start : PrepareInput) (ring : List SignerState) (prepared : PreparedValue)
+pub record IsMadeOf (start : PrepareInput) (ring : List SignerState) (prepared : NextValue)
     : Type 0 where
   pub work : Work
   pub planned : IsPlanned start work
@@ -79,7 +79,7 @@ pub record IsMadeOf (start : PrepareInput) (ring : List SignerState) (prepared :
 -- The edition is at the clock's moment or just behind the last one, and takes in all that was
 -- gathered. It is made of its plan, and follows what stands; the signers of its keys are there, and
 -- its names are those that an authority can have.
-pub record IsPrepared (start : PrepareInput) (ring : List SignerState) (prepared : PreparedValue)
+pub record IsPrepared (start : PrepareInput) (ring : List SignerState) (prepared : NextValue)
     : Type 0 where
   pub moment : prepared.next.moment ≡ moment_behind start.clock start.at.moment
   pub cut : prepared.next.cut ≡ cut_with start.at.cut start.gathered
@@ -90,7 +90,7 @@ pub record IsPrepared (start : PrepareInput) (ring : List SignerState) (prepared
   pub names : All (λ row. IsName row.name) (names_of prepared.next.configs)
 
 -- The calls that the signers answered for it.
-abbrev pub calls_for : (start : PrepareInput) (ring : List SignerState) (prepared : PreparedValue)
+abbrev pub calls_for : (start : PrepareInput) (ring : List SignerState) (prepared : NextValue)
     → IsPrepared start ring prepared → List Call
 calls_for start ring prepared is =
     calls_of (issue_input_for start is.made.work) is.made.is_made.trace

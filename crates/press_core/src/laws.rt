@@ -1,13 +1,17 @@
 //! Laws of what a press stands for, and of what it prepares.
 
-ghost use Rattle.std.specs.Prelude.{◌≡◌, ◌≤◌, ◌++◌, ◌∷◌, ℕ, List, [], All, length, get_or, true};
+ghost use Rattle.std.specs.Prelude.{◌≡◌, ◌≤◌, ◌++◌, ◌∷◌, ℕ, List, [], All, length, get_or, true, Option, Some};
 ghost use Rattle.signer_api.specs.State.{SignerState};
 ghost use Rattle.signer_ring.specs.Ring as ring;
 ghost use Rattle.signer_ring.specs.Ring.{AllTell};
 ghost use Rattle.rp_rules.specs.Certificates.{Vouched};
 ghost use Rattle.pub_set.specs.Objects.{content_at};
 ghost use Rattle.pub_set.specs.Changes.{Contents};
-ghost use Rattle.editions.specs.Edition.{Edition, cut_at};
+ghost use Rattle.key_ids.specs.Uris.{Bases, anchor_uri};
+ghost use Rattle.outlet_api.specs.Calls.{Files};
+ghost use Rattle.rrdp_state.specs.Editions.{FollowEachOther, objects_of};
+ghost use Rattle.rrdp_state.specs.Exported.{Repository};
+ghost use Rattle.editions.specs.Edition.{Edition, set_after, cut_at};
 ghost use Rattle.editions.specs.Published.{IsPublished};
 ghost use Rattle.editions.specs.Step.{Premises, AreMore, IsMore};
 ghost use Rattle.authority_book.specs.declared.commands.Command.{Command};
@@ -16,10 +20,14 @@ ghost use Rattle.editions.specs.Gathering.{AreNextCommands};
 ghost use Rattle.editions.specs.PublishedState.{PublishedStateValue, IsFirst, desks};
 ghost use Rattle.press_core.specs.Signers.{HasAllVouched};
 ghost use Rattle.press_core.specs.PrepareInput.{PrepareInput};
-ghost use Rattle.press_core.specs.Next.{PreparedValue};
+ghost use Rattle.press_core.specs.Next.{NextValue};
 ghost use Rattle.press_core.specs.Planned.{IsPrepared, calls_for};
 ghost use Rattle.press_core.specs.Stands.{IsLeftBy, StandsFor};
 ghost use Rattle.press_core.specs.Follows.{edition_of, AreBehind, Follows};
+ghost use Rattle.press_core.specs.Files.{rrdp_editions, told, repository_at};
+ghost use Rattle.press_core.specs.Exports.{IsCoherent, ShowsFiles, ShowsEdition, ShowsLast};
+ghost use Rattle.press_core.specs.declared.last_export.LastExport.{LastExport};
+ghost use Rattle.press_core.specs.declared.last_export.LastExport.TheVariants.{Done};
 
 use editions::{
     accepted_names_are_apart, called_for_by_what_stands, certificates_have_own_serials,
@@ -62,7 +70,7 @@ pub fn telling_signers_vouch()
 /// What the signers vouch for in the end they vouch for where they signed it for an edition: so it is enough that all
 /// that they vouch for is vouched.
 pub fn vouching_signers_vouch_for_editions()
-    ensures { (start : PrepareInput) (ring : List SignerState) (prepared : PreparedValue) (is : IsPrepared start ring prepared)
+    ensures { (start : PrepareInput) (ring : List SignerState) (prepared : NextValue) (is : IsPrepared start ring prepared)
         (vouched : Vouched) → HasAllVouched vouched ring
         → All (IsVouchedBy vouched) (calls_for start ring prepared is) }
 {}
@@ -70,7 +78,7 @@ pub fn vouching_signers_vouch_for_editions()
 /// What will stand is what the editions leave that left what stood, whatever they are, with the one that is prepared
 /// behind them.
 pub fn prepared_editions_leave()
-    ensures { (start : PrepareInput) (ring : List SignerState) (prepared : PreparedValue) → IsPrepared start ring prepared
+    ensures { (start : PrepareInput) (ring : List SignerState) (prepared : NextValue) → IsPrepared start ring prepared
         → (lists : List (List Command)) (editions : List Edition) → IsLeftBy lists editions start.at
         → AreNextCommands lists start.at.cut start.gathered
         → IsLeftBy lists (editions ++ edition_of prepared ∷ []) prepared.next }
@@ -83,7 +91,7 @@ pub fn prepared_editions_leave()
 /// What is prepared is an edition that follows those for which the press stands, and is called for; and what will stand
 /// is what all of them leave.
 pub fn prepared_editions_follow()
-    ensures { (start : PrepareInput) (ring : List SignerState) (prepared : PreparedValue) (is : IsPrepared start ring prepared)
+    ensures { (start : PrepareInput) (ring : List SignerState) (prepared : NextValue) (is : IsPrepared start ring prepared)
         (premises : Premises) (editions : List Edition)
         → AreBehind start (calls_for start ring prepared is) premises editions
         → Follows premises start.clock editions prepared }
@@ -102,7 +110,7 @@ pub fn prepared_editions_follow()
 
 /// The set of what is prepared is sound to relying parties, and yields what is owed.
 pub fn prepared_editions_are_published()
-    ensures { (start : PrepareInput) (ring : List SignerState) (prepared : PreparedValue) (premises : Premises)
+    ensures { (start : PrepareInput) (ring : List SignerState) (prepared : NextValue) (premises : Premises)
         (editions : List Edition) → IsPrepared start ring prepared
         → Follows premises start.clock editions prepared
         → IsPublished premises (edition_of prepared) (content_at prepared.next.set) }
@@ -111,3 +119,36 @@ pub fn prepared_editions_are_published()
     editions_are_published();
     same_objects_same_set();
 }
+
+/// The editions as RRDP has them follow one another, and are as many; and what stands after the newest of them is what
+/// all of them leave, by rising URI.
+pub fn rrdp_editions_are_what_editions_leave()
+    ensures follow { (editions : List Edition) → FollowEachOther (rrdp_editions editions) }
+    ensures count { (editions : List Edition) → length (rrdp_editions editions) ≡ length editions }
+    ensures leave { (editions : List Edition) (uri : List ℕ)
+        → content_at (objects_of (rrdp_editions editions)) uri ≡ set_after editions uri }
+    ensures behind { (editions : List Edition) (edition : Edition)
+        → rrdp_editions (editions ++ edition ∷ []) ≡ told (rrdp_editions editions) edition ∷ rrdp_editions editions }
+{}
+
+/// What an outlet shows it still shows when there are more editions. Where the last export ended Ok at the newest
+/// edition, it shows that one.
+pub fn more_editions_stay_shown()
+    ensures coherent { (repository : Repository) (editions : List Edition) (edition : Edition) (files : Files)
+        → IsCoherent repository editions files → IsCoherent repository (editions ++ edition ∷ []) files }
+    ensures shown { (session : List ℕ) (site : Bases) (editions : List Edition) (edition : Edition) (last : LastExport)
+        (files : Option Files) → ShowsLast (ShowsEdition session site) editions last files
+        → ShowsLast (ShowsEdition session site) (editions ++ edition ∷ []) last files }
+    ensures newest { (session : List ℕ) (site : Bases) (editions : List Edition) (files : Files)
+        → ShowsLast (ShowsEdition session site) editions (Done (length editions)) (Some files)
+        → ShowsEdition session site editions files }
+    ensures files { (session : List ℕ) (site : Bases) (editions : List Edition) (last : LastExport)
+        (files : Option Files) → ShowsLast (ShowsEdition session site) editions last files
+        → ShowsLast (ShowsFiles (repository_at session site)) editions last files }
+{}
+
+/// In a published set the trust anchor's certificate stands at its URI.
+pub fn published_editions_have_an_anchor()
+    ensures { (premises : Premises) (edition : Edition) (set : Contents) → IsPublished premises edition set
+        → (bytes : List ℕ) × (set (anchor_uri premises.site) ≡ Some bytes) }
+{}

@@ -2,9 +2,12 @@
 //! next edition, which then becomes the last one.
 #![tactic(auto)]
 
+mod exporting;
 mod fault;
+mod last_export;
 mod laws;
 mod making;
+mod next_edition;
 mod prepared;
 mod preparing;
 mod press;
@@ -12,10 +15,12 @@ mod setup;
 
 pub use editions::{Gathered, Published};
 pub use fault::{Met, PressFault};
+pub use last_export::LastExport;
 pub use laws::{
     first_published_state_stands, more_commands_stand, more_commands_stay_published,
-    prepared_editions_are_published, prepared_editions_follow, prepared_editions_leave,
-    telling_signers_vouch, vouching_signers_vouch_for_editions,
+    more_editions_stay_shown, prepared_editions_are_published, prepared_editions_follow,
+    prepared_editions_leave, published_editions_have_an_anchor,
+    rrdp_editions_are_what_editions_leave, telling_signers_vouch, vouching_signers_vouch_for_editions,
 };
 pub use prepared::Prepared;
-pub use press::{FreshRefused, Press};
+pub use press::{Press, PressRefused};

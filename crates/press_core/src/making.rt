@@ -13,7 +13,7 @@ ghost use Rattle.press_core.specs.Signers.{HoldKeys};
 ghost use Rattle.press_core.specs.inner.Ready.{IsReady, IsSomehowReady, CanStand, IsNextOf};
 
 use crate::fault::PressFault;
-use crate::prepared::Prepared;
+use crate::next_edition::NextEdition;
 use crate::setup::EditionInput;
 use authority_book::accepted_origins_ascend;
 use editions::{
@@ -73,7 +73,7 @@ fn next_of(
     at: &PublishedState,
     setup: EditionInput,
     made: Made,
-) -> Result<Prepared, AllocError>
+) -> Result<NextEdition, AllocError>
     requires { CanStand at.now setup made }
     ensures { IfOk result (IsNextOf at.now setup made) }
 {
@@ -98,7 +98,7 @@ fn next_of(
         owed: Items::new(setup.owed),
     });
     let _kept = next.parts();
-    Ok(Prepared::new(next, made.changes, ended))
+    Ok(NextEdition::new(next, made.changes, ended))
 }
 
 /// Makes the edition that was planned. `now` is the clock that a refusal names, in seconds since
@@ -111,7 +111,7 @@ pub fn make_edition<S: Signer>(
     work: &Work,
     ring: &mut Ring<S>,
     now: u64,
-) -> Result<Prepared, PressFault>
+) -> Result<NextEdition, PressFault>
     requires { IsSomehowReady site.now at.now ring.old setup work.now }
     ensures prepared { IfOk result (λ prepared. (gathered : List Gathered)
         → IsReady (started site.now at.now ring.old now gathered) setup work.now

@@ -3,19 +3,19 @@
 ghost use Rattle.std.specs.Prelude.{◌≡◌, IfOk};
 ghost use Rattle.editions.specs.Sheets.{sheet_of};
 
-use editions::{EndedKey, PublishedState};
-use items::Items;
+use crate::next_edition::NextEdition;
 use notice_board::Sheet;
 use pub_set::Change;
+use rrdp_state::NextFiles;
 use std::alloc::{AllocError, Global};
 use std::marker::Model;
 
-/// An edition that was prepared, before it becomes the last one.
+/// An edition that was prepared, before it becomes the last one, with its RRDP files (RFC 8182
+/// section 3.3.2).
 #[derive(Drop)]
 pub struct Prepared {
-    next: PublishedState,
-    changes: Items<Change>,
-    ended: Vec<EndedKey>,
+    edition: NextEdition,
+    files: NextFiles,
 }
 
 impl Model for Prepared {
@@ -23,48 +23,36 @@ impl Model for Prepared {
 
     ghost Value = { PreparedValue };
 
-    ghost view = { λ prepared. record {
-      next = prepared.next;
-      changes = prepared.changes;
-      ended = prepared.ended.items;
-    } };
+    ghost view = { λ prepared. record { edition = prepared.edition; files = prepared.files } };
 }
 
 impl Prepared {
-    /// An edition after which that published state stands, with its changes and the keys that it ends.
-    pub(crate) fn new(
-        next: PublishedState,
-        changes: Items<Change>,
-        ended: Vec<EndedKey>,
-    ) -> Prepared
-        ensures { result ≡ record { next = next; changes = changes; ended = ended.items } }
+    /// An edition with its files.
+    pub(crate) fn new(edition: NextEdition, files: NextFiles) -> Prepared
+        ensures { result ≡ record { edition = edition; files = files } }
     {
-        Prepared {
-            next,
-            changes,
-            ended,
-        }
+        Prepared { edition, files }
     }
 
     /// What the edition puts and withdraws, by rising URI.
     pub fn changes(&self) -> &[Change]
-        ensures { result.now ≡ self.now.changes }
+        ensures { result.now ≡ self.now.edition.changes }
     {
-        self.changes.as_slice()
+        self.edition.changes()
     }
 
     /// What readers will be shown of the edition.
     pub fn sheet(&self, alloc: Global) -> Result<Sheet, AllocError>
-        ensures { IfOk result (λ sheet. sheet ≡ sheet_of self.now.next) }
+        ensures { IfOk result (λ sheet. sheet ≡ sheet_of self.now.edition.next) }
     {
-        self.next.sheet(alloc)
+        self.edition.published_state().sheet(alloc)
     }
 
-    /// What stands after the edition, and the keys that it ends.
-    pub(crate) fn into_next(self) -> (PublishedState, Vec<EndedKey>)
-        ensures next { result.0 ≡ self.next }
-        ensures ended { result.1.items ≡ self.ended }
+    /// The edition and its files.
+    pub(crate) fn into_parts(self) -> (NextEdition, NextFiles)
+        ensures edition { result.0 ≡ self.edition }
+        ensures files { result.1 ≡ self.files }
     {
-        (self.next, self.ended)
+        (self.edition, self.files)
     }
 }

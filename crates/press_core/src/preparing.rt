@@ -12,7 +12,7 @@ ghost use Rattle.press_core.specs.Signers.{HoldKeys};
 
 use crate::fault::{Met, PressFault};
 use crate::making::make_edition;
-use crate::prepared::Prepared;
+use crate::next_edition::NextEdition;
 use crate::setup::{moment_of, plan_of, set_up};
 use editions::{Gathered, PublishedState};
 use key_ids::Site;
@@ -28,7 +28,7 @@ pub fn prepare_over<S: Signer>(
     ring: &mut Ring<S>,
     now: u64,
     gathered: Vec<Gathered>,
-) -> Result<Prepared, PressFault>
+) -> Result<NextEdition, PressFault>
     requires clear { IsClear site.now at.now.rows at.now.issued }
     requires gathered { AreGathered at.now.cut gathered.items }
     requires accepted { AreAccepted at.now.configs gathered.items }

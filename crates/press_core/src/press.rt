@@ -1,7 +1,10 @@
 //! The press.
 
-ghost use Rattle.std.specs.Prelude.{◌≡◌, ◌<◌, [], All, length, IfOk, IfErr};
+ghost use Rattle.std.specs.Prelude.{◌≡◌, ◌≢◌, ◌<◌, ◌≤◌, ◌+◌, ◌++◌, [], ◌∷◌, List, All, length, option_map};
+ghost use Rattle.std.specs.Prelude.{IfOk, IfErr, IfSome, OnOk};
 ghost use Rattle.signer_ring.specs.Ring.{Keeps};
+ghost use Rattle.authority_book.specs.declared.commands.Command.{Command};
+ghost use Rattle.editions.specs.Edition.{Edition};
 ghost use Rattle.editions.specs.PublishedState.{published_of, IsFirst};
 ghost use Rattle.editions.specs.Sheets.{sheet_of};
 ghost use Rattle.press_core.specs.Next.{IsNext};
@@ -10,22 +13,37 @@ ghost use Rattle.editions.specs.Gathering.{configs_with, AreGathered, AreAccepte
 ghost use Rattle.press_core.specs.Press.{DropsEach};
 ghost use Rattle.press_core.specs.Signers.{HoldKeys};
 ghost use Rattle.press_core.specs.PrepareInput.{start_of};
-ghost use Rattle.press_core.specs.Follows.{IsNextEdition};
-ghost use Rattle.press_core.specs.Faults.{IsPressFault};
+ghost use Rattle.press_core.specs.Follows.{edition_of, IsNextEdition};
+ghost use Rattle.press_core.specs.Faults.{IsPressFault, IsShort};
+ghost use Rattle.press_core.specs.Stands.{IsLeftBy};
+ghost use Rattle.press_core.specs.Files.{HasFilesOf, files_of, repository_of};
+ghost use Rattle.press_core.specs.Exports.{export_of, ended_by, IsCoherent, ShowsFiles, ShowsEdition, ShowsLast};
+ghost use Rattle.press_core.specs.inner.Exporting.{IsCounted};
+ghost use Rattle.press_core.specs.declared.last_export.LastExport.TheVariants.{NoExport};
+ghost use Rattle.outlet_api.specs.Calls.{after_all, IsFront};
+ghost use Rattle.outlet_api.specs.Faults.{IsCauseOf};
 
+use crate::exporting::{ended_by, export_files, puts_all};
 use crate::fault::PressFault;
+use crate::last_export::LastExport;
 use crate::laws::{
     prepared_editions_are_published, prepared_editions_follow, prepared_editions_leave,
+    rrdp_editions_are_what_editions_leave,
 };
+use crate::next_edition::NextEdition;
 use crate::prepared::Prepared;
 use crate::preparing::prepare_over;
 use editions::{EndedKey, Gathered, Published, PublishedState};
 use key_ids::Site;
 use notice_board::Sheet;
+use outlet_api::{ExportFault, Outlet, export};
+use pub_set::same_contents_same_set;
+use rrdp_state::{NextFiles, Rrdp, exports_keep_files_coherent};
 use signer_api::Signer;
 use signer_ring::Ring;
 use std::alloc::{AllocError, Global};
 use std::marker::Model;
+use uuid::Uuid;
 
 /// Publishes for a tree of authorities.
 #[derive(Drop)]
@@ -34,9 +52,12 @@ pub struct Press<S: Signer = Box<dyn Signer + Send>> {
     ring: Ring<S>,
     at: PublishedState,
     ended: Vec<EndedKey>,
+    rrdp: Rrdp,
+    last_export: LastExport,
 }
 
 impl<S: Signer> Model for Press<S> {
+    ghost use Rattle.std.specs.Prelude.{◌≡◌};
     ghost use Rattle.editions.specs.Clear.{IsClear};
     ghost use Rattle.press_core.specs.Press.{PressValue};
 
@@ -47,35 +68,53 @@ impl<S: Signer> Model for Press<S> {
       ring = press.ring;
       at = press.at;
       ended = press.ended.items;
+      rrdp = press.rrdp;
+      last_export = press.last_export;
     } };
 
-    ghost invariant = { λ press. IsClear press.site press.at.rows press.at.issued };
+    ghost invariant = { λ press. IsClear press.site press.at.rows press.at.issued
+        × (press.rrdp.serial ≡ press.at.serial) };
 }
 
 /// Why there is no press. The signers are handed back.
 #[derive(Drop)]
-pub struct FreshRefused<S: Signer = Box<dyn Signer + Send>> {
+pub struct PressRefused<S: Signer = Box<dyn Signer + Send>> {
     pub ring: Ring<S>,
     pub fault: AllocError,
 }
 
 impl<S: Signer> Press<S> {
-    /// A press that has published nothing.
-    pub fn fresh(alloc: Global, site: Site, ring: Ring<S>) -> Result<Press<S>, FreshRefused<S>>
+    /// A press that has published nothing. Its RRDP files are of that session (RFC 8182 section
+    /// 3.3.1).
+    pub fn new(
+        alloc: Global,
+        site: Site,
+        session: Uuid,
+        ring: Ring<S>,
+    ) -> Result<Press<S>, PressRefused<S>>
         ensures first { IfOk result (λ press. IsFirst press.at) }
         ensures site { IfOk result (λ press. press.site ≡ site) }
         ensures ring { IfOk result (λ press. press.ring ≡ ring) }
         ensures ended { IfOk result (λ press. press.ended ≡ []) }
+        ensures session { IfOk result (λ press. press.rrdp.session ≡ session) }
+        ensures files { IfOk result (HasFilesOf []) }
+        ensures last_export { IfOk result (λ press. press.last_export ≡ NoExport) }
         ensures refused { IfErr result (λ refused. refused.ring ≡ ring) }
     {
-        match PublishedState::first(alloc) {
-            Ok(at) => Ok(Press {
+        let first = match PublishedState::first(alloc) {
+            Ok(first) => first,
+            Err(fault) => return Err(PressRefused { ring, fault }),
+        };
+        match Rrdp::new(alloc, session, &site) {
+            Ok(rrdp) => Ok(Press {
                 site,
                 ring,
-                at,
+                at: first,
                 ended: Vec::new(alloc),
+                rrdp,
+                last_export: LastExport::NoExport,
             }),
-            Err(fault) => Err(FreshRefused { ring, fault }),
+            Err(fault) => Err(PressRefused { ring, fault }),
         }
     }
 
@@ -108,6 +147,13 @@ impl<S: Signer> Press<S> {
         self.at.sheet(alloc)
     }
 
+    /// How the last export ended.
+    pub fn last_export(&self) -> LastExport
+        ensures { result ≡ self.now.last_export }
+    {
+        self.last_export
+    }
+
     /// Prepares the next edition, at that clock and with the commands that were gathered. Its signers make and sign what
     /// it puts; else nothing of the press changes.
     ///
@@ -131,10 +177,42 @@ impl<S: Signer> Press<S> {
 
         // What the signers made of the plan of an edition that was called for. It follows the editions that the press
         // stands for, whichever these are; to relying parties it is sound, and yields what is owed.
-        ensures prepared { IfOk result (IsNextEdition (start_of self.old now gathered.items) self.new.ring) }
+        ensures prepared { IfOk result (λ prepared.
+            IsNextEdition (start_of self.old now gathered.items) self.new.ring prepared.edition) }
+
+        // Its snapshot is the text of what will stand, its delta that of what changes.
+        ensures files { IfOk result (λ prepared.
+            prepared.files ≡ files_of self.old.rrdp.session prepared.edition) }
 
         // Each refusal has its cause. On every answer the rest of the press stays as it is, and the signers keep their
         // keys, and vouch for what they vouched for.
+        ensures refused { IfErr result (IsPressFault (start_of self.old now gathered.items) self.new.ring) }
+        ensures kept { self.new ≡ record self.old { ring = self.new.ring } }
+        ensures signers { Keeps self.old.ring self.new.ring }
+        ensures keys { HoldKeys self.old.ring self.new.ring }
+    {
+        let edition = self.prepare_edition(alloc, now, gathered)?;
+        match self.files_of(alloc, &edition) {
+            Ok(files) => Ok(Prepared::new(edition, files)),
+            Err(_) => Err(PressFault::Memory),
+        }
+    }
+
+    // The next edition, without its files.
+    fn prepare_edition(
+        &mut self,
+        alloc: Global,
+        now: u64,
+        gathered: Vec<Gathered>,
+    ) -> Result<NextEdition, PressFault>
+        requires gathered { AreGathered self.old.at.cut gathered.items }
+        requires accepted { AreAccepted self.old.at.configs gathered.items }
+        requires live_signers { All (λ row. row.signer < length self.old.ring) self.old.at.rows }
+        requires name_signers { All (λ name. name.signer < length self.old.ring)
+            (names_of (configs_with self.old.at.configs gathered.items)) }
+        ensures prepared { IfOk result (IsNextEdition (start_of self.old now gathered.items) self.new.ring) }
+        ensures serial { IfOk result (λ edition. edition.next.serial ≡ self.old.rrdp.serial + 1) }
+        ensures short { IfOk result (λ _. IsShort (start_of self.old now gathered.items) self.new.ring) }
         ensures refused { IfErr result (IsPressFault (start_of self.old now gathered.items) self.new.ring) }
         ensures kept { self.new ≡ record self.old { ring = self.new.ring } }
         ensures signers { Keeps self.old.ring self.new.ring }
@@ -146,20 +224,102 @@ impl<S: Signer> Press<S> {
         prepare_over(alloc, &self.site, &self.at, &mut self.ring, now, gathered)
     }
 
+    // The files of the next edition.
+    fn files_of(&self, alloc: Global, edition: &NextEdition) -> Result<NextFiles, AllocError>
+        requires { edition.now.next.serial ≡ self.now.rrdp.serial + 1 }
+        ensures { IfOk result (λ files. files ≡ files_of self.now.rrdp.session edition.now) }
+    {
+        let parts = edition.published_state().parts();
+        self.rrdp
+            .next(alloc, parts.serial, &parts.set, edition.changes())
+    }
+
     /// The edition that was prepared becomes the last one. It takes no memory.
     pub fn commit(&mut self, prepared: Prepared) -> Published
-        requires { IsNext self.old.site self.old.at prepared }
-        ensures at { self.new.at ≡ prepared.next }
-        ensures ended { self.new.ended ≡ prepared.ended }
+        requires next { IsNext self.old.site self.old.at prepared.edition }
+        requires files { prepared.files ≡ files_of self.old.rrdp.session prepared.edition }
+        ensures at { self.new.at ≡ prepared.edition.next }
+        ensures ended { self.new.ended ≡ prepared.edition.ended }
         ensures site { self.new.site ≡ self.old.site }
         ensures ring { self.new.ring ≡ self.old.ring }
-        ensures result { result ≡ published_of prepared.next }
+
+        // Its files are those of the editions that left what stood, with this one behind them.
+        ensures files { (lists : List (List Command)) (editions : List Edition)
+            → IsLeftBy lists editions self.old.at → HasFilesOf editions self.old
+            → HasFilesOf (editions ++ edition_of prepared.edition ∷ []) self.new }
+        ensures session { self.new.rrdp.session ≡ self.old.rrdp.session }
+        ensures last_export { self.new.last_export ≡ self.old.last_export }
+        ensures result { result ≡ published_of prepared.edition.next }
     {
-        let (next, ended) = prepared.into_next();
+        rrdp_editions_are_what_editions_leave();
+        same_contents_same_set();
+        let (edition, files) = prepared.into_parts();
+        let (next, ended) = edition.into_next();
         let published = next.published();
+        self.rrdp.advance(files);
         self.at = next;
         self.ended = ended;
         published
+    }
+
+    /// Brings the files of the last edition to the outlet: the snapshot, the deltas, the trust anchor's
+    /// certificate and locator, and then the notification; and removes what nobody asks for any more.
+    ///
+    /// An outlet's put replaces a file whole. Where the outlet fails or memory is wanting, the press
+    /// stands with its edition, and the next export puts every file that the notification names.
+    pub fn export_to<O: Outlet>(
+        &mut self,
+        alloc: Global,
+        outlet: &mut O,
+    ) -> Result<(), ExportFault<O>>
+        requires { self.old.at.serial ≢ 0 }
+
+        // All of its calls were made, or the first so many of them.
+        ensures done { OnOk result ((editions : List Edition) → HasFilesOf editions self.old
+            → O.files outlet.new ≡ option_map (after_all (export_of self.old editions)) (O.files outlet.old)) }
+        ensures front { (editions : List Edition) → HasFilesOf editions self.old
+            → IsFront (export_of self.old editions) (O.files outlet.old) (O.files outlet.new) }
+
+        // On every answer the files are coherent where they were; and where it is Ok they show the last edition. For
+        // both the edition of the last export that ended Ok is still to be shown.
+        ensures coherent { (editions : List Edition) → HasFilesOf editions self.old
+            → ShowsLast (ShowsFiles (repository_of self.old)) editions self.old.last_export (O.files outlet.old)
+            → IfSome (O.files outlet.old) (IsCoherent (repository_of self.old) editions)
+            → IfSome (O.files outlet.new) (IsCoherent (repository_of self.old) editions) }
+        ensures shown { OnOk result ((lists : List (List Command)) (editions : List Edition)
+            → IsLeftBy lists editions self.old.at → HasFilesOf editions self.old
+            → ShowsLast (ShowsFiles (repository_of self.old)) editions self.old.last_export (O.files outlet.old)
+            → IfSome (O.files outlet.new) (ShowsEdition self.old.rrdp.session self.old.site editions)) }
+
+        // A fault only where the outlet's count rose. The press stays but for how its last export ended.
+        ensures counts { O.fault_count outlet.old ≤ O.fault_count outlet.new }
+        ensures cause { IfErr result (IsCauseOf (O.fault_count outlet.old) (O.fault_count outlet.new)) }
+        ensures kept { self.new ≡ record self.old { last_export = ended_by result self.old.at.serial } }
+    {
+        exports_keep_files_coherent();
+        let ended = self.export_last(alloc, outlet);
+        self.last_export = ended_by(&ended, self.serial());
+        ended
+    }
+
+    // Brings the files of the last edition to the outlet.
+    fn export_last<O: Outlet>(
+        &self,
+        alloc: Global,
+        outlet: &mut O,
+    ) -> Result<(), ExportFault<O>>
+        requires { self.now.at.serial ≢ 0 }
+        ensures done { OnOk result ((editions : List Edition) → HasFilesOf editions self.now
+            → O.files outlet.new ≡ option_map (after_all (export_of self.now editions)) (O.files outlet.old)) }
+        ensures front { (editions : List Edition) → HasFilesOf editions self.now
+            → IsFront (export_of self.now editions) (O.files outlet.old) (O.files outlet.new) }
+        ensures small { (editions : List Edition) → HasFilesOf editions self.now → IsCounted editions self.now }
+        ensures counts { O.fault_count outlet.old ≤ O.fault_count outlet.new }
+        ensures cause { IfErr result (IsCauseOf (O.fault_count outlet.old) (O.fault_count outlet.new)) }
+    {
+        let all = puts_all(self.last_export, self.serial());
+        let files = export_files(alloc, &self.rrdp, &self.site, &self.at, all)?;
+        export(alloc, &files, outlet)
     }
 
     /// Asks the signers to drop the keys that the last edition of this run ended, each once. It takes no memory.

@@ -110,10 +110,12 @@ impl Rrdp {
 
     /// The next edition becomes the newest one. It takes no memory.
     pub fn advance(&mut self, next: NextFiles)
-        ensures { (repository : Repository) (older : List Edition) (edition : Edition)
+        ensures stands { (repository : Repository) (older : List Edition) (edition : Edition)
             → StandsFor repository older self.old → FollowEachOther (edition ∷ older)
             → next ≡ edition_texts repository.session older edition
             → StandsFor repository (edition ∷ older) self.new }
+        ensures session { self.new.session ≡ self.old.session }
+        ensures serial { self.new.serial ≡ next.serial }
     {
         self.take_in(next);
     }

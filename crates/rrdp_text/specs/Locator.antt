@@ -1,9 +1,6 @@
 -- The locator of a trust anchor (RFC 8630 section 2.2).
 use Rattle.std.specs.Prelude.{ℕ, List, [], ◌∷◌, ◌++◌}
 use Rattle.std.specs.List.{flat_map}
-use Rattle.std.specs.String.{string_bytes}
-use Rattle.std.specs.declared.string.String.{String}
-use Rattle.std.specs.declared.alloc.Global.{Global}
 use Rattle.base64.specs.GeneralPurpose.{encode_of}
 use Rattle.base64.specs.Engines.{standard}
 use Rattle.der.specs.Spelling.{spelled, bits_spelling}
@@ -18,9 +15,9 @@ unfoldable pub key_info : List ℕ → List ℕ
 key_info key = spelled 0x30 (key_algorithm ++ bits_spelling 0 key)
 
 -- A line for each URI.
-unfoldable pub uri_lines : List (String Global) → List ℕ
-uri_lines uris = flat_map (λ uri. string_bytes uri ++ 10 ∷ []) uris
+unfoldable pub uri_lines : List (List ℕ) → List ℕ
+uri_lines uris = flat_map (λ uri. uri ++ 10 ∷ []) uris
 
 -- The lines of the URIs, an empty line, and the key on one line.
-unfoldable pub locator_text : List (String Global) → List ℕ → List ℕ
+unfoldable pub locator_text : List (List ℕ) → List ℕ → List ℕ
 locator_text uris key = uri_lines uris ++ 10 ∷ encode_of standard (key_info key) ++ 10 ∷ []

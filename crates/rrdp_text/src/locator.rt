@@ -1,6 +1,6 @@
 //! The locator of a trust anchor (RFC 8630 section 2.2).
 
-ghost use Rattle.std.specs.Prelude.{◌≡◌, ◌++◌, OnOk, IfOk};
+ghost use Rattle.std.specs.Prelude.{◌≡◌, ◌++◌, map, OnOk, IfOk};
 ghost use Rattle.std.specs.String.{string_bytes};
 ghost use Rattle.rrdp_text.specs.Locator.{key_info, locator_text, uri_lines};
 
@@ -39,7 +39,7 @@ fn size(uris: &[String], info: &[u8]) -> Option<usize> {
 #[tactic(auto, unfolding(crate::specs::Locator::uri_lines))]
 /// The URIs, one a line.
 fn push_uris(out: &mut String, uris: &[String]) -> Result<(), AllocError>
-    ensures { OnOk result (string_bytes out.new ≡ string_bytes out.old ++ uri_lines uris.now) }
+    ensures { OnOk result (string_bytes out.new ≡ string_bytes out.old ++ uri_lines (map string_bytes uris.now)) }
 {
     for uri in uris {
         out.push_str(uri.as_str())?;
@@ -52,7 +52,7 @@ fn push_uris(out: &mut String, uris: &[String]) -> Result<(), AllocError>
 /// The locator: the URIs of the anchor's certificate, one a line, an empty line, and its key (RFC
 /// 8630 section 2.2).
 pub fn locator_text(alloc: Global, uris: &[String], key: &[u8]) -> Result<String, AllocError>
-    ensures { IfOk result (λ text. string_bytes text ≡ locator_text uris.now key.now) }
+    ensures { IfOk result (λ text. string_bytes text ≡ locator_text (map string_bytes uris.now) key.now) }
 {
     let info = key_info(alloc, key)?;
     let mut out = String::with_capacity(alloc, size(uris, &info).ok_or(AllocError)?)?;

@@ -28,7 +28,7 @@ use Rattle.editions.specs.Standing.{IsTableAfter}
 use Rattle.editions.specs.Ended.{ended_keys}
 use Rattle.editions.specs.Clear.{IsClear}
 use Rattle.press_core.specs.PrepareInput.{PrepareInput, started}
-use Rattle.press_core.specs.Next.{PreparedValue}
+use Rattle.press_core.specs.Next.{NextValue}
 use Rattle.press_core.specs.Planned.{IsInRange, IsCalled, issue_input_for}
 use Rattle.press_core.specs.declared.setup.EditionInput.{EditionInput}
 use Rattle.press_core.specs.declared.fault.PressFault.{PressFault}
@@ -112,7 +112,7 @@ pub record CanStand (at : PublishedStateValue) (setup : EditionInput) (made : Ma
 
 -- It stands.
 pub record IsNextOf (at : PublishedStateValue) (setup : EditionInput) (made : Made)
-    (prepared : PreparedValue)
+    (prepared : NextValue)
     : Type 0 where
   pub serial : prepared.next.serial ≡ at.serial + 1
   pub moment : prepared.next.moment ≡ setup.moment

@@ -9,7 +9,7 @@ use Rattle.entitle.specs.Certified.{settings_of}
 use Rattle.editions.specs.PublishedState.{PublishedStateValue, IsConsistentState}
 use Rattle.editions.specs.Standing.{IsTableAfter}
 use Rattle.editions.specs.Ended.{ended_keys}
-use Rattle.press_core.specs.Next.{PreparedValue}
+use Rattle.press_core.specs.Next.{NextValue}
 use Rattle.press_core.proofs.making.next_of.Goals as goal
 
 pub returns : goal.returns
@@ -19,9 +19,9 @@ returns c =
     let same = c.parts-parts.ensures.parts in
     let p = c.new-5.result in
     let whole = c.new-5.ensures in
-    let published_state = ap (λ (x : PreparedValue). x.next) whole in
+    let published_state = ap (λ (x : NextValue). x.next) whole in
     let value = published_state ∙ c.new-next.ensures in
-    let changes = ap (λ (x : PreparedValue). x.changes) whole in
+    let changes = ap (λ (x : NextValue). x.changes) whole in
     let set = ap (λ (v : PublishedStateValue). v.set) value in
     let issued = ap (λ (v : PublishedStateValue). v.issued) value ∙ c.new-2.ensures in
     let old_issued = c.as_slice-old.ensures ∙ ap (λ (v : PublishedStateValue). v.issued) same in
@@ -42,7 +42,7 @@ returns c =
           (subst (IsApplied c.parts-parts.result.now.set c.as_slice.result.now) (sym set) c.in_ok-set.ensures));
       table = table;
       changes = changes;
-      ended = ap (λ (x : PreparedValue). x.ended) whole ∙ (c.in_ok-ended.ensures
+      ended = ap (λ (x : NextValue). x.ended) whole ∙ (c.in_ok-ended.ensures
           ∙ (ap (λ (rows : List KeyRow). ended_keys rows c.as_slice-4.result.now) (c.as_slice-3.ensures ∙ ap (λ (v : PublishedStateValue). v.rows) same)
           ∙ ap (ended_keys at.rows) c.as_slice-4.ensures));
     }
