@@ -1,0 +1,52 @@
+-- The files of a press with one more edition.
+use Rattle.std.proofs.Common.{◌≡◌, ℕ, ◌+◌, refl, sym, subst, ap, ap₂, ◌∙◌, arith, length, List, [], ◌∷◌, ◌++◌}
+use Rattle.pub_set.specs.declared.objects.Object.{Object}
+use Rattle.pub_set.specs.Objects.{content_at, IsAscending}
+use Rattle.pub_set.specs.Changes.{Contents, after_all}
+use Rattle.authority_book.specs.declared.commands.Command.{Command}
+use Rattle.editions.specs.Edition.{Edition, set_after}
+use Rattle.rrdp_state.specs.declared.next.NextFiles.{NextFiles}
+use Rattle.rrdp_state.specs.Editions as rrdp
+use Rattle.rrdp_state.specs.Editions.{FollowEachOther, objects_of, texts_of, edition_texts}
+use Rattle.rrdp_state.specs.Exported.{Repository}
+use Rattle.rrdp_state.specs.Kept.{Kept}
+use Rattle.rrdp_state.specs.State as rrdp_state
+use Rattle.press_core.specs.Press.{PressValue}
+use Rattle.press_core.specs.Next.{NextValue, IsNext}
+use Rattle.press_core.specs.Stands.{IsLeftBy}
+use Rattle.press_core.specs.Follows.{edition_of}
+use Rattle.press_core.specs.Files.{told, rrdp_editions, repository_of, HasFilesOf, files_of}
+use Rattle.press_core.proofs.Told.{follow_told, leave_told, behind_told}
+use Rattle.press_core.proofs.Exporting.{kept_serial}
+
+abbrev pub OneSet : Type 0
+OneSet = (a b : List Object) → IsAscending a → IsAscending b → ((uri : List ℕ) → content_at a uri ≡ content_at b uri) → a ≡ b
+
+-- What stands then is what the editions leave, as a list.
+same_set : OneSet → (lists : List (List Command)) (editions : List Edition) (press : PressValue) (edition : NextValue) → IsLeftBy lists editions press.at
+    → IsNext press.site press.at edition → edition.next.set ≡ (told (rrdp_editions editions) (edition_of edition)).objects
+same_set one lists editions press edition left next =
+    let older = rrdp_editions editions in
+    let new = told older (edition_of edition) in
+    let follow : FollowEachOther (new ∷ older) = subst FollowEachOther (behind_told editions (edition_of edition)) (follow_told (editions ++ edition_of edition ∷ [])) in
+    let held : (uri : List ℕ) → content_at press.at.set uri ≡ content_at (objects_of older) uri = λ uri. left.set uri ∙ sym (leave_told editions uri) in
+    one edition.next.set new.objects next.ascending follow.0
+    (λ uri. next.set uri ∙ (ap (λ (h : Contents). after_all h edition.changes uri) (λ i u. held u i) ∙ sym (follow.1 uri)))
+
+pub files_next : OneSet → (lists : List (List Command)) (editions : List Edition) (press : PressValue) (edition : NextValue) (files : NextFiles) (kept : Kept)
+    → IsLeftBy lists editions press.at → HasFilesOf editions press → IsNext press.site press.at edition → press.rrdp.serial ≡ press.at.serial
+    → files ≡ files_of press.rrdp.session edition
+    → ((repository : Repository) (older : List rrdp.Edition) (new : rrdp.Edition) → rrdp_state.StandsFor repository older press.rrdp
+    → FollowEachOther (new ∷ older) → files ≡ edition_texts repository.session older new → rrdp_state.StandsFor repository (new ∷ older) kept)
+    → rrdp_state.StandsFor (repository_of press) (rrdp_editions (editions ++ edition_of edition ∷ [])) kept
+files_next one lists editions press edition files kept left has next counted texts advance =
+    let older = rrdp_editions editions in
+    let new = told older (edition_of edition) in
+    let behind = behind_told editions (edition_of edition) in
+    let follow : FollowEachOther (new ∷ older) = subst FollowEachOther behind (follow_told (editions ++ edition_of edition ∷ [])) in
+    let serial : edition.next.serial ≡ length older + 1 =
+    next.serial ∙ ap (λ n. n + 1) (sym counted ∙ kept_serial (repository_of press) older press.rrdp has) in
+    let set = same_set one lists editions press edition left next in
+    subst (λ (es : List rrdp.Edition). rrdp_state.StandsFor (repository_of press) es kept) (sym behind)
+    (advance (repository_of press) older new has follow
+    (texts ∙ ap₂ (λ (n : ℕ) (objects : List Object). texts_of press.rrdp.session n objects edition.changes) serial set))
