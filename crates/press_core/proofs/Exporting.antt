@@ -1,10 +1,11 @@
 -- What an export of a press leaves.
-use Rattle.std.proofs.Common.{◌≡◌, ◌⊎◌, inl, inr, ℕ, zero, suc, ◌+◌, ◌-◌, ◌<◌, ◌≤◌, ◌^◌, refl, sym, subst, ap, ap₂, ◌∙◌, arith, length, get_or, take, drop, map, List, [], ◌∷◌, ◌++◌, Some, None, Bool, true, false}
-use Rattle.std.specs.Prelude.{◌≢◌, Option, option_map, IfSome, nat_lt}
+use Rattle.std.proofs.Common.{◌≡◌, ℕ, zero, suc, ◌+◌, ◌-◌, ◌<◌, ◌≤◌, ◌^◌, refl, sym, subst, ap, ap₂, ◌∙◌, arith, length, get_or, take, drop, map, List, [], ◌∷◌, ◌++◌, Some, None, Bool, true, false}
+use Rattle.std.specs.Prelude.{◌≢◌, Option, option_map, IfSome, nat_lt, String}
+use Rattle.std.specs.declared.alloc.Global.{Global}
 use Rattle.std.specs.List.{AllByRecursion}
 use Rattle.std.proofs.lemmas.Bool.{false≢true}
 use Rattle.std.proofs.lemmas.Bool.Decides.{nat_tests}
-use Rattle.std.proofs.lemmas.List.{append_assoc, map-append, take_all, take-append-drop, length-append, length-drop, drop-drop}
+use Rattle.std.proofs.lemmas.List.{take-append-drop, length-append, length-drop, map-append}
 use Rattle.key_ids.specs.Uris.{Bases, anchor_uri}
 use Rattle.key_roll.specs.declared.rows.KeyRow.{KeyRow}
 use Rattle.key_roll.specs.declared.rows.Role.TheVariants.{Current}
@@ -12,11 +13,13 @@ use Rattle.pub_set.specs.Objects.{content_at}
 use Rattle.pub_set.specs.laws.LookupLaws.{all_append}
 use Rattle.issue_plan.specs.Keys.{row_of}
 use Rattle.authority_book.specs.declared.commands.Command.{Command}
+use Rattle.outlet_api.specs.declared.exports.OutFile.{OutFile}
 use Rattle.outlet_api.specs.Calls.{Files, Call, put, after_all, IsFront}
+use Rattle.outlet_api.specs.Exports.{put_of, removal_of}
 use Rattle.outlet_api.specs.laws.FrontLaws.{holds_at_front}
 use Rattle.rrdp_state.specs.Editions as rrdp
 use Rattle.rrdp_state.specs.Editions.{FollowEachOther}
-use Rattle.rrdp_state.specs.Exported.{Repository, IsBeside, AreBeside, export_calls}
+use Rattle.rrdp_state.specs.Exported.{Repository, IsBeside, AreBeside, export_calls, file_puts, puts_of, removals_of}
 use Rattle.rrdp_state.specs.Coherent.{Shows, Coherent}
 use Rattle.rrdp_state.specs.Kept.{Kept}
 use Rattle.rrdp_state.specs.State.{kept_of}
@@ -60,7 +63,7 @@ kept_serial repository editions kept stands = ap (λ (k : Kept). k.serial) stand
     counted [] = refl
     counted (e ∷ es) = omega arith
 
-pub not_empty : (editions : List rrdp.Edition) (serial : ℕ) → length editions ≡ serial → serial ≢ 0 → editions ≢ []
+pub not_empty : (editions : List rrdp.Edition) (serial : ℕ) → length editions ≡ serial → (serial ≡ 0 → ⊥) → editions ≡ [] → ⊥
 not_empty editions serial count some empty = some (sym count ∙ ap length empty)
 
 -- ---- the last edition exported, among all
@@ -70,12 +73,8 @@ told_both older [] second = refl
 told_both older (edition ∷ first) second = told_both (told older edition ∷ older) first second
 
 drop_one : (n : ℕ) (x : rrdp.Edition) (l m : List rrdp.Edition) → drop n l ≡ x ∷ m → drop (suc n) l ≡ m
-drop_one n x [] m e = absurd (let long = ap length e in nothing n long)
-  where
-    nothing : (k : ℕ) → length (drop k ([] : List rrdp.Edition)) ≡ length (x ∷ m) → ⊥
-    nothing zero long = absurd (omega (arith, long))
-    nothing (suc k) long = absurd (omega (arith, long))
-drop_one zero x (y ∷ l) m e = ap (drop 1) e
+drop_one zero x l m e = ap (drop 1) e
+drop_one (suc n) x [] m e = absurd (let long = ap length e in omega (arith, long))
 drop_one (suc n) x (y ∷ l) m e = drop_one n x l m e
 
 drop_behind : (older : List rrdp.Edition) (editions : List Edition) → drop (length editions) (told_before older editions) ≡ older
@@ -109,7 +108,7 @@ recent repository editions (Done exported) serial files count test shows = recor
 
 -- ---- the anchor's files stand beside
 
-codes_apart : (a b : List ℕ) → length a < length b → a ≢ b
+codes_apart : (a b : List ℕ) → length a < length b → a ≡ b → ⊥
 codes_apart a b less same = let long = ap length same in absurd (omega (arith, less, long))
 
 pub certificate_beside : IsBeside certificate_path
@@ -172,7 +171,7 @@ module _ (laws : Laws) (press : PressValue) (editions : List Edition) (counted :
             laws.newest repository told beside files near.later calls (follow_told editions) small (anchor_beside press.site press.at) near.few near.shows
       ] refl
 
-  in_the_end : (repository : Repository) (told : List rrdp.Edition) (beside : List Call) (files : Files) → told ≢ [] → length told < 2 ^ 64 → AreBeside beside
+  in_the_end : (repository : Repository) (told : List rrdp.Edition) (beside : List Call) (files : Files) → (told ≡ [] → ⊥) → length told < 2 ^ 64 → AreBeside beside
       → Shows repository told (after_all (export_calls repository told true beside) files)
   in_the_end repository [] beside files some less are = absurd (some refl)
   in_the_end repository (edition ∷ older) beside files some less are = laws.all_in_the_end repository older edition beside files less are
@@ -232,9 +231,47 @@ shown_told laws press lists editions (Some files) new counted some left done sho
 -- ---- lists that end alike
 
 pub snoc_same : {X : Type 0} (xs ys : List X) (x y : X) → xs ++ x ∷ [] ≡ ys ++ y ∷ [] → (xs ≡ ys) × (x ≡ y)
-snoc_same [] [] x y e = (refl, ap (λ l. get_or l 0 x) e)
+snoc_same {X} [] [] x y e = (refl, ap (λ (l : List X). get_or l 0 x) e)
 snoc_same [] (b ∷ ys) x y e = absurd (let long = ap length e in let more = length-append ys (y ∷ []) in omega (arith, long, more))
 snoc_same (a ∷ xs) [] x y e = absurd (let long = ap length e in let more = length-append xs (x ∷ []) in omega (arith, long, more))
-snoc_same (a ∷ xs) (b ∷ ys) x y e =
+snoc_same {X} (a ∷ xs) (b ∷ ys) x y e =
     let rest = snoc_same xs ys x y (ap (drop 1) e) in
-    (ap₂ (λ h t. h ∷ t) (ap (λ l. get_or l 0 a) e) rest.0, rest.1)
+    (ap₂ (λ (h : X) (t : List X). h ∷ t) (ap (λ (l : List X). get_or l 0 a) e) rest.0, rest.1)
+
+-- Where what is told of a list ends so, the list has a last element of which that is told.
+pub record EndsSo {X Y : Type 0} (f : X → Y) (xs : List X) (ys : List Y) (y : Y) : Type 0 where
+  pub first : List X
+  pub last : X
+  pub is : xs ≡ first ++ last ∷ []
+  pub told_first : map f first ≡ ys
+  pub told_last : f last ≡ y
+
+pub ends_so : {X Y : Type 0} (f : X → Y) (xs : List X) (ys : List Y) (y : Y) → map f xs ≡ ys ++ y ∷ [] → EndsSo f xs ys y
+ends_so f [] [] y e = absurd (let long = ap length e in omega (arith, long))
+ends_so f [] (z ∷ ys) y e = absurd (let long = ap length e in omega (arith, long))
+ends_so {X} {Y} f (x ∷ []) [] y e = record { first = []; last = x; is = refl; told_first = refl; told_last = ap (λ (l : List Y). get_or l 0 y) e }
+ends_so f (x ∷ x2 ∷ xs) [] y e = absurd (let long = ap length e in omega (arith, long))
+ends_so {X} {Y} f (x ∷ xs) (z ∷ ys) y e =
+    let rest = ends_so f xs ys y (ap (drop 1) e) in
+    record {
+      first = x ∷ rest.first;
+      last = rest.last;
+      is = ap (λ (l : List X). x ∷ l) rest.is;
+      told_first = ap₂ (λ (h : Y) (t : List Y). h ∷ t) (ap (λ (l : List Y). get_or l 0 (f x)) e) rest.told_first;
+      told_last = rest.told_last;
+    }
+
+-- The calls of an export whose last put has others before it.
+pub calls_with : (repository : Repository) (editions : List rrdp.Edition) (all : Bool) (puts new besides : List OutFile) (removes : List (String Global))
+    → (editions ≡ [] → ⊥) → map put_of puts ≡ puts_of repository editions all → map removal_of removes ≡ removals_of repository editions all
+    → ((first : List OutFile) (last : OutFile) → puts ≡ first ++ last ∷ [] → new ≡ (first ++ besides) ++ last ∷ [])
+    → map put_of new ++ map removal_of removes ≡ export_calls repository editions all (map put_of besides)
+calls_with repository [] all puts new besides removes some put gone before = absurd (some refl)
+calls_with repository (edition ∷ older) all puts new besides removes some put gone before =
+    let ends = ends_so put_of puts (file_puts repository (edition ∷ older) all) _ put in
+    ap₂ (λ (a b : List Call). a ++ b)
+    (ap (map put_of) (before ends.first ends.last ends.is)
+    ∙ (map-append put_of (ends.first ++ besides) (ends.last ∷ [])
+    ∙ ap₂ (λ (a : List Call) (c : Call). a ++ c ∷ [])
+    (map-append put_of ends.first besides ∙ ap (λ (a : List Call). a ++ map put_of besides) ends.told_first) ends.told_last))
+    gone

@@ -27,8 +27,8 @@ use Rattle.press_core.proofs.Told.{behind_told}
 pub coherent-more : (repository : Repository) (editions : List Edition) (edition : Edition) (files : Files)
     → IsCoherent repository editions files → IsCoherent repository (editions ++ edition ∷ []) files
 coherent-more repository editions edition files (inl none) = inl none
-coherent-more repository editions edition files (inr (later, shows)) =
-    inr (suc later, subst (λ (told : List rrdp.Edition). Shows repository (drop (suc later) told) files) (sym (behind_told editions edition)) shows)
+coherent-more repository editions edition files (inr near) =
+    inr (suc near.0, subst (λ (es : List rrdp.Edition). Shows repository (drop (suc near.0) es) files) (sym (behind_told editions edition)) near.1)
 
 module _ (Shown : List Edition → Files → Type 0) where
   pub last-more : (editions : List Edition) (edition : Edition) (last : LastExport) (files : Option Files)

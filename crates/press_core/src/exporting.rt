@@ -2,6 +2,8 @@
 
 ghost use Rattle.std.specs.Prelude.{◌≡◌, ◌≢◌, ◌++◌, List, [], ◌∷◌, map, option_map, IfOk, OnOk};
 ghost use Rattle.std.specs.String.{string_bytes};
+ghost use Rattle.key_ids.specs.Uris.{anchor_uri};
+ghost use Rattle.pub_set.specs.Objects.{content_at};
 ghost use Rattle.key_roll.specs.declared.rows.Role.TheVariants.{Current};
 ghost use Rattle.issue_plan.specs.Keys as spec;
 ghost use Rattle.outlet_api.specs.declared.exports.OutFile.{OutFile};
@@ -10,7 +12,8 @@ ghost use Rattle.outlet_api.specs.Exports.{put_of, calls_of};
 ghost use Rattle.rrdp_state.specs.Editions.{Edition};
 ghost use Rattle.rrdp_state.specs.Exported.{Repository, export_calls};
 ghost use Rattle.rrdp_state.specs.State.{StandsFor};
-ghost use Rattle.press_core.specs.Exports.{anchor_locator, anchor_puts, ended_by, puts_all};
+ghost use Rattle.press_core.specs.Exports.{anchor_locator, anchor_puts, certificate_path, ended_by, file_put};
+ghost use Rattle.press_core.specs.Exports.{locator_for, locator_path, puts_all};
 
 use crate::last_export::LastExport;
 use editions::PublishedState;
@@ -85,16 +88,42 @@ fn anchor_files(
 ) -> Result<Vec<OutFile>, AllocError>
     ensures { IfOk result (λ files. map put_of files.items ≡ anchor_puts site.now at.now) }
 {
-    let parts = at.parts();
     let mut files = Vec::new(alloc);
-    if let Some(bytes) = parts.set.get(site.anchor_uri(alloc)?.as_str()) {
+    push_certificate(alloc, &mut files, site, at)?;
+    push_locator(alloc, &mut files, site, at)?;
+    Ok(files)
+}
+
+fn push_certificate(
+    alloc: Global,
+    files: &mut Vec<OutFile>,
+    site: &Site,
+    at: &PublishedState,
+) -> Result<(), AllocError>
+    ensures { OnOk result (map put_of files.new.items
+        ≡ map put_of files.old.items ++ file_put certificate_path (content_at at.now.set (anchor_uri site.now))) }
+{
+    let uri = site.anchor_uri(alloc)?;
+    if let Some(bytes) = at.parts().set.get(uri.as_str()) {
         files.push(out_file(alloc, CERTIFICATE, bytes)?)?;
     }
-    if let Some(row) = anchor_row(parts.rows.as_slice()) {
+    Ok(())
+}
+
+fn push_locator(
+    alloc: Global,
+    files: &mut Vec<OutFile>,
+    site: &Site,
+    at: &PublishedState,
+) -> Result<(), AllocError>
+    ensures { OnOk result (map put_of files.new.items ≡ map put_of files.old.items
+        ++ file_put locator_path (option_map (locator_for site.now) (spec.row_of at.now.rows 0 Current))) }
+{
+    if let Some(row) = anchor_row(at.parts().rows.as_slice()) {
         let locator = anchor_locator(alloc, site, &row.key.bytes)?;
         files.push(out_file(alloc, LOCATOR, locator.as_str().as_bytes())?)?;
     }
-    Ok(files)
+    Ok(())
 }
 
 /// The current key of the trust anchor.

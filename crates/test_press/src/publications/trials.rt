@@ -9,12 +9,16 @@ use anyhow::{Result, bail};
 use editions::{Gathered, Published, PublishedState};
 use key_ids::Site;
 use key_roll::KeyRow;
-use press_core::{FreshRefused, Press, PressFault};
+use press_core::{Press, PressFault, PressRefused};
 use pub_set::Change;
 use signer_api::Signer;
 use signer_ring::Ring;
 use std::alloc::{AllocError, Global};
 use std::marker::Model;
+use uuid::Uuid;
+
+/// The session of the press's files, 00000000-0000-4000-8000-000000000000.
+const SESSION: u128 = 0x4000_8000_0000_0000_0000;
 
 /// An edition: what it is known by, how much it puts and withdraws, and its changes as a text.
 #[derive(Drop)]
@@ -50,9 +54,9 @@ impl<S: Signer> Trial<S> {
     /// A press that published nothing.
     pub fn new(alloc: Global, site: Site, ring: Ring<S>) -> Result<Trial<S>, AllocError> {
         let signers = ring.len();
-        match Press::fresh(alloc, site, ring) {
+        match Press::new(alloc, site, Uuid::from_u128(SESSION), ring) {
             Ok(press) => Ok(Trial { press, signers }),
-            Err(FreshRefused { fault, .. }) => Err(fault),
+            Err(PressRefused { fault, .. }) => Err(fault),
         }
     }
 
