@@ -15,7 +15,7 @@ use Rattle.press_core.specs.Press.{PressValue}
 use Rattle.press_core.specs.Next.{NextValue, IsNext}
 use Rattle.press_core.specs.Stands.{IsLeftBy}
 use Rattle.press_core.specs.Follows.{edition_of}
-use Rattle.press_core.specs.Files.{told, rrdp_editions, repository_of, HasFilesOf, files_of}
+use Rattle.press_core.specs.Files.{told, rrdp_editions, repository_at, repository_of, HasFilesOf, files_of}
 use Rattle.press_core.proofs.Told.{follow_told, leave_told, behind_told}
 use Rattle.press_core.proofs.Exporting.{kept_serial}
 
@@ -50,3 +50,27 @@ files_next one lists editions press edition files kept left has next counted tex
     subst (λ (es : List rrdp.Edition). rrdp_state.StandsFor (repository_of press) es kept) (sym behind)
     (advance (repository_of press) older new has follow
     (texts ∙ ap₂ (λ (n : ℕ) (objects : List Object). texts_of press.rrdp.session n objects edition.changes) serial set))
+
+-- The same of a press as its fields are, before and after.
+pub files_then : OneSet → (view now new : PressValue) (edition : NextValue) (files : NextFiles) (kept : Kept) → view ≡ now
+    → view.rrdp.serial ≡ view.at.serial → IsNext now.site now.at edition → files ≡ files_of now.rrdp.session edition
+    → ((repository : Repository) (older : List rrdp.Edition) (told : rrdp.Edition) → rrdp_state.StandsFor repository older view.rrdp
+    → FollowEachOther (told ∷ older) → files ≡ edition_texts repository.session older told → rrdp_state.StandsFor repository (told ∷ older) kept)
+    → kept.session ≡ view.rrdp.session → new.site ≡ view.site → new.rrdp ≡ kept
+    → (lists : List (List Command)) (editions : List Edition) → IsLeftBy lists editions now.at → HasFilesOf editions now
+    → HasFilesOf (editions ++ edition_of edition ∷ []) new
+files_then one view now new edition files kept same counted next texts advance session site rrdp_is lists editions left has =
+    let es = rrdp_editions (editions ++ edition_of edition ∷ []) in
+    let back = sym same in
+    let stands : rrdp_state.StandsFor (repository_of view) es kept =
+    files_next one lists editions view edition files kept
+    (subst (λ (press : PressValue). IsLeftBy lists editions press.at) back left)
+    (subst (HasFilesOf editions) back has)
+    (subst (λ (press : PressValue). IsNext press.site press.at edition) back next)
+    counted
+    (subst (λ (press : PressValue). files ≡ files_of press.rrdp.session edition) back texts)
+    advance in
+    let place : repository_of view ≡ repository_of new =
+    ap₂ repository_at (sym session ∙ ap (λ (k : Kept). k.session) (sym rrdp_is)) (sym site) in
+    subst (λ (k : Kept). rrdp_state.StandsFor (repository_of new) es k) (sym rrdp_is)
+    (subst (λ (r : Repository). rrdp_state.StandsFor r es kept) place stands)

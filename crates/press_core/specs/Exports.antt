@@ -94,7 +94,7 @@ pub record ShowsSerial (Shown : List Edition → Files → Type 0) (editions : L
 -- exported then.
 abbrev pub ShowsLast : (List Edition → Files → Type 0) → List Edition → LastExport
     → Option Files → Type 0
-ShowsLast Shown editions NoExport files = Unit {0}
-ShowsLast Shown editions Failed files = Unit {0}
-ShowsLast Shown editions (Done serial) None = Unit {0}
-ShowsLast Shown editions (Done serial) (Some files) = ShowsSerial Shown editions serial files
+ShowsLast P editions NoExport files = Unit {0}
+ShowsLast P editions Failed files = Unit {0}
+ShowsLast P editions (Done serial) None = Unit {0}
+ShowsLast P editions (Done serial) (Some files) = ShowsSerial P editions serial files

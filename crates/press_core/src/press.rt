@@ -192,10 +192,8 @@ impl<S: Signer> Press<S> {
         ensures keys { HoldKeys self.old.ring self.new.ring }
     {
         let edition = self.prepare_edition(alloc, now, gathered)?;
-        match self.files_of(alloc, &edition) {
-            Ok(files) => Ok(Prepared::new(edition, files)),
-            Err(_) => Err(PressFault::Memory),
-        }
+        let files = self.files_of(alloc, &edition)?;
+        Ok(Prepared::new(edition, files))
     }
 
     // The next edition, without its files.

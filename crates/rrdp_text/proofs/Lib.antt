@@ -10,3 +10,4 @@ pub mod Lists
 pub mod Order
 pub mod Values
 pub mod Wholes
+pub mod UriLines

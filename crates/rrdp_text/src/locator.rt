@@ -36,7 +36,6 @@ fn size(uris: &[String], info: &[u8]) -> Option<usize> {
     Some(size)
 }
 
-#[tactic(auto, unfolding(crate::specs::Locator::uri_lines))]
 /// The URIs, one a line.
 fn push_uris(out: &mut String, uris: &[String]) -> Result<(), AllocError>
     ensures { OnOk result (string_bytes out.new ≡ string_bytes out.old ++ uri_lines (map string_bytes uris.now)) }
