@@ -17,7 +17,7 @@ use Rattle.press_core.specs.Stands.{IsLeftBy}
 use Rattle.press_core.specs.Follows.{edition_of}
 use Rattle.press_core.specs.Files.{told, rrdp_editions, repository_at, repository_of, HasFilesOf, files_of}
 use Rattle.press_core.proofs.Told.{follow_told, leave_told, behind_told}
-use Rattle.press_core.proofs.Exporting.{kept_serial}
+use Rattle.press_core.proofs.AfterExports.{kept_serial}
 
 abbrev pub OneSet : Type 0
 OneSet = (a b : List Object) → IsAscending a → IsAscending b → ((uri : List ℕ) → content_at a uri ≡ content_at b uri) → a ≡ b

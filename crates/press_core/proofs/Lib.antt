@@ -8,5 +8,5 @@ pub mod Readied
 pub mod Standing
 pub mod Told
 pub mod Shown
-pub mod Exporting
+pub mod AfterExports
 pub mod FilesNext

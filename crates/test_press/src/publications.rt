@@ -4,6 +4,7 @@
 
 mod audits;
 mod desks;
+mod exports;
 mod gathering;
 mod hours;
 mod numbered;

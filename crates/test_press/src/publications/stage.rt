@@ -2,24 +2,27 @@
 
 use crate::publications::audits::audited;
 use crate::publications::desks::Desks;
+use crate::publications::exports::shown;
 use crate::publications::hours;
 use crate::publications::numbered::{adding, removing};
 use crate::publications::shown::{edition_text, fault_text};
 use crate::publications::trials::{Edition, Trial};
 use anyhow::{Result, bail};
 use key_ids::Site;
+use outlet_api::MemoryOutlet;
 use signer_api::Signer;
 use signer_ring::Ring;
 use std::alloc::Global;
 use test_support::digest_text;
 
-/// A press, the desks, the repository, and the last edition's changes as a text.
+/// A press, the desks, the repository, the last edition's changes as a text, and an outlet.
 #[derive(Drop)]
 pub struct Stage<S: Signer> {
     trial: Trial<S>,
     desks: Desks,
     site: Site,
     changes: String,
+    outlet: MemoryOutlet,
 }
 
 fn site(alloc: Global) -> Result<Site> {
@@ -41,6 +44,7 @@ impl<S: Signer> Stage<S> {
             desks: Desks::new(alloc)?,
             site: site(alloc)?,
             changes: String::new(alloc),
+            outlet: MemoryOutlet::new(alloc, Vec::new(alloc)),
         })
     }
 
@@ -95,6 +99,23 @@ impl<S: Signer> Stage<S> {
     /// The changes of the last edition.
     pub fn changes(&self, alloc: Global) -> Result<String> {
         Ok(String::from_str(alloc, self.changes.as_str())?)
+    }
+
+    /// An outlet without a file, of which the call of that number fails.
+    pub fn set_outlet(&mut self, alloc: Global, fails: u64) -> Result<String> {
+        let mut numbers = Vec::new(alloc);
+        numbers.push(fails)?;
+        self.outlet = MemoryOutlet::new(alloc, numbers);
+        Ok(String::new(alloc))
+    }
+
+    /// Exports the last edition, and tells what the outlet shows then.
+    pub fn export(&mut self, alloc: Global) -> Result<String> {
+        let ended = self.trial.export(alloc, &mut self.outlet)?;
+        let told = if ended { "exported" } else { "failed" };
+        let parts = self.trial.published_state().parts();
+        let shown = shown(alloc, &self.outlet, self.site.rrdp(), parts)?;
+        Ok(format!(in alloc; "{told}: {shown}")?)
     }
 
     /// So many editions of the trust anchor, one each hour.

@@ -5,6 +5,8 @@
 //! - `publish CLOCK`: an edition, of which the numbers and the digest of the set are printed;
 //! - `count CLOCK`: the same without the digest;
 //! - `changes`: the changes of the last edition are printed;
+//! - `outlet NUMBER`: an outlet without a file, of which the call of that number fails;
+//! - `export`: the last edition is exported, and what the outlet shows is printed;
 //! - `hours COUNT CLOCK`: so many editions, one each hour.
 
 use crate::publications::stage::Stage;
@@ -21,12 +23,15 @@ enum Step {
     Publish { clock: u64 },
     Count { clock: u64 },
     Changes,
+    Outlet { fails: u64 },
+    Export,
     Hours { count: u64, clock: u64 },
 }
 
 fn read(words: &[&str]) -> Result<Step> {
     match words {
         ["changes"] => Ok(Step::Changes),
+        ["export"] => Ok(Step::Export),
         [word, number] => read_one(word, number_of(number)?),
         ["hours", count, clock] => Ok(Step::Hours {
             count: number_of(count)?,
@@ -43,6 +48,7 @@ fn read_one(word: &str, number: u64) -> Result<Step> {
         "remove" => Ok(Step::Remove { count: number }),
         "publish" => Ok(Step::Publish { clock: number }),
         "count" => Ok(Step::Count { clock: number }),
+        "outlet" => Ok(Step::Outlet { fails: number }),
         _ => bail!("no such step: {word}"),
     }
 }
@@ -73,6 +79,8 @@ fn told<S: Signer>(alloc: Global, stage: &mut Stage<S>, step: &str) -> Result<St
         Step::Publish { clock } => stage.publish(alloc, clock),
         Step::Count { clock } => stage.count(alloc, clock),
         Step::Changes => stage.changes(alloc),
+        Step::Outlet { fails } => stage.set_outlet(alloc, fails),
+        Step::Export => stage.export(alloc),
         Step::Hours { count, clock } => stage.hours(alloc, count, clock),
     }
 }

@@ -9,6 +9,7 @@ use anyhow::{Result, bail};
 use editions::{Gathered, Published, PublishedState};
 use key_ids::Site;
 use key_roll::KeyRow;
+use outlet_api::{ExportFault, MemoryOutlet};
 use press_core::{Press, PressFault, PressRefused};
 use pub_set::Change;
 use signer_api::Signer;
@@ -63,6 +64,18 @@ impl<S: Signer> Trial<S> {
     /// What stands.
     pub fn published_state(&self) -> &PublishedState {
         self.press.published_state()
+    }
+
+    /// Exports the last edition, and says whether it came to its end.
+    pub fn export(&mut self, alloc: Global, outlet: &mut MemoryOutlet) -> Result<bool> {
+        if self.press.serial() == 0 {
+            bail!("nothing to export");
+        }
+        match self.press.export_to(alloc, outlet) {
+            Ok(()) => Ok(true),
+            Err(ExportFault::OutletFault { .. }) => Ok(false),
+            Err(ExportFault::Memory) => bail!("no memory for an export"),
+        }
     }
 
     /// Publishes at that clock what the desks accepted.

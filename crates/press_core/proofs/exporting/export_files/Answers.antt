@@ -1,7 +1,7 @@
 use Rattle.std.proofs.Common.{ap, ◌∙◌, List}
 use Rattle.outlet_api.specs.Calls.{Call}
 use Rattle.rrdp_state.specs.Exported.{export_calls}
-use Rattle.press_core.proofs.Exporting.{calls_with}
+use Rattle.press_core.proofs.AfterExports.{calls_with}
 use Rattle.press_core.proofs.exporting.export_files.Goals as goal
 
 pub returns : goal.returns
