@@ -1,6 +1,6 @@
 -- What an export of a press leaves.
 use Rattle.std.proofs.Common.{◌≡◌, ℕ, zero, suc, ◌+◌, ◌-◌, ◌<◌, ◌≤◌, ◌^◌, refl, sym, subst, ap, ap₂, ◌∙◌, arith, length, get_or, take, drop, map, List, [], ◌∷◌, ◌++◌, Some, None, Bool, true, false}
-use Rattle.std.specs.Prelude.{◌≢◌, Option, option_map, IfSome, nat_lt, String}
+use Rattle.std.specs.Prelude.{◌≢◌, Option, option_map, IfSome, nat_lt, String, Result, Ok, Err, OnOk}
 use Rattle.std.specs.declared.alloc.Global.{Global}
 use Rattle.std.specs.List.{AllByRecursion}
 use Rattle.std.proofs.lemmas.Bool.{false≢true}
@@ -15,7 +15,8 @@ use Rattle.issue_plan.specs.Keys.{row_of}
 use Rattle.authority_book.specs.declared.commands.Command.{Command}
 use Rattle.outlet_api.specs.declared.exports.OutFile.{OutFile}
 use Rattle.outlet_api.specs.Calls.{Files, Call, put, after_all, IsFront}
-use Rattle.outlet_api.specs.Exports.{put_of, removal_of}
+use Rattle.outlet_api.specs.declared.exports.OutFiles.{OutFiles}
+use Rattle.outlet_api.specs.Exports.{put_of, removal_of, calls_of}
 use Rattle.outlet_api.specs.laws.FrontLaws.{holds_at_front}
 use Rattle.rrdp_state.specs.Editions as rrdp
 use Rattle.rrdp_state.specs.Editions.{FollowEachOther}
@@ -275,3 +276,26 @@ calls_with repository (edition ∷ older) all puts new besides removes some put 
     ∙ ap₂ (λ (a : List Call) (c : Call). a ++ c ∷ [])
     (map-append put_of ends.first besides ∙ ap (λ (a : List Call). a ++ map put_of besides) ends.told_first) ends.told_last))
     gone
+
+-- ---- as the press's fields are
+
+pub on_ok : {T E : Type 0} (r : Result T E) (P Q : Type 0) → (P → Q) → OnOk r P → OnOk r Q
+on_ok (Ok x) P Q step p = step p
+on_ok (Err e) P Q step p = tt
+
+-- The calls that are made are those of the export.
+pub calls_then : (view now : PressValue) → view ≡ now → (editions : List Edition) → HasFilesOf editions now
+    → view.rrdp.serial ≡ view.at.serial → (now.at.serial ≡ 0 → ⊥) → (files : OutFiles) (all : Bool) → all ≡ puts_all view.last_export now.at.serial
+    → ((repository : Repository) (es : List rrdp.Edition) → rrdp_state.StandsFor repository es view.rrdp → (es ≡ [] → ⊥)
+    → calls_of files ≡ export_calls repository es all (anchor_puts view.site view.at))
+    → calls_of files ≡ export_of now editions
+calls_then view now same editions has counted some files all test law =
+    let back = sym same in
+    let es = rrdp_editions editions in
+    let stands : rrdp_state.StandsFor (repository_of view) es view.rrdp = subst (HasFilesOf editions) back has in
+    let serial : now.at.serial ≡ length es =
+    ap (λ (press : PressValue). press.at.serial) back ∙ (sym counted ∙ kept_serial (repository_of view) es view.rrdp stands) in
+    law (repository_of view) es stands (λ empty. some (serial ∙ ap length empty))
+    ∙ (ap (λ (b : Bool). export_calls (repository_of view) es b (anchor_puts view.site view.at))
+    (test ∙ ap (λ (press : PressValue). puts_all view.last_export press.at.serial) back)
+    ∙ ap (λ (press : PressValue). export_of press editions) same)

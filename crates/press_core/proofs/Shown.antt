@@ -69,7 +69,7 @@ ends uri rule (Some x) f g none = absurd (false≢true (ap is_none (sym none)))
     is_none (Some x) = true
 
 no_walk : (s : WalkContext) (held : Contents) (visits : List Visit) → held (anchor_uri s.bases) ≡ None → walk s held ≡ Ok visits → ⊥
-unfolding walk, accepted_anchor
+unfolding walk accepted_anchor
 no_walk s held visits none walked =
     false≢true (sym (ends (anchor_uri s.bases) Missing (held (anchor_uri s.bases)) _ _ none) ∙ ap is_ok walked)
 

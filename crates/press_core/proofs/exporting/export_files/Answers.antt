@@ -6,7 +6,7 @@ use Rattle.press_core.proofs.exporting.export_files.Goals as goal
 
 pub returns : goal.returns
 returns c = λ repository editions stands some.
-    calls_with repository editions c.args.all c.in_ok-files.files.puts.items c.put_before_last.new.puts.items c.in_ok-anchor_files.beside.items
+    calls_with repository editions c.args.all c.in_ok-files.files.puts.items c.put_before_last.new.puts.items c.in_ok-beside.beside.items
     c.in_ok-files.files.removes.items some (c.in_ok-files.ensures.puts repository editions stands) (c.in_ok-files.ensures.removes repository editions stands)
     c.in_ok-put_before_last.ensures
-    ∙ ap (λ (beside : List Call). export_calls repository editions c.args.all beside) c.in_ok-anchor_files.ensures
+    ∙ ap (λ (beside : List Call). export_calls repository editions c.args.all beside) c.in_ok-beside.ensures
