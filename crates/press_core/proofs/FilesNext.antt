@@ -51,15 +51,15 @@ files_next one lists editions press edition files kept left has next counted tex
     (advance (repository_of press) older new has follow
     (texts ∙ ap₂ (λ (n : ℕ) (objects : List Object). texts_of press.rrdp.session n objects edition.changes) serial set))
 
--- The same of a press as its fields are, before and after.
-pub files_then : OneSet → (view now new : PressValue) (edition : NextValue) (files : NextFiles) (kept : Kept) → view ≡ now
+-- The same of a press as its fields are.
+pub files_then : OneSet → (view now : PressValue) (edition : NextValue) (files : NextFiles) (kept : Kept) → view ≡ now
     → view.rrdp.serial ≡ view.at.serial → IsNext now.site now.at edition → files ≡ files_of now.rrdp.session edition
     → ((repository : Repository) (older : List rrdp.Edition) (told : rrdp.Edition) → rrdp_state.StandsFor repository older view.rrdp
     → FollowEachOther (told ∷ older) → files ≡ edition_texts repository.session older told → rrdp_state.StandsFor repository (told ∷ older) kept)
-    → kept.session ≡ view.rrdp.session → new.site ≡ view.site → new.rrdp ≡ kept
+    → kept.session ≡ view.rrdp.session
     → (lists : List (List Command)) (editions : List Edition) → IsLeftBy lists editions now.at → HasFilesOf editions now
-    → HasFilesOf (editions ++ edition_of edition ∷ []) new
-files_then one view now new edition files kept same counted next texts advance session site rrdp_is lists editions left has =
+    → rrdp_state.StandsFor (repository_at kept.session view.site) (rrdp_editions (editions ++ edition_of edition ∷ [])) kept
+files_then one view now edition files kept same counted next texts advance session lists editions left has =
     let es = rrdp_editions (editions ++ edition_of edition ∷ []) in
     let back = sym same in
     let stands : rrdp_state.StandsFor (repository_of view) es kept =
@@ -70,7 +70,4 @@ files_then one view now new edition files kept same counted next texts advance s
     counted
     (subst (λ (press : PressValue). files ≡ files_of press.rrdp.session edition) back texts)
     advance in
-    let place : repository_of view ≡ repository_of new =
-    ap₂ repository_at (sym session ∙ ap (λ (k : Kept). k.session) (sym rrdp_is)) (sym site) in
-    subst (λ (k : Kept). rrdp_state.StandsFor (repository_of new) es k) (sym rrdp_is)
-    (subst (λ (r : Repository). rrdp_state.StandsFor r es kept) place stands)
+    subst (λ (id : List ℕ). rrdp_state.StandsFor (repository_at id view.site) es kept) (sym session) stands

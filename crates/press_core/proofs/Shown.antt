@@ -54,7 +54,7 @@ last-files session site editions (Done serial) (Some files) shows = record { wit
 
 -- ---- the anchor's certificate
 
-is_ok : {A E : Type 0} → Result A E → Bool
+abbrev is_ok : {A E : Type 0} → Result A E → Bool
 is_ok (Ok x) = true
 is_ok (Err e) = false
 
