@@ -17,20 +17,16 @@ use Rattle.krill_top.specs.declared.serving.SessionEnds.{SessionEnds}
 use Rattle.krill_top.specs.declared.running.RunEnd.{RunEnd}
 use Rattle.krill_top.specs.DeskStates.{DeskStates, DeskState}
 use Rattle.signer_api.specs.State.{SignerState}
-use Rattle.signer_ring.specs.Ring.{AllTell}
-use Rattle.rp_rules.specs.Certificates.{Vouched}
-use Rattle.press_core.specs.Signers.{HasAllVouched}
 use Rattle.krill_top.specs.declared.faults.OpenFault.{OpenFault}
 use Rattle.krill_top.specs.DeskStates.{names_in}
-use Rattle.krill_top.specs.InstanceState.{InstanceState, AreTrusted, default_bases}
+use Rattle.krill_top.specs.InstanceState.{InstanceState, first_state}
 use Rattle.krill_top.specs.DesksInStates.{IsIn, InAt, AreIn, all_stored, DeskGoesOn, DeskGoesOnAt}
 use Rattle.krill_top.specs.inner.Instances.{InstanceValue, TimedInstance, IsInState}
 use Rattle.krill_top.specs.Statuses.{run_status, fault_of}
 use Rattle.krill_top.specs.inner.Opened.{IsOpened, IsClosed, AreOpened, AreClosed}
 use Rattle.krill_top.specs.Sessions.{Served}
-use Rattle.krill_top.specs.Run.{IsNext, IsServed, IsServedAt, IsSignersCause, IsClosedAgain, IsTrusting, ServesOne, signers_needed, streams_of}
+use Rattle.krill_top.specs.Run.{IsNext, IsServed, IsServedAt, IsSignersCause, IsClosedAgain, ServesOne, signers_needed, streams_of}
 use Rattle.krill_top.proofs.Standing.{go_on_same}
-use Rattle.krill_top.proofs.Vouching.{telling_vouched}
 use Rattle.krill_top.proofs.InTurn.{opened_stood_for, closed_left}
 
 module _ {D : Type 0} (disk_of : DiskGhosts D) where
@@ -157,24 +153,14 @@ module _ {D : Type 0} (disk_of : DiskGhosts D) where
         cause = cause desk_states.0 desk_states.1;
       }
 
-trusted_of : (vouched : Vouched) (begun ended : List SignerState) → IsTrusting vouched begun ended → AreTrusted vouched begun
-trusted_of vouched begun ended trusting = elim trusting [ inl tell ↦ inl tell.0 | inr every ↦ inr every ]
-
-vouched_of : (vouched : Vouched) (begun ended : List SignerState) → IsTrusting vouched begun ended → (AllTell begun → AllTell ended) → HasAllVouched vouched ended
-vouched_of vouched begun ended trusting told = elim trusting [
-  | inl tell ↦ telling_vouched vouched ended (told tell.0) tell.1
-  | inr every ↦ (λ key digest signature some. every key digest signature)
-]
-
 module _ {D G S K C : Type 0} (disk_of : DiskGhosts D) (state_of : G → SignerState) (source_of : SourceGhosts S) (sink_of : SinkGhosts K) (clock_of : ClockGhosts C) where
   -- the instance, and what the clock tells of a session
   abbrev pub timed_by : SessionEnds S K C → InstanceValue D → TimedInstance D
   timed_by ends instance = record { instance = instance; clock = clock_of.readings ends.clock }
 
-  pub serves : (vouched : Vouched) (disks : List D) (signers : List G) (before after : SessionEnds S K C) (end : SessionEnd) (run : RunEnd D G S K C) (instance served : InstanceValue D)
+  pub serves : (disks : List D) (signers : List G) (before after : SessionEnds S K C) (end : SessionEnd) (run : RunEnd D G S K C) (instance served : InstanceValue D)
       → AreOpened disk_of 0 disks instance.desks → instance.press.ring ≡ map state_of signers
-      → ((vouched : Vouched) (desk_states : DeskStates) → AreTrusted vouched (map state_of signers) → AreIn instance.desks desk_states
-      → IsInState vouched instance (record { site = default_bases; desk_states = desk_states; editions = []; signers = map state_of signers }))
+      → ((desk_states : DeskStates) → AreIn instance.desks desk_states → IsInState instance (first_state desk_states (map state_of signers)))
       → ((desk_states : DeskStates) → AreIn instance.desks desk_states → signers_needed (names_in desk_states) ≤ length (map state_of signers))
       → Served disk_of source_of sink_of (streams_of before) (streams_of after) (timed_by before instance) (timed_by after served) end → AreClosed disk_of served.desks run.desks.items
       → map state_of run.signers.items ≡ served.press.ring
@@ -182,18 +168,12 @@ module _ {D G S K C : Type 0} (disk_of : DiskGhosts D) (state_of : G → SignerS
       → (end ≡ SourceFault → HasRisen (source_of.fault_count before.source) (source_of.fault_count after.source))
       → (end ≡ SinkFault → HasRisen (sink_of.fault_count before.sink) (sink_of.fault_count after.sink))
       → source_of.fault_count before.source ≤ source_of.fault_count after.source → sink_of.fault_count before.sink ≤ sink_of.fault_count after.sink
-      → IsTrusting vouched (map state_of signers) (map state_of run.signers.items)
-      → ServesOne disk_of state_of source_of sink_of clock_of vouched disks signers before run
+      → ServesOne disk_of state_of source_of sink_of clock_of disks signers before run
   unfolding opened_seen
-  serves vouched disks signers before after end run instance served opened ring stands there session closed signers_back sessions status fault source_fault sink_fault source_later sink_later trusting =
+  serves disks signers before after end run instance served opened ring stands there session closed signers_back sessions status fault source_fault sink_fault source_later sink_later =
       let desk_states = opened_seen disk_of disks instance.desks opened in
-      let begun : InstanceState = record { site = default_bases; desk_states = desk_states.0; editions = []; signers = map state_of signers } in
-      let begins = stands vouched desk_states.0 (trusted_of vouched (map state_of signers) (map state_of run.signers.items) trusting) desk_states.1 in
-      let told : AllTell (map state_of signers) → AllTell (map state_of run.signers.items) =
-      λ all. subst AllTell (sym signers_back) (session.kept.told (subst AllTell (sym ring) all)) in
-      let has : HasAllVouched vouched served.press.ring =
-      subst (HasAllVouched vouched) signers_back (vouched_of vouched (map state_of signers) (map state_of run.signers.items) trusting told) in
-      let done = session.arrives vouched has begun begins in
+      let begun : InstanceState = first_state desk_states.0 (map state_of signers) in
+      let done = session begun (stands desk_states.0 desk_states.1) in
       record {
         after = after;
         end = end;
@@ -205,11 +185,10 @@ module _ {D G S K C : Type 0} (disk_of : DiskGhosts D) (state_of : G → SignerS
         served = done.step;
         disks = λ n. served_at disk_of n (slice_get disks n) (slice_get instance.desks n) (slice_get served.desks n) (slice_get run.desks.items n) (slice_get desk_states.0 n) (slice_get done.after.desk_states n)
             (opened_at disk_of 0 disks instance.desks opened n n (omega arith)) (done.disks n) (done.stands.desks n) (closed_at disk_of served.desks run.desks.items closed n);
-        none_before = refl;
-        begun_site = refl;
+        begins = refl;
         same_site = done.same_site;
-        steps = done.stands.press.steps;
-        signers_begun = refl;
+        steps = λ vouched all. (done.stands.stands vouched all).steps;
+        vouch = done.vouch;
         signers_ended = signers_back ∙ done.stands.ring;
         signers_there = there desk_states.0 desk_states.1;
         source_fault = source_fault;

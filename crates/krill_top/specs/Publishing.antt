@@ -1,5 +1,5 @@
 -- What comes of a publication.
-use Rattle.std.specs.Prelude.{◌≡◌, ◌⊎◌, ℕ, true, List, [], ◌∷◌, ◌++◌, length, Result, Ok, Err}
+use Rattle.std.specs.Prelude.{◌≡◌, ◌⊎◌, ℕ, Bool, true, false, List, [], ◌∷◌, ◌++◌, length}
 use Rattle.entitle.specs.declared.trees.Owed.{Owed}
 use Rattle.entitle.specs.Owed.{AreOwed}
 use Rattle.pub_set.specs.declared.objects.Object.{Object}
@@ -18,15 +18,17 @@ use Rattle.editions.specs.Gathering.{cut_with, AreNextCommands}
 use Rattle.press_core.specs.declared.fault.PressFault.{PressFault}
 use Rattle.press_core.specs.declared.fault.PressFault.TheVariants.{Memory}
 use Rattle.press_core.specs.Press.{PressValue, DropsEach}
-use Rattle.press_core.specs.Signers.{AreCalled, HoldKeys}
+use Rattle.press_core.specs.Signers.{HoldKeys}
 use Rattle.press_core.specs.PrepareInput.{start_of}
 use Rattle.press_core.specs.Next.{PreparedValue}
-use Rattle.press_core.specs.Planned.{IsPrepared}
+use Rattle.press_core.specs.Planned.{IsPrepared, calls_for}
 use Rattle.press_core.specs.Stands.{IsLeftBy}
 use Rattle.press_core.specs.Follows.{edition_of}
 use Rattle.press_core.specs.Faults.{IsPressFault}
 use Rattle.krill_top.specs.DeskStates.{DeskStates, commands_at}
-use Rattle.krill_top.specs.InstanceState.{InstanceState, lists_of, premises_of}
+use Rattle.krill_top.specs.InstanceState.{InstanceState, lists_of, premises_of, AreVouchedIn}
+use Rattle.krill_top.specs.declared.publication.Publication.{Publication}
+use Rattle.krill_top.specs.declared.publication.Publication.TheVariants as publication
 
 -- All accepted commands of each desk are taken in.
 abbrev pub TakesAll : DeskStates → List ℕ → Type 0
@@ -65,11 +67,20 @@ pub record AreLeft (old made : List SignerState) (before : List Edition) (editio
   pub held : HoldKeys old made
   pub dropped : DropsEach (ended_keys (state_after before).rows edition.rows) made new
 
--- An edition was called for, and made by the signers, who were asked for nothing else. It follows those
--- before it at that clock, over all commands that the desks have accepted. Relying parties find its set
+-- The edition was called for, and follows those before it at that clock. Relying parties find its set
 -- sound, and what they get of it are the owed origins.
-pub record Publishes (vouched : Vouched) (clock : ℕ) (told : Published)
+pub record IsSoundStep (vouched : Vouched) (clock : ℕ) (edition : Edition)
     (before after : InstanceState) : Type 0 where
+  pub step : IsStep (premises_of vouched before) clock before.editions edition
+  pub called : IsCalledFor (premises_of vouched before) before.editions
+      edition.cut edition.moment true
+  pub published : IsPublished (premises_of vouched before) edition (set_after after.editions)
+
+-- An edition was made by the signers, who were asked for nothing else, over all commands that the
+-- desks have accepted. Where the signatures of the editions are vouched, whatever else is, it follows
+-- those before it, and is sound.
+pub record Publishes (clock : ℕ) (told : Published) (before after : InstanceState)
+    : Type 0 where
   pub press : PressValue
   pub gathered : List Gathered
   pub at : IsAtPress press gathered before
@@ -79,15 +90,13 @@ pub record Publishes (vouched : Vouched) (clock : ℕ) (told : Published)
   pub same_site : after.site ≡ before.site
   pub same_desks : after.desk_states ≡ before.desk_states
   pub one_more : after.editions ≡ before.editions ++ edition_of prepared ∷ []
-  pub step : IsStep (premises_of vouched before) clock before.editions
-      (edition_of prepared)
+  pub more_calls : after.calls ≡ before.calls
+      ++ calls_for (start_of press clock gathered) made prepared is_prepared
   pub takes_all : TakesAll before.desk_states (edition_of prepared).cut
-  pub called : IsCalledFor (premises_of vouched before) before.editions
-      (edition_of prepared).cut (edition_of prepared).moment true
   pub numbers : AreNumbersOf before.desk_states after.editions (edition_of prepared) told
   pub signers : AreLeft before.signers made before.editions (edition_of prepared) after.signers
-  pub published : IsPublished (premises_of vouched before) (edition_of prepared)
-      (set_after after.editions)
+  pub sound : (vouched : Vouched) → AreVouchedIn vouched after
+      → IsSoundStep vouched clock (edition_of prepared) before after
 
 -- ---- none
 
@@ -98,23 +107,32 @@ pub record IsMetBy (clock : ℕ) (fault : PressFault) (before after : InstanceSt
   pub at : IsAtPress press gathered before
   pub met : IsPressFault (start_of press clock gathered) after.signers fault
 
+-- Memory ran out before any signer was asked.
+pub record IsUnasked (fault : PressFault) (before after : InstanceState) : Type 0 where
+  pub memory : fault ≡ Memory
+  pub same_signers : after.signers ≡ before.signers
+
 -- No edition was made. Desks and editions are as they were; the signers may have made keys and
--- signatures, which stand nowhere, and have dropped none. Where memory was wanting they counted no fault.
+-- signatures for the edition that was called for, which stand nowhere, and have dropped none.
 pub record IsUnpublished (clock : ℕ) (fault : PressFault) (before after : InstanceState)
     : Type 0 where
   pub same_site : after.site ≡ before.site
   pub same_desks : after.desk_states ≡ before.desk_states
   pub same_editions : after.editions ≡ before.editions
+  pub same_calls : after.calls ≡ before.calls
   pub kept : Keeps before.signers after.signers
   pub held : HoldKeys before.signers after.signers
-  pub cause : ((fault ≡ Memory) × AreCalled before.signers after.signers)
-      ⊎ IsMetBy clock fault before after
+  pub cause : IsUnasked fault before after ⊎ IsMetBy clock fault before after
 
 -- ---- either
 
-abbrev pub PublishesOrNot : Vouched → ℕ → Result Published PressFault → InstanceState
-    → InstanceState → Type 0
-PublishesOrNot vouched clock (Ok published) before after =
-    Publishes vouched clock published before after
-PublishesOrNot vouched clock (Err fault) before after =
-    IsUnpublished clock fault before after
+-- A publication comes to this, at that clock.
+abbrev pub ComesTo : ℕ → Publication → InstanceState → InstanceState → Type 0
+ComesTo clock (publication.Published published) before after =
+    Publishes clock published before after
+ComesTo clock (publication.Refused fault) before after = IsUnpublished clock fault before after
+
+-- Whether it changed the editions.
+abbrev pub has_published : Publication → Bool
+has_published (publication.Published published) = true
+has_published (publication.Refused fault) = false

@@ -13,7 +13,6 @@ use Rattle.json_api.specs.Refused.{refused_spelling, verdict_spelling, fault_spe
 use Rattle.line_loop.specs.declared.TheConstants.{LINE_LIMIT}
 use Rattle.json_api.specs.Line.{ReadsLine}
 use Rattle.json_api.specs.Reply.{accepted_spelling, published_spelling, serial_spelling}
-use Rattle.rp_rules.specs.Certificates.{Vouched}
 use Rattle.editions.specs.Edition.{state_after}
 use Rattle.editions.specs.declared.published_state.Published.{Published}
 use Rattle.press_core.specs.declared.fault.PressFault.{PressFault}
@@ -26,7 +25,9 @@ use Rattle.krill_top.specs.Outcomes.{Outcome, Commanded, fault_outcome}
 use Rattle.krill_top.specs.Outcomes.Outcome.{Accepted, NoSuchAuthority, Shut, Verdict, JournalFull, DiskFault, Memory}
 use Rattle.krill_top.specs.Reads.{list_reply, history_reply}
 use Rattle.krill_top.specs.Sheets.{IsShowText, IsRoasText}
-use Rattle.krill_top.specs.Publishing.{PublishesOrNot}
+use Rattle.krill_top.specs.Publishing.{ComesTo, has_published}
+use Rattle.krill_top.specs.declared.publication.Publication.{Publication}
+use Rattle.krill_top.specs.declared.publication.Publication.TheVariants as publication
 
 -- Space, tab and carriage return.
 abbrev pub is_blank_byte : ℕ → Bool
@@ -39,14 +40,14 @@ pub record IsBlank (line : List ℕ) : Type 0 where
 
 -- A refusal, or a read: such a text is given, and nothing changes. The clock isn't read.
 pub record IsToldSo (IsIt : List ℕ → Type 0) (before : TimedInstanceState) (text : List ℕ)
-    (accepted : Bool) (after : TimedInstanceState) : Type 0 where
+    (changed : Bool) (after : TimedInstanceState) : Type 0 where
   pub text_is : IsIt text
-  pub not_accepted : accepted ≡ false
+  pub unchanged : changed ≡ false
   pub same : after ≡ before
 
 -- The same, of one text.
 abbrev pub IsTold : List ℕ → TimedInstanceState → List ℕ → Bool → TimedInstanceState → Type 0
-IsTold told before text accepted after = IsToldSo (λ it. it ≡ told) before text accepted after
+IsTold told before text changed after = IsToldSo (λ it. it ≡ told) before text changed after
 
 -- How an outcome is told.
 abbrev pub outcome_text : List ℕ → Outcome → List ℕ
@@ -58,9 +59,11 @@ outcome_text name (JournalFull held needed) = refused_spelling (refused.JournalF
 outcome_text name (DiskFault device) = refused_spelling (refused.DiskFault device)
 outcome_text name Memory = refused_spelling refused.Memory
 
-abbrev pub is_accepted : Outcome → Bool
-is_accepted (Accepted count) = true
-is_accepted other = false
+-- Whether it changed a desk: the command was accepted, or is in doubt.
+abbrev pub is_change : Outcome → Bool
+is_change (Accepted count) = true
+is_change (DiskFault device) = true
+is_change other = false
 
 -- A command to the authority of that name comes to this, with the signers that there are. It changes no
 -- edition, and asks no signer.
@@ -70,16 +73,17 @@ pub record CommandedIn (name : List ℕ) (command : Command) (outcome : Outcome)
       (length before.signers) outcome before.desk_states after.desk_states
   pub same_site : after.site ≡ before.site
   pub same_editions : after.editions ≡ before.editions
+  pub same_calls : after.calls ≡ before.calls
   pub same_signers : after.signers ≡ before.signers
 
 -- A command gets the text of what it comes to. The clock isn't read.
 pub record CommandText (name : List ℕ) (command : Command) (before : TimedInstanceState)
-    (text : List ℕ) (accepted : Bool) (after : TimedInstanceState) : Type 0 where
+    (text : List ℕ) (changed : Bool) (after : TimedInstanceState) : Type 0 where
   pub outcome : Outcome
   pub comes : CommandedIn name command outcome before.state after.state
   pub same_clock : after.clock ≡ before.clock
   pub text_is : text ≡ outcome_text name outcome
-  pub accepted_is : accepted ≡ is_accepted outcome
+  pub changed_is : changed ≡ is_change outcome
 
 -- ---- a publication
 
@@ -100,23 +104,20 @@ refused_of (press.SignerFault signer met) = refused.SignerFault signer
 refused_of (press.KeyClash id met) = refused.KeyClash id
 refused_of press.Memory = refused.Memory
 
-abbrev pub publish_text : Result Published PressFault → List ℕ
-publish_text (Ok published) = published_spelling (published_in_reply published)
-publish_text (Err fault) = refused_spelling (refused_of fault)
-
-abbrev pub has_published : Result Published PressFault → Bool
-has_published (Ok published) = true
-has_published (Err fault) = false
+abbrev pub publish_text : Publication → List ℕ
+publish_text (publication.Published published) =
+    published_spelling (published_in_reply published)
+publish_text (publication.Refused fault) = refused_spelling (refused_of fault)
 
 -- The clock is read once, and a publication gets the text of what it comes to at that time.
-pub record PublishText (vouched : Vouched) (before : TimedInstanceState) (text : List ℕ)
-    (accepted : Bool) (after : TimedInstanceState) : Type 0 where
+pub record PublishText (before : TimedInstanceState) (text : List ℕ)
+    (changed : Bool) (after : TimedInstanceState) : Type 0 where
   pub clock : ℕ
   pub read : IsReading before.clock clock after.clock
-  pub outcome : Result Published PressFault
-  pub comes : PublishesOrNot vouched clock outcome before.state after.state
+  pub outcome : Publication
+  pub comes : ComesTo clock outcome before.state after.state
   pub text_is : text ≡ publish_text outcome
-  pub accepted_is : accepted ≡ has_published outcome
+  pub changed_is : changed ≡ has_published outcome
 
 -- ---- a line
 
@@ -124,26 +125,26 @@ abbrev pub serial_text : InstanceState → List ℕ
 serial_text state = serial_spelling (state_after state.editions).serial
 
 -- What a line says gets this text.
-abbrev pub SaidText : Vouched → Line → TimedInstanceState → List ℕ → Bool → TimedInstanceState
+abbrev pub SaidText : Line → TimedInstanceState → List ℕ → Bool → TimedInstanceState
     → Type 0
-SaidText vouched (line.Command name command) before text accepted after = CommandText name command before text accepted after
-SaidText vouched line.Publish before text accepted after = PublishText vouched before text accepted after
-SaidText vouched line.Serial before text accepted after = IsTold
-    (serial_text before.state) before text accepted after
-SaidText vouched line.List before text accepted after = IsTold
-    (list_reply before.state.desk_states) before text accepted after
-SaidText vouched (line.Show name) before text accepted after = IsToldSo
-    (IsShowText before.state name) before text accepted after
-SaidText vouched (line.Roas name) before text accepted after = IsToldSo
-    (IsRoasText before.state name) before text accepted after
-SaidText vouched (line.History name) before text accepted after = IsTold
-    (history_reply before.state.desk_states name) before text accepted after
+SaidText (line.Command name command) before text changed after = CommandText name command before text changed after
+SaidText line.Publish before text changed after = PublishText before text changed after
+SaidText line.Serial before text changed after = IsTold
+    (serial_text before.state) before text changed after
+SaidText line.List before text changed after = IsTold
+    (list_reply before.state.desk_states) before text changed after
+SaidText (line.Show name) before text changed after = IsToldSo
+    (IsShowText before.state name) before text changed after
+SaidText (line.Roas name) before text changed after = IsToldSo
+    (IsRoasText before.state name) before text changed after
+SaidText (line.History name) before text changed after = IsTold
+    (history_reply before.state.desk_states name) before text changed after
 
 -- What the bytes of a line are read as gets this text.
-abbrev pub ReadText : Vouched → Result Line LineFault → TimedInstanceState → List ℕ → Bool
+abbrev pub ReadText : Result Line LineFault → TimedInstanceState → List ℕ → Bool
     → TimedInstanceState → Type 0
-ReadText vouched (Ok said) before text accepted after = SaidText vouched said before text accepted after
-ReadText vouched (Err fault) before text accepted after = IsTold (fault_spelling fault) before text accepted after
+ReadText (Ok said) before text changed after = SaidText said before text changed after
+ReadText (Err fault) before text changed after = IsTold (fault_spelling fault) before text changed after
 
 -- The text where memory was wanting.
 abbrev pub memory_text : List ℕ
@@ -156,7 +157,7 @@ bad_line_text = refused_spelling refused.BadLine
 -- The one, or that memory was wanting.
 abbrev pub IsToldOr : (TimedInstanceState → List ℕ → Bool → TimedInstanceState → Type 0)
     → TimedInstanceState → List ℕ → Bool → TimedInstanceState → Type 0
-IsToldOr P before text accepted after = P before text accepted after ⊎ IsTold memory_text before text accepted after
+IsToldOr P before text changed after = P before text changed after ⊎ IsTold memory_text before text changed after
 
 -- The text that says why a command isn't accepted. There may be no memory for a verdict's.
 abbrev pub IsFaultText : {D : Type 0} → List ℕ → CommandFault D → List ℕ → Type 0
@@ -169,27 +170,27 @@ IsTextIn (Ok text) told = told ≡ text.items
 IsTextIn (Err wanting) told = ⊥
 
 -- The bytes are read so, and that gets this text.
-pub record IsReadText (vouched : Vouched) (line : List ℕ) (before : TimedInstanceState)
-    (text : List ℕ) (accepted : Bool) (after : TimedInstanceState) : Type 0 where
+pub record IsReadText (line : List ℕ) (before : TimedInstanceState)
+    (text : List ℕ) (changed : Bool) (after : TimedInstanceState) : Type 0 where
   pub said : Result Line LineFault
   pub reads : ReadsLine line said
-  pub answer : ReadText vouched said before text accepted after
+  pub answer : ReadText said before text changed after
 
 -- A line gets this text: what its bytes get, or that memory was wanting.
-abbrev pub IsText : Vouched → List ℕ → TimedInstanceState → List ℕ → Bool → TimedInstanceState
+abbrev pub IsText : List ℕ → TimedInstanceState → List ℕ → Bool → TimedInstanceState
     → Type 0
-IsText vouched line before text accepted after = IsToldOr (IsReadText vouched line) before text accepted after
+IsText line before text changed after = IsToldOr (IsReadText line) before text changed after
 
 -- A text and a line feed.
-pub record IsAnswer (vouched : Vouched) (line : List ℕ) (before : TimedInstanceState)
-    (reply : List ℕ) (accepted : Bool) (after : TimedInstanceState) : Type 0 where
+pub record IsAnswer (line : List ℕ) (before : TimedInstanceState)
+    (reply : List ℕ) (changed : Bool) (after : TimedInstanceState) : Type 0 where
   pub not_blank : ¬ IsBlank line
   pub text : List ℕ
   pub reply_is : reply ≡ text ++ 10 ∷ []
-  pub answer : IsText vouched line before text accepted after
+  pub answer : IsText line before text changed after
 
 -- A line gets this reply: none where it is blank, else a text and a line feed.
-abbrev pub IsReply : Vouched → TimedInstanceState → List ℕ → List ℕ → Bool → TimedInstanceState
+abbrev pub IsReply : TimedInstanceState → List ℕ → List ℕ → Bool → TimedInstanceState
     → Type 0
-IsReply vouched before line reply accepted after =
-    (IsBlank line × IsTold [] before reply accepted after) ⊎ IsAnswer vouched line before reply accepted after
+IsReply before line reply changed after =
+    (IsBlank line × IsTold [] before reply changed after) ⊎ IsAnswer line before reply changed after

@@ -1,5 +1,5 @@
 -- What a whole run leaves.
-use Rattle.std.specs.Prelude.{◌≡◌, ◌⊎◌, ℕ, ◌≤◌, ◌<◌, ◌+◌, true, max, List, [], ◌∷◌, ◌++◌, Option, None, Some, IfSome, length, map, slice_get, ⊤}
+use Rattle.std.specs.Prelude.{◌≡◌, ◌⊎◌, ℕ, ◌≤◌, ◌<◌, ◌+◌, max, List, [], ◌∷◌, ◌++◌, Option, None, Some, IfSome, length, map, slice_get, ⊤}
 use Rattle.std.specs.Option.{option_map}
 use Rattle.gate_journal.specs.Format.{opened}
 use Rattle.host_calls.specs.Rise.{HasRisen}
@@ -14,7 +14,6 @@ use Rattle.authority_book.specs.declared.rows.NameRow.{NameRow}
 use Rattle.cmd_codec.specs.Spelling.{spelling}
 use Rattle.desk_core.specs.Commands.{Records}
 use Rattle.signer_api.specs.State.{SignerState}
-use Rattle.signer_ring.specs.Ring.{AllTell, Vouched as VouchedBy}
 use Rattle.rp_rules.specs.Certificates.{Vouched}
 use Rattle.editions.specs.Step.{AreSteps}
 use Rattle.krill_top.specs.declared.faults.OpenFault.{OpenFault}
@@ -23,7 +22,7 @@ use Rattle.krill_top.specs.declared.faults.RunFault.{RunFault}
 use Rattle.krill_top.specs.declared.serving.SessionEnds.{SessionEnds}
 use Rattle.krill_top.specs.declared.running.RunEnd.{RunEnd}
 use Rattle.krill_top.specs.DeskStates.{DeskStates, DeskState, names_in}
-use Rattle.krill_top.specs.InstanceState.{InstanceState, at_clock, default_bases, premises_of, AreAllVouched}
+use Rattle.krill_top.specs.InstanceState.{InstanceState, at_clock, first_state, premises_of, AreVouchedIn, VouchForCalls}
 use Rattle.krill_top.specs.DesksInStates.{all_stored, RoseWithin}
 use Rattle.krill_top.specs.Sessions.{Streams, Converses}
 use Rattle.krill_top.specs.RunDisks.{RecoveredTo, IsSafe, IsOpeningRefused}
@@ -104,23 +103,19 @@ pub record IsRefusedAtOpening {D G S K C : Type 0} (disk_of : DiskGhosts D) (sta
   pub same_signers : map state_of run.signers.items ≡ map state_of signers
   pub untouched : run.sessions.items ≡ sessions
 
--- All signers tell what they vouch for, and what they vouch for in the end is vouched; or each signature is.
-abbrev pub IsTrusting : Vouched → List SignerState → List SignerState → Type 0
-IsTrusting vouched begun ended =
-    (AllTell begun × ((key digest signature : List ℕ) → VouchedBy ended key digest signature → vouched key digest signature ≡ true))
-    ⊎ AreAllVouched vouched
-
 -- ---- a run that served its session
 
 abbrev pub streams_of : {S K C : Type 0} → SessionEnds S K C → Streams S K
 streams_of ends = record { source = ends.source; sink = ends.sink }
 
 -- A run that opened its desks, served its session over them, and hands all back. Each disk holds the
--- commands that it held and the accepted ones of its authority. Of these the editions were published,
--- each following those before it; before the session there was none. The session's clock was read for its
--- publications alone. A fault of the source or the sink comes only where it failed in this run.
+-- commands that it held and the accepted ones of its authority. Of these the editions were published;
+-- before the session there was none. Each follows those before it where the signatures that were made
+-- for them are vouched, and where all signers tell what they vouch for, these are among that. The
+-- session's clock was read for its publications alone. A fault of the source or the sink comes only
+-- where it failed in this run.
 pub record ServesOne {D G S K C : Type 0} (disk_of : DiskGhosts D) (state_of : G → SignerState) (source_of : SourceGhosts S) (sink_of : SinkGhosts K)
-    (clock_of : ClockGhosts C) (vouched : Vouched) (desks : List D) (signers : List G) (before : SessionEnds S K C) (run : RunEnd D G S K C) : Type 0 where
+    (clock_of : ClockGhosts C) (desks : List D) (signers : List G) (before : SessionEnds S K C) (run : RunEnd D G S K C) : Type 0 where
   pub after : SessionEnds S K C
   pub end : SessionEnd
   pub begun : InstanceState
@@ -128,14 +123,14 @@ pub record ServesOne {D G S K C : Type 0} (disk_of : DiskGhosts D) (state_of : G
   pub handed_back : run.sessions.items ≡ after ∷ []
   pub status : run.status ≡ run_status (fault_of end)
   pub fault : run.fault ≡ fault_of end
-  pub served : Converses source_of sink_of (streams_of before) (streams_of after) end vouched
+  pub served : Converses source_of sink_of (streams_of before) (streams_of after) end
       (at_clock (clock_of.readings before.clock) begun) (at_clock (clock_of.readings after.clock) ended)
   pub disks : AreServed disk_of desks run.desks.items begun.desk_states ended.desk_states
-  pub none_before : begun.editions ≡ []
-  pub begun_site : begun.site ≡ default_bases
+  pub begins : begun ≡ first_state begun.desk_states (map state_of signers)
   pub same_site : ended.site ≡ begun.site
-  pub steps : AreSteps (premises_of vouched ended) ended.editions
-  pub signers_begun : begun.signers ≡ map state_of signers
+  pub steps : (vouched : Vouched) → AreVouchedIn vouched ended
+      → AreSteps (premises_of vouched ended) ended.editions
+  pub vouch : VouchForCalls begun ended
   pub signers_ended : map state_of run.signers.items ≡ ended.signers
   pub signers_there : signers_needed (names_in begun.desk_states) ≤ length begun.signers
   pub source_fault : end ≡ SourceFault → HasRisen (source_of.fault_count before.source) (source_of.fault_count after.source)

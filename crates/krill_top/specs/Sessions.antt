@@ -6,7 +6,6 @@ use Rattle.line_loop.specs.declared.traits.Source.{Ghosts as SourceGhosts}
 use Rattle.line_loop.specs.declared.traits.Sink.{Ghosts as SinkGhosts}
 use Rattle.line_loop.specs.Session.{Serves}
 use Rattle.line_loop.specs.declared.session.SessionEnd.{SessionEnd}
-use Rattle.rp_rules.specs.Certificates.{Vouched}
 use Rattle.krill_top.specs.InstanceState.{TimedInstanceState}
 use Rattle.krill_top.specs.Replies.{IsReply}
 use Rattle.krill_top.specs.inner.Instances.{TimedInstance, MovesTimed}
@@ -19,13 +18,13 @@ pub record Streams (S K : Type 0) : Type 0 where
 -- The source gave these bytes, and the sink took the replies to their lines, as far as the session's end
 -- says, while the one state became the other and the clock was read.
 pub record Converses {S K : Type 0} (source_of : SourceGhosts S) (sink_of : SinkGhosts K)
-    (old new : Streams S K) (end : SessionEnd) (vouched : Vouched)
-    (begun ended : TimedInstanceState) : Type 0 where
+    (old new : Streams S K) (end : SessionEnd) (begun ended : TimedInstanceState)
+    : Type 0 where
   pub given : List ℕ
   pub written : List ℕ
   pub source : Consumes (source_of.left old.source) (source_of.left new.source) given
   pub sink : Appends (sink_of.taken old.sink) (sink_of.taken new.sink) written
-  pub replies : Serves (IsReply vouched) begun given (IsAtEnd (source_of.left new.source)) written ended end
+  pub replies : Serves IsReply begun given (IsAtEnd (source_of.left new.source)) written ended end
 
 -- The session was served over the instance, from each state in which it may be.
 abbrev pub Served : {D S K : Type 0} → DiskGhosts D → SourceGhosts S → SinkGhosts K

@@ -1,7 +1,8 @@
 //! Why a command to an authority isn't accepted.
 
 ghost use Rattle.std.specs.Prelude.{◌≡◌};
-ghost use Rattle.krill_top.specs.Outcomes.{command_fault_of};
+ghost use Rattle.krill_top.specs.Outcomes.{command_fault_of, fault_outcome};
+ghost use Rattle.krill_top.specs.Replies.{is_change};
 
 use authority_book::Refusal;
 use desk_core::{DeskFault, DeskRose};
@@ -26,6 +27,13 @@ pub enum CommandFault<D: Disk> {
 }
 
 impl<D: Disk> CommandFault<D> {
+    /// Whether the command may be found after a restart.
+    pub fn leaves_doubt(&self) -> bool
+        ensures { result ≡ is_change (fault_outcome self.now) }
+    {
+        matches!(self, CommandFault::DiskFault { .. })
+    }
+
     // What a desk's fault is called here.
     pub(crate) fn of_desk(fault: DeskFault<D>) -> Self
         ensures { result ≡ command_fault_of fault }

@@ -5,12 +5,13 @@ ghost use Rattle.std.specs.List.{list_all};
 ghost use Rattle.json_api.specs.Reply.{accepted_spelling, published_spelling, serial_spelling};
 ghost use Rattle.json_api.specs.Refused.{verdict_spelling, fault_spelling, refused_spelling};
 ghost use Rattle.krill_top.specs.Replies as spec;
-ghost use Rattle.krill_top.specs.Replies.{is_blank_byte, IsBlank, memory_text, bad_line_text, published_in_reply, serial_text, IsTold, CommandText, PublishText, SaidText, IsToldOr, IsFaultText, IsTextIn};
+ghost use Rattle.krill_top.specs.Replies.{is_blank_byte, IsBlank, memory_text, bad_line_text, published_in_reply, publish_text, serial_text, IsTold, CommandText, PublishText, SaidText, IsToldOr, IsFaultText, IsTextIn};
 ghost use Rattle.krill_top.specs.inner.Instances.{MovesTimed, MayText};
 ghost use Rattle.krill_top.specs.inner.Handlers.{timed};
 
 use crate::command_fault::CommandFault;
 use crate::instance::Instance;
+use crate::publication::Publication;
 use authority_book::{Command, Refusal};
 use disk_api::Disk;
 use json_api::{
@@ -55,8 +56,8 @@ impl<D: Disk, G: Signer, C: Clock> Handler<D, G, C> {
         (self.instance, self.clock)
     }
 
-    // Answers a command, and says whether it was accepted. The room for the reply is taken before
-    // the desk writes anything.
+    // Answers a command, and says whether it changed a desk. The room for the reply is taken before the
+    // desk writes anything.
     fn answer_command(
         &mut self,
         alloc: Global,
@@ -64,8 +65,8 @@ impl<D: Disk, G: Signer, C: Clock> Handler<D, G, C> {
         command: Command,
         out: &mut Vec<u8>,
     ) -> Result<bool, AllocError>
-        ensures ok { IfOk result (λ accepted. (text : List ℕ) × (out.new.items ≡ out.old.items ++ text ++ 10 ∷ [])
-            × MovesTimed D.Disk (λ vouched b a. IsToldOr (CommandText name.now command) b text accepted a) (timed C.Clock self.old) (timed C.Clock self.new)) }
+        ensures ok { IfOk result (λ changed. (text : List ℕ) × (out.new.items ≡ out.old.items ++ text ++ 10 ∷ [])
+            × MovesTimed D.Disk (λ b a. IsToldOr (CommandText name.now command) b text changed a) (timed C.Clock self.old) (timed C.Clock self.new)) }
         ensures err { OnErr result ((self.new ≡ self.old) × (out.new.items ≡ out.old.items)) }
     {
         out.reserve(REPLY_ROOM)?;
@@ -75,37 +76,32 @@ impl<D: Disk, G: Signer, C: Clock> Handler<D, G, C> {
                 Ok(true)
             }
             Err(fault) => {
+                let in_doubt = fault.leaves_doubt();
                 append_fault(alloc, name, fault, out);
-                Ok(false)
+                Ok(in_doubt)
             }
         }
     }
 
-    // Publishes at the clock's next reading, and says whether an edition was made. The room for the reply
-    // is taken before that.
+    // Publishes at the clock's next reading, and says whether that changed the editions. The room for the
+    // reply is taken before that.
     fn answer_publish(&mut self, alloc: Global, out: &mut Vec<u8>) -> Result<bool, AllocError>
-        ensures ok { IfOk result (λ accepted. (text : List ℕ) × (out.new.items ≡ out.old.items ++ text ++ 10 ∷ [])
-            × MovesTimed D.Disk (λ vouched b a. PublishText vouched b text accepted a) (timed C.Clock self.old) (timed C.Clock self.new)) }
+        ensures ok { IfOk result (λ changed. (text : List ℕ) × (out.new.items ≡ out.old.items ++ text ++ 10 ∷ [])
+            × MovesTimed D.Disk (λ b a. PublishText b text changed a) (timed C.Clock self.old) (timed C.Clock self.new)) }
         ensures err { OnErr result ((self.new ≡ self.old) × (out.new.items ≡ out.old.items)) }
     {
         out.reserve(REPLY_ROOM)?;
         let now = self.clock.now();
-        match self.instance.publish(alloc, now) {
-            Ok(published) => {
-                append_published(out, &published_of(published));
-                Ok(true)
-            }
-            Err(fault) => {
-                append_refused(out, &refused_of(fault));
-                Ok(false)
-            }
-        }
+        let publication = self.instance.publish(alloc, now);
+        let changed = publication.has_published();
+        append_publication(out, publication);
+        Ok(changed)
     }
 
     // Answers with the serial of the last edition.
     fn answer_serial(&self, out: &mut Vec<u8>) -> Result<bool, AllocError>
-        ensures ok { IfOk result (λ accepted. (text : List ℕ) × (out.new.items ≡ out.old.items ++ text ++ 10 ∷ [])
-            × MovesTimed D.Disk (λ vouched b a. IsTold (serial_text b.state) b text accepted a) (timed C.Clock self.now) (timed C.Clock self.now)) }
+        ensures ok { IfOk result (λ changed. (text : List ℕ) × (out.new.items ≡ out.old.items ++ text ++ 10 ∷ [])
+            × MovesTimed D.Disk (λ b a. IsTold (serial_text b.state) b text changed a) (timed C.Clock self.now) (timed C.Clock self.now)) }
         ensures err { OnErr result (out.new.items ≡ out.old.items) }
     {
         out.reserve(REPLY_ROOM)?;
@@ -113,15 +109,15 @@ impl<D: Disk, G: Signer, C: Clock> Handler<D, G, C> {
         Ok(false)
     }
 
-    // Answers what a line says, and says whether its command was accepted.
+    // Answers what a line says, and says whether that changed anything.
     fn answer_said(
         &mut self,
         alloc: Global,
         said: Line,
         out: &mut Vec<u8>,
     ) -> Result<bool, AllocError>
-        ensures ok { IfOk result (λ accepted. (text : List ℕ) × (out.new.items ≡ out.old.items ++ text ++ 10 ∷ [])
-            × MovesTimed D.Disk (λ vouched b a. IsToldOr (SaidText vouched said) b text accepted a) (timed C.Clock self.old) (timed C.Clock self.new)) }
+        ensures ok { IfOk result (λ changed. (text : List ℕ) × (out.new.items ≡ out.old.items ++ text ++ 10 ∷ [])
+            × MovesTimed D.Disk (λ b a. IsToldOr (SaidText said) b text changed a) (timed C.Clock self.old) (timed C.Clock self.new)) }
         ensures err { OnErr result ((self.new ≡ self.old) × (out.new.items ≡ out.old.items)) }
     {
         match said {
@@ -135,15 +131,15 @@ impl<D: Disk, G: Signer, C: Clock> Handler<D, G, C> {
         }
     }
 
-    // Answers a line that isn't blank, and says whether its command was accepted.
+    // Answers a line that isn't blank, and says whether that changed anything.
     fn answer_text(
         &mut self,
         alloc: Global,
         line: &[u8],
         out: &mut Vec<u8>,
     ) -> Result<bool, AllocError>
-        ensures ok { IfOk result (λ accepted. (text : List ℕ) × (out.new.items ≡ out.old.items ++ text ++ 10 ∷ [])
-            × MayText D.Disk (timed C.Clock self.old) line.now text accepted (timed C.Clock self.new)) }
+        ensures ok { IfOk result (λ changed. (text : List ℕ) × (out.new.items ≡ out.old.items ++ text ++ 10 ∷ [])
+            × MayText D.Disk (timed C.Clock self.old) line.now text changed (timed C.Clock self.new)) }
         ensures err { OnErr result ((self.new ≡ self.old) × (out.new.items ≡ out.old.items)) }
     {
         match self.reader.read(alloc, line) {
@@ -193,6 +189,17 @@ fn refused_of(fault: PressFault) -> Refused
 }
 
 // Appends the reply to a publication, in the room that is there.
+fn append_publication(out: &mut Vec<u8>, publication: Publication)
+    requires { vec_len out.old + REPLY_ROOM ≤ vec_capacity out.old }
+    ensures { out.new.items ≡ out.old.items ++ publish_text publication ++ 10 ∷ [] }
+{
+    match publication {
+        Publication::Published { published } => append_published(out, &published_of(published)),
+        Publication::Refused { fault } => append_refused(out, &refused_of(fault)),
+    }
+}
+
+// Appends what was published, in the room that is there.
 fn append_published(out: &mut Vec<u8>, published: &Published)
     requires { vec_len out.old + REPLY_ROOM ≤ vec_capacity out.old }
     ensures { out.new.items ≡ out.old.items ++ published_spelling published.now ++ 10 ∷ [] }
@@ -293,9 +300,9 @@ fn fault_line(alloc: Global, fault: &LineFault, out: &mut Vec<u8>) -> Result<(),
     Ok(())
 }
 
-// Appends the line of a read's text, or of want of memory. No command is accepted.
+// Appends the line of a read's text, or of want of memory. Nothing changes.
 fn append_told(out: &mut Vec<u8>, text: Result<Vec<u8>, AllocError>) -> Result<bool, AllocError>
-    ensures ok { IfOk result (λ accepted. (accepted ≡ false)
+    ensures ok { IfOk result (λ changed. (changed ≡ false)
         × ((told : List ℕ) × (out.new.items ≡ out.old.items ++ told ++ 10 ∷ [])
         × (IsTextIn text told ⊎ (told ≡ memory_text)))) }
     ensures err { OnErr result (out.new.items ≡ out.old.items) }
@@ -383,7 +390,7 @@ fn has_publish(line: &[u8]) -> bool {
 impl<D: Disk, G: Signer, C: Clock> LineHandler for Handler<D, G, C> {
     ghost use Rattle.krill_top.specs.inner.Instances.{MayReply};
 
-    ghost answers = { λ old line reply accepted new. MayReply D.Disk (timed C.Clock old) line reply accepted (timed C.Clock new) };
+    ghost answers = { λ old line reply changed new. MayReply D.Disk (timed C.Clock old) line reply changed (timed C.Clock new) };
 
     fn answer(
         &mut self,

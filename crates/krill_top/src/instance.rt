@@ -2,13 +2,12 @@
 
 ghost use Rattle.std.specs.Prelude.{◌≡◌, ◌≤◌, ◌<◌, [], List, length, IfOk, IfErr};
 ghost use Rattle.editions.specs.Edition.{state_after};
-ghost use Rattle.rp_rules.specs.Certificates.{Vouched};
 ghost use Rattle.krill_top.specs.DeskStates.{DeskStates, most_desks, names_in};
-ghost use Rattle.krill_top.specs.InstanceState.{InstanceState, default_bases, AreTrusted};
+ghost use Rattle.krill_top.specs.InstanceState.{InstanceState, default_bases, first_state};
 ghost use Rattle.krill_top.specs.Reads.{list_reply, history_reply};
 ghost use Rattle.krill_top.specs.Sheets.{IsShowText, IsRoasText};
 ghost use Rattle.krill_top.specs.Outcomes.{outcome_of};
-ghost use Rattle.krill_top.specs.Publishing.{PublishesOrNot};
+ghost use Rattle.krill_top.specs.Publishing.{ComesTo};
 ghost use Rattle.krill_top.specs.Replies.{CommandedIn};
 ghost use Rattle.krill_top.specs.DesksInStates.{AreIn};
 ghost use Rattle.krill_top.specs.inner.Instances.{IsInState, Moves};
@@ -17,14 +16,15 @@ ghost use Rattle.krill_top.specs.Run.{signers_needed};
 use crate::command_fault::CommandFault;
 use crate::desks::Desks;
 use crate::pressing::{Pressed, press_all};
+use crate::publication::Publication;
 use authority_book::Command;
 use disk_api::Disk;
-use editions::{Published, gathered_commands_go_on};
+use editions::gathered_commands_go_on;
 use key_ids::Site;
 use names::Name;
 use notice_board::Sheet;
 use press_core::{
-    FreshRefused, Press, PressFault, first_published_state_stands, more_commands_stand,
+    FreshRefused, Press, first_published_state_stands, more_commands_stand,
     vouching_signers_vouch_for_editions,
 };
 use signer_api::Signer;
@@ -93,9 +93,9 @@ impl<D: Disk, G: Signer> Instance<D, G> {
     ) -> Result<Instance<D, G>, InstanceRefused<D, G>>
         requires all { length desks ≡ most_desks }
         requires stands { (desk_states : DeskStates) × AreIn desks desk_states × (signers_needed (names_in desk_states) ≤ length ring) }
-        ensures opened { IfOk result (λ instance. (vouched : Vouched) (desk_states : DeskStates)
-            → AreTrusted vouched ring → AreIn desks desk_states → signers_needed (names_in desk_states) ≤ length ring
-            → IsInState vouched instance (record { site = default_bases; desk_states = desk_states; editions = []; signers = ring })) }
+        ensures opened { IfOk result (λ instance. (desk_states : DeskStates)
+            → AreIn desks desk_states → signers_needed (names_in desk_states) ≤ length ring
+            → IsInState instance (first_state desk_states ring)) }
         ensures desks { IfOk result (λ instance. instance.desks ≡ desks) }
         ensures ring { IfOk result (λ instance. instance.press.ring ≡ ring) }
         ensures refused_desks { IfErr result (λ refused. refused.desks ≡ desks) }
@@ -138,7 +138,7 @@ impl<D: Disk, G: Signer> Instance<D, G> {
         name: &Name,
         command: Command,
     ) -> Result<u64, CommandFault<D>>
-        ensures { Moves D.Disk (λ vouched b a. CommandedIn name.now command (outcome_of result) b a) self.old self.new }
+        ensures { Moves D.Disk (λ b a. CommandedIn name.now command (outcome_of result) b a) self.old self.new }
     {
         more_commands_stand();
         self.desks.command(alloc, name, command, self.signers)
@@ -147,23 +147,23 @@ impl<D: Disk, G: Signer> Instance<D, G> {
     /// Publishes all that the desks have accepted, at that clock in seconds since 1970. The edition follows the
     /// last one. A refusal changes nothing but what the signers made and counted. Refused in the order of
     /// [`Press::prepare`](press_core::Press::prepare).
-    pub fn publish(&mut self, alloc: Global, now: u64) -> Result<Published, PressFault>
-        ensures { Moves D.Disk (λ vouched b a. PublishesOrNot vouched now result b a) self.old self.new }
+    pub fn publish(&mut self, alloc: Global, now: u64) -> Publication
+        ensures { Moves D.Disk (λ b a. ComesTo now result b a) self.old self.new }
     {
         gathered_commands_go_on();
         vouching_signers_vouch_for_editions();
         match press_all(alloc, &self.desks, &mut self.press, now) {
             Ok(Pressed { published, sheet }) => {
                 self.sheet = sheet;
-                Ok(published)
+                Publication::Published { published }
             }
-            Err(fault) => Err(fault),
+            Err(fault) => Publication::Refused { fault },
         }
     }
 
     /// The serial of the last edition, and 0 where there was none.
     pub fn serial(&self) -> u64
-        ensures { (vouched : Vouched) (state : InstanceState) → IsInState vouched self.now state
+        ensures { (state : InstanceState) → IsInState self.now state
             → result ≡ (state_after state.editions).serial }
     {
         self.sheet.serial
@@ -171,7 +171,7 @@ impl<D: Disk, G: Signer> Instance<D, G> {
 
     /// The reply to `list`: the names of the tree, and which of them are deleted.
     pub fn list(&self, alloc: Global) -> Result<Vec<u8>, AllocError>
-        ensures { IfOk result (λ text. (vouched : Vouched) (state : InstanceState) → IsInState vouched self.now state
+        ensures { IfOk result (λ text. (state : InstanceState) → IsInState self.now state
             → text.items ≡ list_reply state.desk_states) }
     {
         self.desks.list(alloc)
@@ -179,7 +179,7 @@ impl<D: Disk, G: Signer> Instance<D, G> {
 
     /// The reply to `show`: an authority's state.
     pub fn show(&self, alloc: Global, name: &Name) -> Result<Vec<u8>, AllocError>
-        ensures { IfOk result (λ text. (vouched : Vouched) (state : InstanceState) → IsInState vouched self.now state
+        ensures { IfOk result (λ text. (state : InstanceState) → IsInState self.now state
             → IsShowText state name.now text.items) }
     {
         self.desks.show(alloc, &self.sheet, name)
@@ -187,7 +187,7 @@ impl<D: Disk, G: Signer> Instance<D, G> {
 
     /// The reply to `roas list`: an authority's origins.
     pub fn roas(&self, alloc: Global, name: &Name) -> Result<Vec<u8>, AllocError>
-        ensures { IfOk result (λ text. (vouched : Vouched) (state : InstanceState) → IsInState vouched self.now state
+        ensures { IfOk result (λ text. (state : InstanceState) → IsInState self.now state
             → IsRoasText state name.now text.items) }
     {
         self.desks.roas(alloc, &self.sheet, name)
@@ -195,7 +195,7 @@ impl<D: Disk, G: Signer> Instance<D, G> {
 
     /// The reply to `history commands`: an authority's commands, all that were accepted.
     pub fn history(&self, alloc: Global, name: &Name) -> Result<Vec<u8>, AllocError>
-        ensures { IfOk result (λ text. (vouched : Vouched) (state : InstanceState) → IsInState vouched self.now state
+        ensures { IfOk result (λ text. (state : InstanceState) → IsInState self.now state
             → text.items ≡ history_reply state.desk_states name.now) }
     {
         self.desks.history(alloc, name)

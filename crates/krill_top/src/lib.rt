@@ -10,6 +10,7 @@ mod handler;
 mod instance;
 mod opening;
 mod pressing;
+mod publication;
 mod reads;
 mod running;
 mod serving;
@@ -24,5 +25,6 @@ pub use line_loop::{
     Clock, ListClock, MemorySink, MemorySource, SessionEnd, Sink, SinkStop, Source, SourceStop,
     StreamSink, StreamSource, SystemClock,
 };
+pub use publication::Publication;
 pub use running::{RunEnd, run_krill};
 pub use serving::{Session, SessionEnds};

@@ -4,9 +4,8 @@ ghost use Rattle.std.specs.Prelude.{◌≡◌, ◌≢◌, ◌↔◌, ◌⊎◌, 
 ghost use Rattle.krill_top.specs.Words.{AreRunWords};
 ghost use Rattle.krill_top.specs.Statuses.{run_status, fault_of, opening_fault};
 ghost use Rattle.krill_top.specs.DeskStates.{most_desks};
-ghost use Rattle.rp_rules.specs.Certificates.{Vouched};
 ghost use Rattle.krill_top.specs.inner.Started.{IsStarted};
-ghost use Rattle.krill_top.specs.Run.{IsRefusedRun, IsRefusedAtOpening, IsTrusting, ServesOne};
+ghost use Rattle.krill_top.specs.Run.{IsRefusedRun, IsRefusedAtOpening, ServesOne};
 ghost use Rattle.krill_top.specs.declared.faults.RunFault.TheVariants as faults;
 ghost use Rattle.krill_top.specs.declared.faults.OpenFault.TheVariants as opening;
 
@@ -87,8 +86,7 @@ fn serve_one<D: Disk, G: Signer, S: Source, K: Sink, C: Clock>(
     requires session { length sessions.items ≡ 1 }
     ensures { (disks : List D) (signers : List G) (before : SessionEnds S K C)
         → IsStarted D.Disk G.state disks signers started → sessions.items ≡ before ∷ []
-        → (vouched : Vouched) → IsTrusting vouched (map G.state signers) (map G.state result.signers.items)
-        → ServesOne D.Disk G.state S.Source K.Sink C.Clock vouched disks signers before result }
+        → ServesOne D.Disk G.state S.Source K.Sink C.Clock disks signers before result }
 {
     let Started { instance, disks } = started;
     let mut sessions = sessions;
@@ -151,8 +149,7 @@ fn run_one<D: Disk, G: Signer, S: Source, K: Sink, C: Clock>(
     requires session { length sessions.items ≡ 1 }
     ensures { (before : SessionEnds S K C) → sessions.items ≡ before ∷ []
         → IsRefusedAtOpening D.Disk G.state devices.disks.items devices.signers.items sessions.items result
-        ⊎ ((vouched : Vouched) → IsTrusting vouched (map G.state devices.signers.items) (map G.state result.signers.items)
-        → ServesOne D.Disk G.state S.Source K.Sink C.Clock vouched devices.disks.items devices.signers.items before result) }
+        ⊎ ServesOne D.Disk G.state S.Source K.Sink C.Clock devices.disks.items devices.signers.items before result }
 {
     match start(alloc, devices) {
         Ok(started) => serve_one(alloc, started, sessions),
@@ -232,8 +229,7 @@ pub fn run_krill<D: Disk, G: Signer, S: Source, K: Sink, C: Clock>(
     ensures served { AreRunWords words.now → length desks.items ≡ most_desks → 0 < length signers.items → length signers.items ≤ 8
         → (before : SessionEnds S K C) → sessions.items ≡ before ∷ []
         → IsRefusedAtOpening D.Disk G.state desks.items signers.items sessions.items result
-        ⊎ ((vouched : Vouched) → IsTrusting vouched (map G.state signers.items) (map G.state result.signers.items)
-        → ServesOne D.Disk G.state S.Source K.Sink C.Clock vouched desks.items signers.items before result) }
+        ⊎ ServesOne D.Disk G.state S.Source K.Sink C.Clock desks.items signers.items before result }
 {
     let refused = refusal(words, desks.len(), signers.len(), sessions.len());
     let devices = Devices {

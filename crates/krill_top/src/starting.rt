@@ -2,9 +2,7 @@
 
 ghost use Rattle.std.specs.Prelude.{◌≡◌, ◌⊎◌, ◌≤◌, ◌<◌, [], List, length, map, vec_len, vec_capacity, IfOk, IfErr};
 ghost use Rattle.desk_core.specs.View.{View};
-ghost use Rattle.rp_rules.specs.Certificates.{Vouched};
 ghost use Rattle.krill_top.specs.DeskStates.{DeskStates, most_desks};
-ghost use Rattle.krill_top.specs.InstanceState.{AreTrusted};
 ghost use Rattle.krill_top.specs.inner.Opened.{AreOpened, AreClosed};
 ghost use Rattle.krill_top.specs.RunDisks.{IsOpeningRefused};
 ghost use Rattle.krill_top.specs.Run.{IsClosedAgain};

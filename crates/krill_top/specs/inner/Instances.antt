@@ -1,5 +1,5 @@
 -- The instance as the program has it and as replies see it.
-use Rattle.std.specs.Prelude.{◌≡◌, ◌≢◌, ◌<◌, ℕ, Bool, true, List, [], Option, All, length}
+use Rattle.std.specs.Prelude.{◌≡◌, ◌≢◌, ◌<◌, ℕ, Bool, List, [], Option, All, length}
 use Rattle.disk_api.specs.declared.disk.Disk.{Ghosts as DiskGhosts}
 use Rattle.authority_book.specs.declared.rows.NameRow.{NameRow}
 use Rattle.desk_core.specs.View.{View}
@@ -9,11 +9,10 @@ use Rattle.notice_board.specs.declared.sheets.Sheet.{Sheet}
 use Rattle.editions.specs.PublishedState.{IsConsistentState}
 use Rattle.editions.specs.Sheets.{sheet_of}
 use Rattle.press_core.specs.Press.{PressValue}
-use Rattle.press_core.specs.Signers.{HasAllVouched}
-use Rattle.press_core.specs.Stands.{StandsFor}
+use Rattle.press_core.specs.Stands.{IsLeftBy, StandsFor}
 use Rattle.krill_top.specs.DeskStates.{most_desks, names_in}
 use Rattle.krill_top.specs.InstanceState.{InstanceState, TimedInstanceState, at_clock}
-use Rattle.krill_top.specs.InstanceState.{premises_of, AreTrusted}
+use Rattle.krill_top.specs.InstanceState.{lists_of, premises_of, AreVouchedIn, VouchForCalls}
 use Rattle.krill_top.specs.DesksInStates.{AreIn, DesksGoOn}
 use Rattle.krill_top.specs.Replies.{IsReply, IsText}
 
@@ -25,14 +24,15 @@ pub record InstanceValue (D : Type 0) : Type 0 where
   pub sheet : Sheet
   pub signers : ℕ
 
--- The instance is in this state: its desks are in their states, its press stands for the editions,
--- and
--- the signers of all names and keys are there.
-pub record IsInState {D : Type 0} (vouched : Vouched) (instance : InstanceValue D)
-    (state : InstanceState)
+-- The instance is in this state: its desks are in their states, its press has what the editions
+-- left, and stands for them whatever is vouched, if their signatures are; and the signers of all names
+-- and keys are there.
+pub record IsInState {D : Type 0} (instance : InstanceValue D) (state : InstanceState)
     : Type 0 where
   pub desks : AreIn instance.desks state.desk_states
-  pub press : StandsFor (premises_of vouched state) state.editions instance.press.at
+  pub left : IsLeftBy (lists_of state.desk_states) state.editions instance.press.at
+  pub stands : (vouched : Vouched) → AreVouchedIn vouched state
+      → StandsFor (premises_of vouched state) state.editions instance.press.at
   pub site : instance.press.site ≡ state.site
   pub ring : instance.press.ring ≡ state.signers
   pub kept : state.editions ≢ [] → IsConsistentState instance.press.at
@@ -42,33 +42,29 @@ pub record IsInState {D : Type 0} (vouched : Vouched) (instance : InstanceValue 
   pub live_signers : All (λ row. row.signer < length state.signers) instance.press.at.rows
   pub name_signers : All (λ (name : NameRow). name.signer < length state.signers)
       (names_in state.desk_states)
-  pub trusted : AreTrusted vouched state.signers
 
--- It is in some state, whatever is vouched.
+-- It is in some state.
 pub record IsInstance {D : Type 0} (instance : InstanceValue D) : Type 0 where
   pub state : InstanceState
-  pub stands : IsInState (λ key digest signature. true) instance state
+  pub stands : IsInState instance state
 
 -- From the instance in one state, P leads to a state in which the other instance is.
-pub record Arrives {D : Type 0} (disk_of : DiskGhosts D) (vouched : Vouched)
+pub record Arrives {D : Type 0} (disk_of : DiskGhosts D)
     (P : InstanceState → InstanceState → Type 0) (old new : InstanceValue D)
     (before : InstanceState) : Type 0 where
   pub after : InstanceState
   pub same_site : after.site ≡ before.site
   pub step : P before after
-  pub stands : IsInState vouched new after
+  pub stands : IsInState new after
   pub disks : DesksGoOn disk_of old.desks new.desks before.desk_states after.desk_states
+  pub kept : Keeps before.signers after.signers
+  pub vouch : VouchForCalls before after
 
--- What a call may do to the instance, as replies see it and as its disks go on; whatever is taken
--- to be
--- vouched, if what the signers vouch for in the end is.
-pub record Moves {D : Type 0} (disk_of : DiskGhosts D)
-    (P : Vouched → InstanceState → InstanceState → Type 0)
-    (old new : InstanceValue D) : Type 0 where
-  pub kept : Keeps old.press.ring new.press.ring
-  pub arrives : (vouched : Vouched) → HasAllVouched vouched new.press.ring →
-      (before : InstanceState)
-      → IsInState vouched old before → Arrives disk_of vouched (P vouched) old new before
+-- What a call may do to the instance, as replies see it and as its disks go on.
+abbrev pub Moves : {D : Type 0} → DiskGhosts D → (InstanceState → InstanceState → Type 0)
+    → InstanceValue D → InstanceValue D → Type 0
+Moves disk_of P old new = (before : InstanceState) → IsInState old before
+    → Arrives disk_of P old new before
 
 -- The instance, and what the readings of its session's clock give, where it tells.
 pub record TimedInstance (D : Type 0) : Type 0 where
@@ -76,21 +72,21 @@ pub record TimedInstance (D : Type 0) : Type 0 where
   pub clock : Option (ℕ → ℕ)
 
 -- What a line may do to the instance and the clock.
-abbrev pub MovesTimed : {D : Type 0} → DiskGhosts D →
-    (Vouched → TimedInstanceState → TimedInstanceState → Type 0)
+abbrev pub MovesTimed : {D : Type 0} → DiskGhosts D
+    → (TimedInstanceState → TimedInstanceState → Type 0)
     → TimedInstance D → TimedInstance D → Type 0
 MovesTimed disk_of P old new =
-    Moves disk_of (λ vouched b a. P vouched (at_clock old.clock b)
-    (at_clock new.clock a)) old.instance new.instance
+    Moves disk_of (λ b a. P (at_clock old.clock b) (at_clock new.clock a))
+    old.instance new.instance
 
 -- A line that isn't blank may get this text.
 abbrev pub MayText : {D : Type 0} → DiskGhosts D → TimedInstance D → List ℕ → List ℕ → Bool
     → TimedInstance D → Type 0
-MayText disk_of old line text accepted new =
-    MovesTimed disk_of (λ vouched b a. IsText vouched line b text accepted a) old new
+MayText disk_of old line text changed new =
+    MovesTimed disk_of (λ b a. IsText line b text changed a) old new
 
 -- A line may get this reply.
 abbrev pub MayReply : {D : Type 0} → DiskGhosts D → TimedInstance D → List ℕ → List ℕ → Bool
     → TimedInstance D → Type 0
-MayReply disk_of old line reply accepted new =
-    MovesTimed disk_of (λ vouched b a. IsReply vouched b line reply accepted a) old new
+MayReply disk_of old line reply changed new =
+    MovesTimed disk_of (λ b a. IsReply b line reply changed a) old new

@@ -11,7 +11,7 @@ use Rattle.editions.specs.Sheets.{sheet_of}
 use Rattle.press_core.specs.declared.fault.PressFault.{PressFault}
 use Rattle.press_core.specs.declared.fault.PressFault.TheVariants.{Memory}
 use Rattle.press_core.specs.Press.{PressValue, DropsEach}
-use Rattle.press_core.specs.Signers.{AreCalled, HoldKeys}
+use Rattle.press_core.specs.Signers.{HoldKeys}
 use Rattle.press_core.specs.PrepareInput.{start_of}
 use Rattle.press_core.specs.Next.{PreparedValue}
 use Rattle.press_core.specs.Follows.{IsNextEdition}
@@ -46,4 +46,4 @@ pub record IsNotPressed {D : Type 0} (clock : ℕ) (desks : List (View D)) (old 
   pub same : new ≡ record old { ring = new.ring }
   pub kept : Keeps old.ring new.ring
   pub held : HoldKeys old.ring new.ring
-  pub cause : ((fault ≡ Memory) × AreCalled old.ring new.ring) ⊎ IsMet clock desks old new.ring fault
+  pub cause : ((fault ≡ Memory) × (new.ring ≡ old.ring)) ⊎ IsMet clock desks old new.ring fault

@@ -2,10 +2,9 @@
 use Rattle.std.specs.Prelude.{◌≡◌, ◌≤◌, List, [], length, map, vec_capacity}
 use Rattle.disk_api.specs.declared.disk.Disk.{Ghosts as DiskGhosts}
 use Rattle.signer_api.specs.State.{SignerState}
-use Rattle.rp_rules.specs.Certificates.{Vouched}
 use Rattle.krill_top.specs.declared.starting.Started.{Started}
 use Rattle.krill_top.specs.DeskStates.{DeskStates, most_desks, names_in}
-use Rattle.krill_top.specs.InstanceState.{AreTrusted, default_bases}
+use Rattle.krill_top.specs.InstanceState.{first_state}
 use Rattle.krill_top.specs.DesksInStates.{AreIn}
 use Rattle.krill_top.specs.inner.Instances.{IsInState}
 use Rattle.krill_top.specs.inner.Opened.{AreOpened}
@@ -16,15 +15,8 @@ use Rattle.krill_top.specs.Run.{signers_needed}
 pub record IsStarted {D G : Type 0} (disk_of : DiskGhosts D) (state_of : G → SignerState) (disks : List D) (signers : List G) (started : Started D G) : Type 0 where
   pub opened : AreOpened disk_of 0 disks started.instance.desks
   pub ring : started.instance.press.ring ≡ map state_of signers
-  pub stands : (vouched : Vouched) (desk_states : DeskStates) → AreTrusted vouched
-      (map state_of signers) → AreIn started.instance.desks desk_states
-      → IsInState vouched started.instance
-      (record {
-        site = default_bases;
-        desk_states = desk_states;
-        editions = [];
-        signers = map state_of signers;
-      })
+  pub stands : (desk_states : DeskStates) → AreIn started.instance.desks desk_states
+      → IsInState started.instance (first_state desk_states (map state_of signers))
   pub there : (desk_states : DeskStates) → AreIn started.instance.desks desk_states
       → signers_needed (names_in desk_states) ≤ length (map state_of signers)
   pub empty : started.disks.items ≡ []

@@ -14,7 +14,7 @@ only_one : {A : Type 0} (x y : A) (rest : List A) → y ∷ [] ≡ x ∷ rest �
 only_one x y rest e = (cc, cc)
 
 pub returns : goal.returns
-returns g c disks signers before started one vouched trusting =
+returns g c disks signers before started one =
     let D : Type 0 = g.row.D.Denot in
     let Ends : Type 0 = SessionEnds g.row.S.Denot g.row.K.Denot g.row.C.Denot in
     let first : Ends = c.take_first-source.result in
@@ -29,11 +29,11 @@ returns g c disks signers before started one vouched trusting =
     let session : Served g.D.Disk g.S.Source g.K.Sink (streams_of first) (streams_of after) (record { instance = c.args.started.instance; clock = g.C.Clock.readings first.clock }) (record { instance = served; clock = g.C.Clock.readings after.clock }) c.serve-ended.result =
     subst (λ (t : TimedInstance D). Served g.D.Disk g.S.Source g.K.Sink (streams_of first) (streams_of after) t (record { instance = served; clock = g.C.Clock.readings after.clock }) c.serve-ended.result) begins
     (subst (λ (t : TimedInstance D). Served g.D.Disk g.S.Source g.K.Sink (streams_of first) (streams_of after) (timed g.C.Clock c.new-handler.result) t c.serve-ended.result) ends c.serve-ended.ensures.session) in
-    subst (λ (b : Ends). ServesOne g.D.Disk g.G.Signer.state g.S.Source g.K.Sink g.C.Clock vouched disks signers b run) taken.0
-    (serves g.D.Disk g.G.Signer.state g.S.Source g.K.Sink g.C.Clock vouched disks signers first after c.serve-ended.result run c.args.started.instance served
+    subst (λ (b : Ends). ServesOne g.D.Disk g.G.Signer.state g.S.Source g.K.Sink g.C.Clock disks signers b run) taken.0
+    (serves g.D.Disk g.G.Signer.state g.S.Source g.K.Sink g.C.Clock disks signers first after c.serve-ended.result run c.args.started.instance served
     started.opened started.ring started.stands started.there session
     (subst (λ (l : List D). AreClosed g.D.Disk served.desks l) (sym c.run_end.ensures.desks) c.stop.ensures.disks)
     (ap (map g.G.Signer.state) c.run_end.ensures.signers ∙ c.stop.ensures.signers)
     (c.run_end.ensures.sessions ∙ c.put_in_front.ensures.items ∙ ap (λ (l : List Ends). after ∷ l) taken.1)
     (c.run_end.ensures.status ∙ ap run_status c.fault_of.ensures) (c.run_end.ensures.fault ∙ c.fault_of.ensures)
-    c.serve-ended.ensures.source_fault c.serve-ended.ensures.sink_fault c.serve-ended.ensures.source_later c.serve-ended.ensures.sink_later trusting)
+    c.serve-ended.ensures.source_fault c.serve-ended.ensures.sink_fault c.serve-ended.ensures.source_later c.serve-ended.ensures.sink_later)

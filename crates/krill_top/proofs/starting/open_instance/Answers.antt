@@ -1,10 +1,10 @@
-use Rattle.std.proofs.Common.{◌≡◌, ℕ, ◌≤◌, ◌∙◌, List, [], length, map, sym, ap, subst, inl, inr, arith, rules, vec_len}
+use Rattle.std.proofs.Common.{◌≡◌, ℕ, ◌≤◌, ◌∙◌, List, length, map, sym, ap, subst, inl, inr, arith, rules, vec_len}
 use Rattle.std.proofs.lemmas.List.{length-map}
 use Rattle.desk_core.specs.View.{View}
 use Rattle.signer_api.specs.State.{SignerState}
 use Rattle.krill_top.specs.declared.faults.OpenFault.TheVariants.{WrongCount}
 use Rattle.krill_top.specs.DeskStates.{names_in}
-use Rattle.krill_top.specs.InstanceState.{AreTrusted, default_bases}
+use Rattle.krill_top.specs.InstanceState.{first_state}
 use Rattle.krill_top.specs.DesksInStates.{AreIn}
 use Rattle.krill_top.specs.inner.Instances.{IsInState}
 use Rattle.krill_top.specs.inner.Opened.{AreOpened, AreClosed}
@@ -34,12 +34,12 @@ returns-in-Ok-clause-started g c disks opened =
     record {
       opened = subst (λ (l : List (View D)). AreOpened g.D.Disk 0 disks l) (sym (is.desks ∙ c.new-desks.ensures)) opened;
       ring = is.ring ∙ c.new-ring.ensures;
-      stands = λ vouched desk_states trusted all.
+      stands = λ desk_states all.
           let here : AreIn c.new-desks.result desk_states = subst (λ (l : List (View D)). AreIn l desk_states) is.desks all in
           let needed = c.signers_needed-needed.ensures desk_states here in
           let enough : signers_needed (names_in desk_states) ≤ length c.new-ring.result = omega (arith, needed, long, ring, c.if-found-needed.false, c.len.ensures) in
-          subst (λ (s : List SignerState). IsInState vouched instance (record { site = default_bases; desk_states = desk_states; editions = []; signers = s })) c.new-ring.ensures
-          (is.opened vouched desk_states (subst (AreTrusted vouched) (sym c.new-ring.ensures) trusted) here enough);
+          subst (λ (s : List SignerState). IsInState instance (first_state desk_states s)) c.new-ring.ensures
+          (is.opened desk_states here enough);
       there = λ desk_states all.
           let here : AreIn c.new-desks.result desk_states = subst (λ (l : List (View D)). AreIn l desk_states) is.desks all in
           let needed = c.signers_needed-needed.ensures desk_states here in

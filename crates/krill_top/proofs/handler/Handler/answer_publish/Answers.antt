@@ -1,25 +1,15 @@
 use Rattle.std.proofs.Common.{◌∙◌, ap, [], ◌∷◌, ◌++◌, List, ℕ, refl}
-use Rattle.std.specs.Prelude.{Ok, Err}
-use Rattle.json_api.specs.Reply.{published_spelling}
-use Rattle.json_api.specs.Refused.{refused_spelling}
+use Rattle.krill_top.specs.Replies.{publish_text}
 use Rattle.krill_top.specs.inner.Handlers.{timed}
 use Rattle.krill_top.proofs.Answering.{publish_told}
 use Rattle.krill_top.proofs.handler.Handler.answer_publish.Goals as goal
 
-pub returns-in-Ok-clause-ok : goal.returns-in-Ok-clause-ok
-returns-in-Ok-clause-ok g c =
-    let text = published_spelling c.published_of.result in (
+pub returns-clause-ok : goal.returns-clause-ok
+returns-clause-ok g c =
+    let text = publish_text c.publish-publication.result in (
       text,
-      c.append_published.ensures ∙ ap (λ (l : List ℕ). l ++ text ++ 10 ∷ []) c.in_ok-reserve.ensures.items,
-      publish_told g.D.Disk c.now-now.result (Ok c.in-Ok.published) text _ (timed g.C.Clock c.args.self.now) (record { instance = c.publish.new.self; clock = g.C.Clock.readings c.now-now.new.self }) c.now-now.ensures
-          (ap published_spelling c.published_of.ensures) refl c.in-Ok.ensures,
-    )
-
-pub returns-in-Err-clause-ok : goal.returns-in-Err-clause-ok
-returns-in-Err-clause-ok g c =
-    let text = refused_spelling c.refused_of.result in (
-      text,
-      c.append_refused.ensures ∙ ap (λ (l : List ℕ). l ++ text ++ 10 ∷ []) c.in_ok-reserve.ensures.items,
-      publish_told g.D.Disk c.now-now.result (Err c.in-Err.fault) text _ (timed g.C.Clock c.args.self.now) (record { instance = c.publish.new.self; clock = g.C.Clock.readings c.now-now.new.self }) c.now-now.ensures
-          (ap refused_spelling c.refused_of.ensures) refl c.in-Err.ensures,
+      c.append_publication.ensures ∙ ap (λ (l : List ℕ). l ++ text ++ 10 ∷ []) c.in_ok-reserve.ensures.items,
+      publish_told g.D.Disk c.now-now.result c.publish-publication.result text c.has_published-changed.result (timed g.C.Clock c.args.self.now)
+          (record { instance = c.publish-publication.new.self; clock = g.C.Clock.readings c.now-now.new.self }) c.now-now.ensures
+          refl c.has_published-changed.ensures c.publish-publication.ensures,
     )

@@ -4,6 +4,6 @@ use Rattle.krill_top.proofs.Answering.{if_ok_so}
 use Rattle.krill_top.proofs.instance.Instance.list.Goals as goal
 
 pub returns : goal.returns
-returns g c = if_ok_so c.list.result _ _ c.list.ensures (λ text is vouched state stands.
-    let s = subst (λ (o : InstanceValue g.row.D.Denot). IsInState vouched o state) (sym c.self.view_is) stands in
+returns g c = if_ok_so c.list.result _ _ c.list.ensures (λ text is state stands.
+    let s = subst (λ (o : InstanceValue g.row.D.Denot). IsInState o state) (sym c.self.view_is) stands in
     is state.desk_states s.desks)

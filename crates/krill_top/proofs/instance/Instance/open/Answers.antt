@@ -1,7 +1,7 @@
-use Rattle.std.proofs.Common.{◌≡◌, ◌≤◌, ◌∙◌, [], List, length, true, refl, sym, ap, subst, inr}
+use Rattle.std.proofs.Common.{◌≡◌, ◌≤◌, ◌∙◌, List, length, sym, ap, subst}
 use Rattle.signer_api.specs.State.{SignerState}
 use Rattle.krill_top.specs.DeskStates.{names_in}
-use Rattle.krill_top.specs.InstanceState.{AreTrusted, default_bases}
+use Rattle.krill_top.specs.InstanceState.{first_state}
 use Rattle.krill_top.specs.Run.{signers_needed}
 use Rattle.krill_top.specs.inner.Instances.{InstanceValue, IsInState}
 use Rattle.krill_top.proofs.FirstInstanceState.{first_stands}
@@ -15,19 +15,19 @@ invariant_of-result g c =
     let desk_states = c.requires.stands in
     let ring : press.ring ≡ c.args.ring = c.in-Ok-fresh.ensures.ring in
     record {
-      state = record { site = default_bases; desk_states = desk_states.0; editions = []; signers = press.ring };
-      stands = first_stands (λ key digest signature. true) instance desk_states.0 c.first_published_state_stands.ensures desk_states.1 c.requires.all c.in-Ok-fresh.ensures.first (c.in-Ok-fresh.ensures.site ∙ c.in-Ok.ensures)
-          c.in-Ok-sheet.ensures (c.len-signers.ensures ∙ ap length (sym ring)) (inr (λ key digest signature. refl))
+      state = first_state desk_states.0 press.ring;
+      stands = first_stands instance desk_states.0 c.first_published_state_stands.ensures desk_states.1 c.requires.all c.in-Ok-fresh.ensures.first (c.in-Ok-fresh.ensures.site ∙ c.in-Ok.ensures)
+          c.in-Ok-sheet.ensures (c.len-signers.ensures ∙ ap length (sym ring))
           (subst (λ (s : List SignerState). signers_needed (names_in desk_states.0) ≤ length s) (sym ring) desk_states.2);
     }
 
 pub returns-clause-opened : goal.returns-clause-opened
-returns-clause-opened g c vouched desk_states trusted all needed =
+returns-clause-opened g c desk_states all needed =
     let D : Type 0 = g.row.D.Denot in
     let press = c.in-Ok-fresh.press in
     let instance : InstanceValue D = record { desks = c.args.desks; press = press; sheet = c.in-Ok-sheet.sheet; signers = c.len-signers.result } in
     let ring : press.ring ≡ c.args.ring = c.in-Ok-fresh.ensures.ring in
-    subst (λ (s : List SignerState). IsInState vouched instance (record { site = default_bases; desk_states = desk_states; editions = []; signers = s })) ring
-    (first_stands vouched instance desk_states c.first_published_state_stands.ensures all c.requires.all c.in-Ok-fresh.ensures.first (c.in-Ok-fresh.ensures.site ∙ c.in-Ok.ensures)
-    c.in-Ok-sheet.ensures (c.len-signers.ensures ∙ ap length (sym ring)) (subst (AreTrusted vouched) (sym ring) trusted)
+    subst (λ (s : List SignerState). IsInState instance (first_state desk_states s)) ring
+    (first_stands instance desk_states c.first_published_state_stands.ensures all c.requires.all c.in-Ok-fresh.ensures.first (c.in-Ok-fresh.ensures.site ∙ c.in-Ok.ensures)
+    c.in-Ok-sheet.ensures (c.len-signers.ensures ∙ ap length (sym ring))
     (subst (λ (s : List SignerState). signers_needed (names_in desk_states) ≤ length s) (sym ring) needed))

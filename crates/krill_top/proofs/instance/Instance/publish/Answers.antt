@@ -1,6 +1,6 @@
 use Rattle.std.proofs.Common.{subst}
-use Rattle.std.specs.Prelude.{Ok, Err}
-use Rattle.krill_top.specs.Publishing.{PublishesOrNot}
+use Rattle.krill_top.specs.Publishing.{ComesTo}
+use Rattle.krill_top.specs.declared.publication.Publication.TheVariants as publication
 use Rattle.krill_top.specs.inner.Instances.{InstanceValue, Moves}
 use Rattle.krill_top.proofs.Publishing.{published, unpublished, instance_on, gathered_right, accepted_right, live_signers_right, name_signers_right, cut_long, within_right}
 use Rattle.krill_top.proofs.instance.Instance.publish.Goals as goal
@@ -28,21 +28,21 @@ press_all-requires-clause-name_signers g c groups since = name_signers_right _ g
 pub invariant_of-self-in-Err : goal.invariant_of-self-in-Err
 invariant_of-self-in-Err g c =
     let old : InstanceValue g.row.D.Denot = record { desks = c.self.inside.desks; press = c.self.inside.press; sheet = c.self.inside.sheet; signers = c.self.inside.signers } in
-    instance_on g.D.Disk (λ vouched b a. PublishesOrNot vouched c.args.now (Err c.in-Err.fault) b a) old (record old { press = c.press_all.new.press })
+    instance_on g.D.Disk (λ b a. ComesTo c.args.now (publication.Refused c.in-Err.fault) b a) old (record old { press = c.press_all.new.press })
     (unpublished g.D.Disk c.args.now old c.press_all.new.press c.in-Err.fault c.in-Err.ensures.refused) c.self.invariant
 
 pub returns-in-Err : goal.returns-in-Err
 returns-in-Err g c =
     let D : Type 0 = g.row.D.Denot in
     let old : InstanceValue D = record { desks = c.self.inside.desks; press = c.self.inside.press; sheet = c.self.inside.sheet; signers = c.self.inside.signers } in
-    subst (λ (o : InstanceValue D). Moves g.D.Disk (λ vouched b a. PublishesOrNot vouched c.args.now (Err c.in-Err.fault) b a) o (record old { press = c.press_all.new.press })) c.self.view_is
+    subst (λ (o : InstanceValue D). Moves g.D.Disk (λ b a. ComesTo c.args.now (publication.Refused c.in-Err.fault) b a) o (record old { press = c.press_all.new.press })) c.self.view_is
     (unpublished g.D.Disk c.args.now old c.press_all.new.press c.in-Err.fault c.in-Err.ensures.refused)
 
 pub invariant_of-self : goal.invariant_of-self
 invariant_of-self g c =
     let old : InstanceValue g.row.D.Denot = record { desks = c.self.inside.desks; press = c.self.inside.press; sheet = c.self.inside.sheet; signers = c.self.inside.signers } in
     let done = c.in-Ok.field-0 in
-    instance_on g.D.Disk (λ vouched b a. PublishesOrNot vouched c.args.now (Ok done.published) b a) old (record old { press = c.press_all.new.press; sheet = done.sheet })
+    instance_on g.D.Disk (λ b a. ComesTo c.args.now (publication.Published done.published) b a) old (record old { press = c.press_all.new.press; sheet = done.sheet })
     (published c.vouching_signers_vouch_for_editions.ensures g.D.Disk c.args.now old c.press_all.new.press done.published done.sheet c.in-Ok.ensures.pressed) c.self.invariant
 
 pub returns-in-Ok : goal.returns-in-Ok
@@ -50,5 +50,5 @@ returns-in-Ok g c =
     let D : Type 0 = g.row.D.Denot in
     let old : InstanceValue D = record { desks = c.self.inside.desks; press = c.self.inside.press; sheet = c.self.inside.sheet; signers = c.self.inside.signers } in
     let done = c.in-Ok.field-0 in
-    subst (λ (o : InstanceValue D). Moves g.D.Disk (λ vouched b a. PublishesOrNot vouched c.args.now (Ok done.published) b a) o (record old { press = c.press_all.new.press; sheet = done.sheet })) c.self.view_is
+    subst (λ (o : InstanceValue D). Moves g.D.Disk (λ b a. ComesTo c.args.now (publication.Published done.published) b a) o (record old { press = c.press_all.new.press; sheet = done.sheet })) c.self.view_is
     (published c.vouching_signers_vouch_for_editions.ensures g.D.Disk c.args.now old c.press_all.new.press done.published done.sheet c.in-Ok.ensures.pressed)

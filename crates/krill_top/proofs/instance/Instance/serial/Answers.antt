@@ -4,6 +4,6 @@ use Rattle.krill_top.specs.inner.Instances.{InstanceValue, IsInState}
 use Rattle.krill_top.proofs.instance.Instance.serial.Goals as goal
 
 pub returns : goal.returns
-returns g c vouched state stands =
-    let s = subst (λ (o : InstanceValue g.row.D.Denot). IsInState vouched o state) (sym c.self.view_is) stands in
-    ap (λ (sheet : Sheet). sheet.serial) s.sheet ∙ s.press.left.serial
+returns g c state stands =
+    let s = subst (λ (o : InstanceValue g.row.D.Denot). IsInState o state) (sym c.self.view_is) stands in
+    ap (λ (sheet : Sheet). sheet.serial) s.sheet ∙ s.left.serial
