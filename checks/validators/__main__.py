@@ -1,20 +1,25 @@
 """Debian's relying parties and openssl over what krillc exports, offline and by RRDP over TLS on loopback.
 
-Usage: python3 checks/validators [WORD..], as root. A word takes the samples whose names have it; without one all are
-tried. KRILLC=PROGRAM takes another program than crates/krillc/out/krillc. Everything goes on in namespaces of its own,
-without a network. Ends with the table of docs/relying-parties.md. Status 0: no object was refused and no payload
-differs; 1: one was or did; 3: something that it needs is missing."""
-import os, sys, tempfile, time
+Usage: python3 checks/validators [WORD..|--limits], as root. A word takes the samples whose names have it; without one
+all are tried. --limits tells what relying parties do at their limits, and judges nothing. KRILLC=PROGRAM takes another
+program than crates/krillc/out/krillc. Everything goes on in namespaces of its own, without a network. Ends with the
+table of docs/relying-parties.md. Status 0: no object was refused and no payload differs; 1: one was or did; 3:
+something that it needs is missing."""
+import os, sys, tempfile
+
+# The folder stays as it is.
+sys.dont_write_bytecode = True
 
 import by_openssl, loopback, needs, parties, table
+from limits import try_limits, wait_until
 from program import Failed, Program
-from repository import Wrong, read_exported
+from repository import Wrong, read_exported, spoiled
 from samples import SAMPLES
 
 TOP = os.path.dirname(os.path.dirname(os.path.dirname(os.path.abspath(__file__))))
 KRILLC = os.path.abspath(os.environ.get("KRILLC") or os.path.join(TOP, "crates", "krillc", "out", "krillc"))
 MISSING = 3
-INSIDE = "--inside"
+INSIDE, LIMITS = "--inside", "--limits"
 # How many complaints of one look are printed in full.
 SHOWN = 5
 
@@ -28,12 +33,6 @@ def ask_all(program, edition):
     if replies[-1].get("reply") != "published":
         raise Failed(f"nothing is published: {replies[-1]}")
     return replies[-1]
-
-
-def wait_until(moment):
-    """Waits until an edition's moment has begun: before it relying parties see nothing of it."""
-    while time.time() < moment + 1:
-        time.sleep(0.05)
 
 
 def judged(found, wanted, exported):
@@ -68,7 +67,7 @@ def tell(who, lines):
         print(f"    {who}: and {len(lines) - SHOWN} more")
 
 
-def try_edition(program, edition, server, folder, result):
+def try_edition(program, edition, server, folder, result, is_spoiled):
     reply = ask_all(program, edition)
     origins = program.published_origins()
     if origins != {*edition.origins}:
@@ -79,9 +78,14 @@ def try_edition(program, edition, server, folder, result):
         raise Failed(f"exported are {len(exported.objects)} objects of serial {exported.serial}, not {reply}")
     wait_until(reply["moment"])
     wanted = {parties.payload_of_origin(text) for text in origins}
+    if is_spoiled:
+        server.folder = os.path.join(folder, "spoiled")
+        exported = spoiled(exported, server.folder)
     result.begin_edition(exported, wanted)
     for who, found in looks(exported, server, folder):
         lines = judged(found, wanted, exported)
+        if is_spoiled:
+            lines = [] if lines else ["a signature was spoiled, and nothing is refused"]
         result.add(who, lines, getattr(found, "fetched", None))
         tell(who, lines)
 
@@ -92,7 +96,7 @@ def try_sample(sample, server, folder):
     program = Program(KRILLC, os.path.join(folder, "krill"), sample.signers)
     try:
         for edition in sample.editions:
-            try_edition(program, edition, server, folder, result)
+            try_edition(program, edition, server, folder, result, sample.is_spoiled)
         status = program.close()
         if status:
             raise Failed(f"krillc ended with status {status}")
@@ -104,11 +108,15 @@ def try_sample(sample, server, folder):
     return result
 
 
-def try_all(chosen, scratch):
+def start_server(scratch):
+    """The network of these namespaces, and the server in it."""
     os.chmod(scratch, 0o755)
     network = os.path.join(scratch, "network")
     loopback.set_up(network)
-    server = loopback.Server(network)
+    return loopback.Server(network)
+
+
+def try_all(chosen, server, scratch):
     results = []
     for number, sample in enumerate(chosen):
         print(f"{sample.name}", flush=True)
@@ -130,9 +138,13 @@ def main(words):
     if not inside:
         loopback.in_namespaces([sys.executable, os.path.dirname(os.path.abspath(__file__)), INSIDE, *words])
     words = [word for word in words if word != INSIDE]
-    chosen = [it for it in SAMPLES if not words or any(word in it.name for word in words)]
     with tempfile.TemporaryDirectory(prefix="validators-") as scratch:
-        results = try_all(chosen, scratch)
+        server = start_server(scratch)
+        if words == [LIMITS]:
+            try_limits(KRILLC, server, scratch)
+            return 0
+        chosen = [it for it in SAMPLES if not words or any(word in it.name for word in words)]
+        results = try_all(chosen, server, scratch)
     print("\n" + table.table(results))
     bad = [it for it in results if not it.is_good()]
     print(f"{len(results) - len(bad)} samples passed, {len(bad)} failed")

@@ -5,6 +5,7 @@ from dataclasses import dataclass
 HOST = "rpki.example"
 RSYNC, RRDP = f"rsync://{HOST}/repo/", f"https://{HOST}/rrdp/"
 NAMESPACE = "{http://www.ripe.net/rpki/rrdp}"
+SPOILED_SESSION = "00000000-0000-4000-8000-000000000000"
 
 
 class Wrong(Exception):
@@ -81,3 +82,21 @@ def write_tree(folder, objects):
     """Writes objects as a tree of rsync has them: HOST and their path."""
     for uri, content in objects.items():
         write(os.path.join(folder, uri.removeprefix("rsync://")), content)
+
+
+def document(kind, serial, lines):
+    head = f'<{kind} xmlns="{NAMESPACE[1:-1]}" version="1" session_id="{SPOILED_SESSION}" serial="{serial}">'
+    return "\n".join([head, *lines, f"</{kind}>", ""]).encode()
+
+
+def spoiled(exported, folder):
+    """The edition with a bit changed in the signature of a ROA, and a folder that a web server can hand out with it."""
+    uri, content = min(exported.of_kind("roa").items())
+    objects = {**exported.objects, uri: content[:-1] + bytes([content[-1] ^ 1])}
+    published = [f'<publish uri="{at}">{base64.b64encode(objects[at]).decode()}</publish>' for at in sorted(objects)]
+    snapshot = document("snapshot", exported.serial, published)
+    named = f'<snapshot uri="{RRDP}snapshot.xml" hash="{hashlib.sha256(snapshot).hexdigest()}"/>'
+    write(os.path.join(folder, "snapshot.xml"), snapshot)
+    write(os.path.join(folder, "ta.cer"), exported.anchor)
+    write(os.path.join(folder, "notification.xml"), document("notification", exported.serial, [named]))
+    return Exported(exported.serial, objects, exported.locator, 0)

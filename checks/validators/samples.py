@@ -1,6 +1,6 @@
 """The samples: each a list of editions, and each edition a list of lines and the origins that it has to publish."""
 import json, os
-from dataclasses import dataclass, field
+from dataclasses import dataclass
 
 TOP = os.path.dirname(os.path.dirname(os.path.dirname(os.path.abspath(__file__))))
 PUBLISH = json.dumps({"command": "publish"})
@@ -20,8 +20,8 @@ class Sample:
     name: str
     editions: list
     signers: int = 1
-    # What has to be refused by name: a validator to the words that it says.
-    limits: dict = field(default_factory=dict)
+    # Whether a bit of a ROA's signature is changed before anybody looks, so that each has to refuse something.
+    is_spoiled: bool = False
 
 
 def update(ca, add=(), remove=()):
@@ -59,6 +59,13 @@ EXAMPLES = [
     example("tree-session", ["192.0.2.0/24 => 64496", "2001:db8::/32-48 => 64496"]),
     example("publish-session", ["192.0.2.0/24 => 64496", "2001:db8::/32-48 => 64496"]),
 ]
+
+
+def spoiled_roa():
+    """Shows that what is refused is seen here."""
+    origins = ["10.0.0.0/16-24 => 64496", "192.0.2.0/24 => 64500"]
+    return Sample("a ROA with one bit changed, which each has to refuse", [edition([update("ta", origins)], origins)],
+                  is_spoiled=True)
 
 
 def no_origins():
@@ -181,6 +188,7 @@ def one_after_another(count):
 
 
 SAMPLES = [
-    *EXAMPLES, no_origins(), families_and_maxima(), odd_resources(), long_names(), two_signers(), same_origin_twice(),
-    chain(8), many_children(40), shrinking_grants(), deletion(), one_after_another(8), many_origins(1024),
+    spoiled_roa(), *EXAMPLES, no_origins(), families_and_maxima(), odd_resources(), long_names(), two_signers(),
+    same_origin_twice(), chain(8), many_children(40), shrinking_grants(), deletion(), one_after_another(8),
+    many_origins(1024),
 ]
