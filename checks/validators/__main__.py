@@ -5,7 +5,7 @@ all are tried. --limits tells what relying parties do at their limits, and judge
 program than crates/krillc/out/krillc. Everything goes on in namespaces of its own, without a network. Ends with the
 table of docs/relying-parties.md. Status 0: no object was refused and no payload differs; 1: one was or did; 3:
 something that it needs is missing."""
-import os, sys, tempfile
+import os, signal, sys, tempfile
 
 # The folder stays as it is.
 sys.dont_write_bytecode = True
@@ -47,19 +47,6 @@ def judged(found, wanted, exported):
     return lines
 
 
-def looks(exported, server, folder):
-    """Each look at an edition: who looks, and what was found."""
-    yield "openssl", by_openssl.look(exported, folder)
-    for party in parties.PARTIES:
-        yield f"{party.name} offline", parties.look_offline(
-            party, exported, os.path.join(folder, f"{party.package}-offline"))
-        found = parties.look_online(party, exported, os.path.join(folder, f"{party.package}-online"))
-        snapshots, deltas, refused = server.take_asked(party.agent)
-        found.complaints += refused
-        found.fetched = snapshots, deltas
-        yield f"{party.name} RRDP", found
-
-
 def tell(who, lines):
     for line in lines[:SHOWN]:
         print(f"    {who}: {line}")
@@ -67,45 +54,82 @@ def tell(who, lines):
         print(f"    {who}: and {len(lines) - SHOWN} more")
 
 
-def try_edition(program, edition, server, folder, result, is_spoiled):
-    reply = ask_all(program, edition)
-    origins = program.published_origins()
-    if origins != {*edition.origins}:
-        raise Failed(f"roas list shows other origins than it has to: {sorted(origins ^ {*edition.origins})[:9]}")
-    server.folder = program.repository
-    exported = read_exported(program.repository)
-    if (exported.serial, len(exported.objects)) != (reply["serial"], reply["objects"]):
-        raise Failed(f"exported are {len(exported.objects)} objects of serial {exported.serial}, not {reply}")
-    wait_until(reply["moment"])
-    wanted = {parties.payload_of_origin(text) for text in origins}
-    if is_spoiled:
-        server.folder = os.path.join(folder, "spoiled")
-        exported = spoiled(exported, server.folder)
-    result.begin_edition(exported, wanted)
-    for who, found in looks(exported, server, folder):
-        lines = judged(found, wanted, exported)
-        if is_spoiled:
-            lines = [] if lines else ["a signature was spoiled, and nothing is refused"]
-        result.add(who, lines, getattr(found, "fetched", None))
-        tell(who, lines)
+class Trial:
+    """A sample on its way: krillc with its signers, and whoever looks at what it exports."""
 
+    def __init__(self, sample, server, folder):
+        self.sample, self.server, self.folder = sample, server, folder
+        self.program = Program(KRILLC, os.path.join(folder, "krill"), sample.signers)
+        self.result = table.Result(sample)
+        self.follower = None
 
-def try_sample(sample, server, folder):
-    """Runs krillc through the sample's editions, and looks at each while krillc still runs."""
-    result = table.Result(sample.name)
-    program = Program(KRILLC, os.path.join(folder, "krill"), sample.signers)
-    try:
-        for edition in sample.editions:
-            try_edition(program, edition, server, folder, result, sample.is_spoiled)
-        status = program.close()
-        if status:
-            raise Failed(f"krillc ended with status {status}")
-    except (Failed, Wrong) as error:
-        result.failed = str(error)
-        tell("sample", [result.failed])
-    finally:
-        program.kill()
-    return result
+    def publish(self, edition):
+        """Publishes an edition. What is exported then, and the payloads that relying parties have to find."""
+        reply = ask_all(self.program, edition)
+        origins = self.program.published_origins()
+        if origins != {*edition.origins}:
+            raise Failed(f"roas list shows other origins than it has to: {sorted(origins ^ {*edition.origins})[:9]}")
+        exported = read_exported(self.program.repository)
+        if (exported.serial, len(exported.objects)) != (reply["serial"], reply["objects"]):
+            raise Failed(f"exported are {len(exported.objects)} objects of serial {exported.serial}, not {reply}")
+        wait_until(reply["moment"])
+        return exported, {parties.payload_of_origin(text) for text in origins}
+
+    def look_on(self, exported):
+        """What the one that runs all the time finds in its next round."""
+        if self.follower is None:
+            self.follower = parties.FortServer(exported, os.path.join(self.folder, "follower"))
+            return self.follower.look(0)
+        return self.follower.look(len(self.follower.rounds()))
+
+    def looks(self, exported):
+        """Each look at an edition: who looks, and what was found."""
+        yield "openssl", by_openssl.look(exported, self.folder)
+        for party in parties.PARTIES:
+            folder = os.path.join(self.folder, party.package)
+            yield f"{party.name} offline", parties.look_offline(party, exported, folder + "-offline")
+            found = parties.look_online(party, exported, folder + "-online")
+            yield f"{party.name} RRDP", self.with_fetched(party, found)
+        if self.sample.is_followed:
+            yield table.FOLLOWER, self.with_fetched(parties.FortServer, self.look_on(exported))
+
+    def with_fetched(self, party, found):
+        """With what a relying party was handed out, and with what the server refused it."""
+        snapshots, deltas, refused = self.server.take_asked(party.agent)
+        found.complaints += refused
+        found.fetched = snapshots, deltas
+        return found
+
+    def try_edition(self, edition):
+        exported, wanted = self.publish(edition)
+        self.server.folder = self.program.repository
+        if self.sample.is_spoiled:
+            self.server.folder = os.path.join(self.folder, "spoiled")
+            exported = spoiled(exported, self.server.folder)
+        self.result.begin_edition(exported, wanted)
+        for who, found in self.looks(exported):
+            lines = judged(found, wanted, exported)
+            if self.sample.is_spoiled:
+                lines = [] if lines else ["a signature was spoiled, and nothing is refused"]
+            self.result.add(who, lines, found.fetched)
+            tell(who, lines)
+
+    def run(self):
+        """Goes through the sample's editions, and looks at each while krillc still runs."""
+        try:
+            for edition in self.sample.editions:
+                self.try_edition(edition)
+            status = self.program.close()
+            if status:
+                raise Failed(f"krillc ended with status {status}")
+        except (Failed, Wrong) as error:
+            self.result.failed = str(error)
+            tell("sample", [self.result.failed])
+        finally:
+            self.program.kill()
+            if self.follower:
+                self.follower.close()
+        return self.result
 
 
 def start_server(scratch):
@@ -122,7 +146,7 @@ def try_all(chosen, server, scratch):
         print(f"{sample.name}", flush=True)
         folder = os.path.join(scratch, str(number))
         os.makedirs(folder)
-        results.append(try_sample(sample, server, folder))
+        results.append(Trial(sample, server, folder).run())
         print(f"  {results[-1].line()}", flush=True)
     return results
 
@@ -138,6 +162,7 @@ def main(words):
     if not inside:
         loopback.in_namespaces([sys.executable, os.path.dirname(os.path.abspath(__file__)), INSIDE, *words])
     words = [word for word in words if word != INSIDE]
+    signal.signal(signal.SIGTERM, lambda *_: sys.exit(MISSING))
     with tempfile.TemporaryDirectory(prefix="validators-") as scratch:
         server = start_server(scratch)
         if words == [LIMITS]:

@@ -8,9 +8,8 @@ HOSTS, BUNDLE, BUNDLE_FOLDER = "/etc/hosts", "/etc/ssl/certs/ca-certificates.crt
 
 
 def in_namespaces(words):
-    """Goes on as this program in namespaces of its own, which end with it, and whatever runs in them too."""
-    namespaces = ["--net", "--mount", "--pid", "--fork", "--kill-child", "--mount-proc", "--propagation", "private"]
-    os.execvp("unshare", ["unshare", *namespaces, *words])
+    """Goes on as this program in namespaces of its own, which end with it and what it started."""
+    os.execvp("unshare", ["unshare", "--net", "--mount", "--propagation", "private", *words])
 
 
 def run(*words, folder=None):

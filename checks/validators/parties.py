@@ -2,7 +2,7 @@
 
 Each run gives what it found: the payloads as triples (prefix, maximum length, AS number), and a line for each
 object that it refused or warned of, in its own words. What it always says stands in `USUAL` and isn't counted."""
-import csv, ipaddress, json, os, re, shutil, subprocess
+import csv, ipaddress, json, os, re, shutil, subprocess, time
 from dataclasses import dataclass, field
 
 from repository import HOST, RSYNC, write, write_tree
@@ -16,7 +16,10 @@ LONGEST = 600
 class Found:
     payloads: set
     complaints: list
+    # How many objects of each kind it counted, where it says that.
     counts: dict = field(default_factory=dict)
+    # How many snapshots and deltas it was handed out, where it asked a server.
+    fetched: tuple = None
 
 
 def payload(prefix, maximum, asn):
@@ -30,20 +33,35 @@ def payload_of_origin(text):
     return payload(prefix, maximum or prefix.split("/")[1], asn)
 
 
-def words_of_a_run(words, folder, usual):
-    """Runs a relying party in its folder: a line for each unusual one that it writes, and for a status but 0."""
+def printable(line):
+    """The line as it can be shown: rpki-client 8.2 was seen to write rubbish in place of a message."""
+    return "".join(letter if letter.isprintable() else "?" for letter in line)
+
+
+def start(words, folder, output):
+    """Starts a relying party in its folder, as a user without rights."""
     for place, _, _ in os.walk(folder):
         os.chown(place, NOBODY, NOBODY)
     environment = {"PATH": os.environ["PATH"], "HOME": folder, "LC_ALL": "C", "TZ": "UTC"}
+    return subprocess.Popen(
+        words, cwd=folder, env=environment, stdin=subprocess.DEVNULL, stdout=output, stderr=subprocess.STDOUT,
+        user=NOBODY, group=NOBODY, extra_groups=[])
+
+
+def unusual_lines(said, usual):
+    lines = [printable(line) for line in said.decode(errors="replace").splitlines() if line.strip()]
+    return [line for line in lines if not usual.search(line)]
+
+
+def words_of_a_run(words, folder, usual):
+    """Runs a relying party to its end: a line for each unusual one that it writes, and for a status but 0."""
+    process = start(words, folder, subprocess.PIPE)
     try:
-        ended = subprocess.run(
-            words, cwd=folder, env=environment, stdin=subprocess.DEVNULL, stdout=subprocess.PIPE,
-            stderr=subprocess.STDOUT, user=NOBODY, group=NOBODY, extra_groups=[], timeout=LONGEST)
+        said, _ = process.communicate(timeout=LONGEST)
     except subprocess.TimeoutExpired:
+        process.kill()
         return [f"{words[0]} took more than {LONGEST} seconds"]
-    said = [line for line in ended.stdout.decode(errors="replace").splitlines() if line.strip()]
-    unusual = [line for line in said if not usual.search(line)]
-    return unusual + ([f"status {ended.returncode}"] if ended.returncode else [])
+    return unusual_lines(said, usual) + ([f"status {process.returncode}"] if process.returncode else [])
 
 
 def read_json(path, complaints):
@@ -96,6 +114,10 @@ class Fort:
         r"| WRN \[Validation\]: ta\.tal: Looking for the TA certificate at the local files\."
         r"| INF \[Validation\]: \S+: HTTP GET: https://"
         r"|(?P<offline>Couldn't fetch data from RRDP repository \S+, trying to fetch data now from)")
+    ONLINE = ["--rsync.enabled=false", "--http.ca-path=/etc/ssl/certs"]
+    OUTPUT = [
+        "--tal=ta.tal", "--local-repository=cache", "--output.roa=out.csv", "--validation-log.enabled=true",
+        "--validation-log.level=info"]
     # Online it doesn't have to look elsewhere than in RRDP.
     USUAL_ONLINE = re.compile(USUAL.pattern.rpartition("|(?P<offline>")[0])
 
@@ -105,11 +127,13 @@ class Fort:
 
     def run(self, folder, online):
         os.makedirs(os.path.join(folder, "cache"), exist_ok=True)
-        way = ["--rsync.enabled=false", "--http.ca-path=/etc/ssl/certs"] if online else ["--work-offline=true"]
-        words = [
-            "fort", "--mode=standalone", *way, "--tal=ta.tal", "--local-repository=cache", "--output.roa=out.csv",
-            "--validation-log.enabled=true", "--validation-log.level=info", "--log.level=warning"]
+        way = self.ONLINE if online else ["--work-offline=true"]
+        words = ["fort", "--mode=standalone", "--log.level=warning", *way, *self.OUTPUT]
         complaints = words_of_a_run(words, folder, self.USUAL_ONLINE if online else self.USUAL)
+        return self.found(folder, complaints)
+
+    @staticmethod
+    def found(folder, complaints):
         try:
             with open(os.path.join(folder, "out.csv"), encoding="utf-8") as file:
                 rows = [*csv.reader(file)][1:]
@@ -117,6 +141,51 @@ class Fort:
             complaints.append(f"its output can't be read: {error}")
             rows = []
         return Found({payload(prefix, maximum, asn) for asn, prefix, maximum in rows}, complaints)
+
+
+class FortServer:
+    """FORT as a server, which keeps RRDP's session from one round to the next. It begins a round each minute."""
+
+    name, agent = "FORT, serving", "follower"
+    # What it says first and last in a round.
+    BEGUN, ENDED = b" INF: Starting validation.", b" INF: - Real execution time"
+    USUAL = re.compile(
+        Fort.USUAL_ONLINE.pattern + r"|^$| INF: (Validation finished:|- (Valid (ROAs|Router Keys)|Serial|Real execution))"
+        r"| WRN: First validation cycle successfully ended")
+    WORDS = [
+        "--mode=server", "--server.address=127.0.0.1", "--server.port=8323", "--server.interval.validation=60",
+        f"--http.user-agent={agent}", "--log.level=info"]
+
+    def __init__(self, exported, folder):
+        """Begins its first round, over an edition that stands."""
+        write(os.path.join(folder, "ta.tal"), exported.locator)
+        os.makedirs(os.path.join(folder, "cache"))
+        self.folder = folder
+        with open(os.path.join(folder, "log"), "wb") as log:
+            self.process = start(["fort", *self.WORDS, *Fort.ONLINE, *Fort.OUTPUT], folder, log)
+
+    def rounds(self):
+        """What it has said in each round. The last one may still go on."""
+        with open(os.path.join(self.folder, "log"), "rb") as file:
+            return file.read().split(self.BEGUN)[1:]
+
+    def has_ended(self, number):
+        rounds = self.rounds()
+        return len(rounds) > number and self.ENDED in rounds[number]
+
+    def look(self, number):
+        """What it finds in the round of that number, counted from 0."""
+        until = time.time() + LONGEST
+        while not self.has_ended(number) and time.time() < until and self.process.poll() is None:
+            time.sleep(0.2)
+        complaints = [] if self.has_ended(number) else [f"its round {number} hasn't ended well"]
+        for said in self.rounds()[number : number + 1]:
+            complaints += unusual_lines(said, self.USUAL)
+        return Fort.found(self.folder, complaints)
+
+    def close(self):
+        self.process.kill()
+        self.process.wait()
 
 
 class OctoRpki:

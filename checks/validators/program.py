@@ -65,8 +65,9 @@ class Program:
         return status
 
     def kill(self):
+        """Ends what still runs. A signer ends by itself once krillc has gone, but for one that it never came to."""
         self.watch.cancel()
         for process in (self.krillc, *self.signers):
             if process.poll() is None:
-                process.kill()
+                process.terminate()
             process.wait()

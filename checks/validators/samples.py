@@ -22,6 +22,8 @@ class Sample:
     signers: int = 1
     # Whether a bit of a ROA's signature is changed before anybody looks, so that each has to refuse something.
     is_spoiled: bool = False
+    # Whether a relying party that runs all the time follows the editions too, a minute for each.
+    is_followed: bool = False
 
 
 def update(ca, add=(), remove=()):
@@ -184,11 +186,11 @@ def one_after_another(count):
     for number in range(1, count):
         grown.append(f"10.{number}.0.0/16-24 => {number}")
         editions.append(edition([update("grows", grown[-1:])], [*stays, *grown]))
-    return Sample(f"{count} editions one after another", editions)
+    return Sample(f"{count} editions one after another", editions, is_followed=True)
 
 
 SAMPLES = [
     spoiled_roa(), *EXAMPLES, no_origins(), families_and_maxima(), odd_resources(), long_names(), two_signers(),
-    same_origin_twice(), chain(8), many_children(40), shrinking_grants(), deletion(), one_after_another(8),
+    same_origin_twice(), chain(8), many_children(40), shrinking_grants(), deletion(), one_after_another(5),
     many_origins(1024),
 ]
