@@ -18,7 +18,7 @@ from samples import SAMPLES
 
 TOP = os.path.dirname(os.path.dirname(os.path.dirname(os.path.abspath(__file__))))
 KRILLC = os.path.abspath(os.environ.get("KRILLC") or os.path.join(TOP, "crates", "krillc", "out", "krillc"))
-MISSING = 3
+MISSING, ENDED_BY_SIGTERM = 3, 143
 INSIDE, LIMITS = "--inside", "--limits"
 # How many complaints of one look are printed in full.
 SHOWN = 5
@@ -162,7 +162,7 @@ def main(words):
     if not inside:
         loopback.in_namespaces([sys.executable, os.path.dirname(os.path.abspath(__file__)), INSIDE, *words])
     words = [word for word in words if word != INSIDE]
-    signal.signal(signal.SIGTERM, lambda *_: sys.exit(MISSING))
+    signal.signal(signal.SIGTERM, lambda *_: sys.exit(ENDED_BY_SIGTERM))
     with tempfile.TemporaryDirectory(prefix="validators-") as scratch:
         server = start_server(scratch)
         if words == [LIMITS]:

@@ -60,9 +60,9 @@ def write_store(folder, exported):
     return path
 
 
-def judge(uri, ended, complaints):
-    """A complaint where openssl ended badly, in its words."""
-    if ended.returncode == 0:
+def judge(uri, ended, complaints, word=b""):
+    """A complaint, in its words, where openssl ended badly or didn't say the word that tells of success."""
+    if ended.returncode == 0 and word in ended.stderr:
         return True
     said = (ended.stderr + ended.stdout).decode(errors="replace").split("\n")
     complaints.append(f"{uri}: " + "; ".join(line.strip() for line in said if line.strip())[:300])
@@ -79,7 +79,9 @@ def look(exported, folder):
         judge(uri, openssl("verify", *strict, file), complaints)
     for uri, content in exported.of_kind("crl").items():
         write(file, content)
-        judge(uri, openssl("crl", "-inform", "DER", "-in", file, "-CAfile", store, "-noout"), complaints)
+        # Whatever it finds of a CRL's signature, its status is 0.
+        words = ["crl", "-inform", "DER", "-in", file, "-CAfile", store, "-noout"]
+        judge(uri, openssl(*words), complaints, b"verify OK")
     for uri, content in {**exported.of_kind("mft"), **exported.of_kind("roa")}.items():
         write(file, content)
         words = ["cms", "-verify", "-inform", "DER", "-in", file, *strict, "-purpose", "any", "-out", out]
