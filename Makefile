@@ -4,8 +4,9 @@
 # bench: the measurements, each as a ratio to a baseline of the same run.
 # seconds: what the gate costs, crate by crate, from nothing; takes hours.
 # allocations: every test with each of its allocations failing in turn, outside the gate.
+# validators: other relying parties over what krillc exports, outside the gate; needs root and packages (docs/relying-parties.md).
 # refused: the wrong bodies that the gate doesn't try (crates/*/refused), of one crate (CRATE=names) or of all.
-.PHONY: run build test bench seconds allocations refused
+.PHONY: run build test bench seconds allocations validators refused
 
 run:
 	@sh examples/run-first-session
@@ -28,6 +29,9 @@ seconds:
 
 allocations:
 	python3 checks/allocations.py
+
+validators:
+	@python3 checks/validators
 
 refused:
 	@python3 checks/refused.py $(CRATE)

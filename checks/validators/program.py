@@ -1,0 +1,73 @@
+"""krillc beside its signers, line by line."""
+import json, os, subprocess, sys, threading
+
+TOP = os.path.dirname(os.path.dirname(os.path.dirname(os.path.abspath(__file__))))
+SIGNER = os.path.join(TOP, "signer", "krill-signer")
+# The longest that a session may take, in seconds. A publication of 1,024 origins makes as many keys.
+LONGEST = 1800
+
+
+class Failed(Exception):
+    """Why a sample can't go on."""
+
+
+class Program:
+    """krillc over an empty store in a folder of its own, with so many signers."""
+
+    def __init__(self, program, folder, signers):
+        self.folder = folder
+        self.data = os.path.join(folder, "krill-data")
+        os.makedirs(self.data)
+        self.signers = [self._start_signer(number) for number in range(signers)]
+        self.krillc = subprocess.Popen(
+            [program, "run"], cwd=folder, stdin=subprocess.PIPE, stdout=subprocess.PIPE, text=True)
+        self.watch = threading.Timer(LONGEST, self.krillc.kill)
+        self.watch.start()
+
+    def _start_signer(self, number):
+        """A signer at its FIFOs, which stand before either program starts."""
+        path = os.path.join(self.data, f"signer-{number}")
+        for end in (".in", ".out"):
+            os.mkfifo(path + end, 0o600)
+        keys = os.path.join(self.folder, f"keys-{number}")
+        return subprocess.Popen([sys.executable, SIGNER, "--keys", keys, "--fifos", path, "--one-run"])
+
+    @property
+    def repository(self):
+        """The folder that a web server hands out."""
+        return os.path.join(self.data, "repo")
+
+    def ask(self, line):
+        """The reply to one line."""
+        self.krillc.stdin.write(line + "\n")
+        self.krillc.stdin.flush()
+        reply = self.krillc.stdout.readline()
+        if not reply:
+            raise Failed(f"krillc gave no reply to {line[:200]}")
+        return json.loads(reply)
+
+    def published_origins(self):
+        """The texts of the origins that `roas list` shows as published, over all authorities."""
+        listed = self.ask(json.dumps({"command": "list"}))["authorities"]
+        origins = set()
+        for authority in listed:
+            reply = self.ask(json.dumps({"command": "roas list", "ca": authority["name"]}))
+            origins |= {row["origin"] for row in reply["origins"] if row["state"] == "published"}
+        return origins
+
+    def close(self):
+        """Ends the session, and with it the signers. Gives krillc's status."""
+        self.krillc.stdin.close()
+        status = self.krillc.wait()
+        self.watch.cancel()
+        for signer in self.signers:
+            signer.wait()
+        return status
+
+    def kill(self):
+        """Ends what still runs. A signer ends by itself once krillc has gone, but for one that it never came to."""
+        self.watch.cancel()
+        for process in (self.krillc, *self.signers):
+            if process.poll() is None:
+                process.terminate()
+            process.wait()
