@@ -4,7 +4,8 @@ Krill's own side of the lines with it, where a second program is named: crates/t
 Krill's side and the signer are killed in turn, ROUNDS times each, at random moments, and started again.
 
 Usage: signer.py ROUNDS PROGRAM TEST_SIGNERS KRILLC, in a scratch folder. '-' stands for a program that isn't there."""
-import hashlib, json, os, random, re, signal, socket, subprocess, sys, threading, time
+import datetime, hashlib, importlib.machinery, importlib.util, json, os, random, re, signal, socket, subprocess, sys
+import threading, time
 
 ROUNDS = int(sys.argv[1])
 SIGNER, CALLER, KRILLC = (None if word == "-" else os.path.abspath(word) for word in sys.argv[2:])
@@ -12,6 +13,8 @@ DIGEST = hashlib.sha256(b"what is signed").hexdigest()
 OTHER = hashlib.sha256(b"something else").hexdigest()
 # SEQUENCE { rsaEncryption with NULL, BIT STRING }: what stands before the 270 bytes of a key in a public key file.
 KEY_INFO = "30820122300d06092a864886f70d01010105000382010f00"
+# The pool of signers that are killed with what they are asked.
+POOL = ("--pool", "4")
 random.seed(5)
 
 
@@ -20,8 +23,10 @@ def fail(text):
 
 
 def start(folder, *words):
+    """Starts a signer, without a pool where the words don't begin with one."""
+    pool = [] if words[:1] == ("--pool",) else ["--pool", "0"]
     return subprocess.Popen(
-        [sys.executable, SIGNER, "--keys", folder, *words],
+        [sys.executable, SIGNER, "--keys", folder, *pool, *words],
         stdin=subprocess.PIPE, stdout=subprocess.PIPE, stderr=subprocess.PIPE, text=True,
     )
 
@@ -110,6 +115,228 @@ def hello():
         program = start("hello")
         program.stdin.write(line + "\n")
         end(program, 2, "request 1 is none")
+
+
+def makers_of(program):
+    """The processes that make keys for a signer."""
+    tasks, found = f"/proc/{program.pid}/task", set()
+    for task in os.listdir(tasks):
+        try:
+            found |= {int(it) for it in open(f"{tasks}/{task}/children").read().split()}
+        except FileNotFoundError:
+            pass  # A thread that has ended meanwhile.
+    return found
+
+
+def await_that(holds_now, what, seconds=20):
+    ends = time.monotonic() + seconds
+    while not holds_now():
+        if time.monotonic() > ends:
+            fail(f"{what}: not within {seconds} seconds")
+        time.sleep(0.01)
+
+
+def is_running(pid):
+    try:
+        return open(f"/proc/{pid}/stat").read().rpartition(")")[2].split()[0] != "Z"
+    except FileNotFoundError:
+        return False
+
+
+def pool():
+    """Keys made ahead sign once each, in the order of the requests; they are on no disk; those that make them have
+    nothing else open, and end with the signer, however it ends; where one ends, another follows."""
+    keys, word = set(), "hello " + "0123456789abcdef" * 2
+    processors = len(os.sched_getaffinity(0))
+    for end_by in (None, signal.SIGTERM, signal.SIGKILL):
+        program = start("pool", "--pool", "6")
+        await_that(lambda: len(makers_of(program)) == min(6, processors), "the makers' start")
+        makers = makers_of(program)
+        limits = open(f"/proc/{program.pid}/limits").read()
+        if not re.search(r"Max core file size +0 +0 ", limits):
+            fail("a dump of the signer's memory may be written")
+        digests = [hashlib.sha256(bytes([turn])).hexdigest() for turn in range(8)]
+        program.stdin.write("".join(f"once {digest}\n" for digest in digests) + f"make\n{word}\nonce {OTHER}\n")
+        program.stdin.flush()
+        for digest in digests:
+            key, signature = want(f"once {KEY} ([0-9a-f]{{512}})", program.stdout.readline().rstrip("\n"))
+            verify(key, digest, signature)
+            keys.add(key)
+        for maker in makers:
+            opened = {os.readlink(f"/proc/{maker}/fd/{it}").split(":")[0] for it in os.listdir(f"/proc/{maker}/fd")}
+            if not opened <= {"pipe", "/dev/null"}:
+                fail(f"a process that makes keys has {opened} open")
+        (kept,) = want(f"key {KEY}", program.stdout.readline().rstrip("\n"))
+        want(word, program.stdout.readline().rstrip("\n"))
+        key, _ = want(f"once {KEY} ([0-9a-f]{{512}})", program.stdout.readline().rstrip("\n"))
+        keys |= {key, kept}
+        want("unknown", ask(program, f"sign {key} {OTHER}"))
+        if hashlib.sha1(bytes.fromhex(kept)).hexdigest() + ".key" not in os.listdir("pool") or len(os.listdir("pool")) * 10 != len(keys):
+            fail("the folder has other keys than the kept ones, or a key was given twice")
+        if end_by is None:
+            end(program, 0)
+        else:
+            program.send_signal(end_by)
+            if program.wait() != -end_by:
+                fail(f"status {program.returncode} after signal {end_by}")
+        await_that(lambda: not any(map(is_running, makers)), "the makers' end")
+    program = start("pool", "--pool", "2")
+    await_that(lambda: len(makers_of(program)) == min(2, processors), "the makers' start")
+    for maker in makers_of(program):
+        os.kill(maker, signal.SIGKILL)
+    for _ in range(4):
+        want(f"once {KEY} ([0-9a-f]{{512}})", ask(program, f"once {DIGEST}"))
+    await_that(lambda: any(map(is_running, makers_of(program))), "another maker")
+    program.stdin.close()
+    if program.wait() or "a process that makes keys has ended (-9), another follows" not in program.stderr.read():
+        fail("nothing is said of a process that ended")
+    for size in ("-1", "65537", "many"):
+        end(start("pool", "--pool", size), 2, "invalid pool_size value")
+
+
+def program_parts():
+    """The signer as a module, for what can't be seen from outside."""
+    sys.dont_write_bytecode = True
+    loader = importlib.machinery.SourceFileLoader("krill_signer", SIGNER)
+    parts = importlib.util.module_from_spec(importlib.util.spec_from_loader("krill_signer", loader))
+    loader.exec_module(parts)
+    return parts
+
+
+def pool_is_bounded(parts):
+    """A pool never has more keys than it may, gives none twice, is filled again, and has none once it is closed."""
+    kept, given = parts.Pool(3), []
+    for _ in range(3):
+        await_that(lambda: kept._held() == 3 and not kept.asked, "a full pool")
+        time.sleep(3 * parts.REST)
+        if kept._held() != 3 or kept.asked:
+            fail("a full pool has more keys made")
+        kept.prepare_one()
+        given += [kept.take() for _ in range(4)]
+        if kept._held() + kept.asked > 3:
+            fail("a pool has more keys made than it may hold")
+    if len({parts.public_bytes(key) for key in given}) != len(given):
+        fail("a pool gave a key twice")
+    makers = [maker.process for maker in kept.makers]
+    kept.close()
+    await_that(lambda: all(maker.poll() is not None for maker in makers), "the makers' end")
+    if kept._held():
+        fail("a closed pool has keys")
+
+
+def names_of(folder):
+    listed = subprocess.run([sys.executable, SIGNER, "--keys", folder, "--list"], capture_output=True, text=True, check=True)
+    return listed.stdout.split()
+
+
+def set_aside(folder, names, status=0, message=""):
+    """Sets aside all keys but the named ones, and gives the names that the signer says."""
+    with open("kept-names", "w") as file:
+        file.write("".join(name + "\n" for name in names))
+    ran = subprocess.run(
+        [sys.executable, SIGNER, "--keys", folder, "--set-aside-but", "kept-names"], capture_output=True, text=True,
+    )
+    if ran.returncode != status or message not in ran.stderr or (status == 0 and ran.stderr):
+        fail(f"set aside: status {ran.returncode} and {ran.stderr!r}, expected {status} and {message!r}")
+    return ran.stdout.split()
+
+
+def signs(folder, keys):
+    """Which of the keys a signer over the folder still has."""
+    program = start(folder)
+    answered = [ask(program, f"sign {key} {DIGEST}").split()[0] for key in keys]
+    end(program, 0)
+    return [word == "signature" for word in answered]
+
+
+def aside(parts):
+    """Keys are listed, and set aside while no signer has the folder; they come back by a rename, and are erased on
+    their day. A list that isn't one moves nothing."""
+    program = start("aside")
+    keys = [want(f"key {KEY}", ask(program, "make"))[0] for _ in range(4)]
+    names = [hashlib.sha1(bytes.fromhex(key)).hexdigest() for key in keys]
+    if names_of("aside") != sorted(names):
+        fail("--list doesn't name the keys of the folder")
+    set_aside("aside", names[:1], 3, "another krill-signer holds it")
+    end(program, 0)
+    for faulty in (names[:1] + [names[1].upper()], names[:1] + [names[1][:39]], ["", names[0]], [names[0] + " "]):
+        set_aside("aside", faulty, 2, "names no key")
+    if names_of("aside") != sorted(names):
+        fail("a faulty list moved keys")
+    if set_aside("aside", [names[0], names[1], "0" * 40]) != sorted(names[2:]) or names_of("aside") != sorted(names[:2]):
+        fail("other keys were set aside than those that the list leaves out")
+    if set_aside("aside", names[:2]):
+        fail("what is listed was set aside")
+    until = datetime.datetime.now(datetime.timezone.utc).date() + datetime.timedelta(days=30)
+    files = {f"until-{until}-{name}.key" for name in names[2:]}
+    lie = os.listdir("aside/set-aside")
+    if set(lie) != files or any(os.stat(f"aside/set-aside/{it}").st_mode & 0o777 != 0o600 for it in lie):
+        fail(f"set aside are {lie}")
+    if signs("aside", keys) != [True, True, False, False] or set(os.listdir("aside/set-aside")) != files:
+        fail("the signer has keys that were set aside, or erased one before its day")
+    os.rename(f"aside/set-aside/until-{until}-{names[2]}.key", f"aside/{names[2]}.key")
+    if signs("aside", keys) != [True, True, True, False]:
+        fail("a key that was brought back isn't one")
+    erased_on_their_day(parts, names[3], until)
+
+
+def erased_on_their_day(parts, name, until):
+    today = datetime.datetime.now(datetime.timezone.utc).date()
+    late, due = f"aside/set-aside/until-{until}-{name}.key", f"aside/set-aside/until-{today}-{name}.key"
+    with open("treasure", "w") as file:
+        file.write("kept")
+    os.symlink("../../treasure", due)
+    end(start("aside"), 3, "not a file of this user alone")
+    os.unlink(due)
+    if open("treasure").read() != "kept":
+        fail("what a link points at was erased")
+    content = open(late, "rb").read()
+    descriptor = os.open(due, os.O_WRONLY | os.O_CREAT, 0o600)
+    os.write(descriptor, content)
+    held = parts.Keys("aside")
+    if os.path.exists(due) or not os.path.exists(late) or os.fstat(descriptor).st_size != len(content):
+        fail("a key isn't erased on its day at a start, or another is")
+    if os.pread(os.open(f"/proc/self/fd/{descriptor}", os.O_RDONLY), len(content), 0) != bytes(len(content)):
+        fail("a key was removed and not written over")
+    os.rename(late, due)
+    held.erase_due()
+    if not os.path.exists(due):
+        fail("a signer looks at each request for keys to erase")
+    held.looked -= 3601
+    held.erase_due()
+    if os.listdir("aside/set-aside"):
+        fail("a signer that runs doesn't erase a key on its day")
+
+
+def live_list():
+    """What the pages say of listing the keys that CRLs name, over CRLs that openssl makes."""
+    program = start("live")
+    keys = [want(f"key {KEY}", ask(program, "make"))[0] for _ in range(3)]
+    end(program, 0)
+    names = [hashlib.sha1(bytes.fromhex(key)).hexdigest() for key in keys]
+    os.makedirs("repo/deep")
+    with open("ca.conf", "w") as file:
+        file.write("[ca]\ndefault_ca=a\n[a]\ndatabase=index\ncrlnumber=number\ndefault_md=sha256\ndefault_crl_days=1\n"
+                   "crl_extensions=e\n[e]\nauthorityKeyIdentifier=keyid\n")
+    for turn, name in enumerate(names[:2]):
+        open("index", "w").close()
+        with open("number", "w") as file:
+            file.write("01\n")
+        key = ["-keyform", "DER"]
+        for words in (
+            ["req", "-x509", "-new", "-key", f"live/{name}.key", *key, "-subj", "/CN=a", "-addext", "subjectKeyIdentifier=hash", "-out", "ca.pem"],
+            ["ca", "-gencrl", "-config", "ca.conf", "-keyfile", f"live/{name}.key", *key, "-cert", "ca.pem", "-out", "crl.pem"],
+            ["crl", "-in", "crl.pem", "-outform", "DER", "-out", ("repo/a.crl", "repo/deep/b.crl")[turn]],
+        ):
+            ran = subprocess.run(["openssl", *words], capture_output=True, text=True)
+            if ran.returncode:
+                fail(f"openssl {words[0]}: {ran.stderr}")
+    pages = open(os.path.join(os.path.dirname(SIGNER), "..", "docs", "signers.md")).read()
+    (words,) = re.findall(r"```sh\n(find repo .*?)```", pages, re.S)
+    subprocess.run(["sh", "-c", words], check=True)
+    listed = open("live-keys").read().split()
+    if listed != sorted(names[:2]) or set_aside("live", listed) != names[2:]:
+        fail(f"the CRLs name {sorted(names[:2])}, listed is {listed}")
 
 
 def strange_files():
@@ -271,7 +498,7 @@ def fifos():
 
 def serve_fifos(folder, path, caller=None):
     """Starts a signer over FIFOs. Where a program has both ends open, waits until the signer has them too."""
-    program = start(folder, "--fifos", path)
+    program = start(folder, *POOL, "--fifos", path)
     ends = {os.path.abspath(path + end) for end in (".in", ".out")}
     while not all(os.path.exists(end) for end in ends):
         time.sleep(0.02)
@@ -366,7 +593,7 @@ def kill(program):
 def kill_callers():
     """Callers are killed at random moments, and the next one is there at once."""
     os.mkdir("callers")
-    signer = start("callers-keys", "--fifos", "callers/signer-0")
+    signer = start("callers-keys", *POOL, "--fifos", "callers/signer-0")
     while not os.path.exists("callers/signer-0.out"):
         time.sleep(0.02)
     for _ in range(ROUNDS):
@@ -384,7 +611,7 @@ def kill_callers():
 def kill_signers():
     """A signer is killed and started again under a running caller, sometimes with a request that it has not read."""
     os.mkdir("signers")
-    signer = start("signers-keys", "--fifos", "signers/signer-0")
+    signer = start("signers-keys", *POOL, "--fifos", "signers/signer-0")
     while not os.path.exists("signers/signer-0.out"):
         time.sleep(0.02)
     caller = start_caller("signers")
@@ -403,13 +630,26 @@ def kill_signers():
     kill(signer)
 
 
-class Daemon:
-    """A krillc in a folder of its own."""
+def may_trace():
+    """Whether strace is there, and may trace."""
+    try:
+        return subprocess.run(["strace", "-D", "-o", "/dev/null", "true"], capture_output=True).returncode == 0
+    except FileNotFoundError:
+        return False
 
-    def __init__(self, folder):
+
+class Daemon:
+    """A krillc in a folder of its own, whose calls on its signer's pipes are written to a file where that is named."""
+
+    def __init__(self, folder, calls=None):
         self.folder = folder
+        traced = []
+        if calls:
+            pipes = [os.path.abspath(f"{folder}/krill-data/signer-0{end}") for end in (".in", ".out")]
+            traced = ["strace", "-D", "-f", "-q", "-o", os.path.abspath(calls), "-e", "trace=read,write", "-s", "4096"]
+            traced += ["-P", pipes[0], "-P", pipes[1]]
         self.program = subprocess.Popen(
-            [KRILLC, "run"], cwd=folder,
+            [*traced, KRILLC, "run"], cwd=folder,
             stdin=subprocess.PIPE, stdout=subprocess.PIPE, stderr=subprocess.PIPE, text=True,
         )
 
@@ -429,14 +669,67 @@ class Daemon:
             fail(f"krillc: status {self.program.returncode} and {said!r}, expected {status} and {messages}")
 
 
-def kill_publications():
-    """krillc and its signer are killed in publications, in turn, and the next publication is right at once."""
+def answers_taken(calls):
+    """What a krillc was answered, by the calls on its signer's pipes: each request, and the line that it took for the
+    answer. What it passes over in a meeting is left out, and so is a request that has no answer."""
+    asked, came, taken = None, "", []
+    for line in open(calls):
+        call = re.match(r'\d+ +(read|write|<\.\.\. read resumed>)(?:\(\d+, )?"((?:[^"\\]|\\.)*)", \d+\) += (\d+)', line)
+        if not call:
+            continue
+        text = call.group(2).replace("\\n", "\n")
+        if len(text) != int(call.group(3)):
+            fail(f"strace cut a call off: {line[:60]}")
+        if call.group(1) == "write":
+            asked = text.splitlines(True)[-1]  # Of two hellos the second.
+        else:
+            came += text
+        if asked and asked.startswith("hello ") and asked in came:
+            came, asked = came.split(asked, 1)[1], None
+        elif asked and not asked.startswith("hello ") and "\n" in came:
+            answered, came = came.split("\n", 1)
+            taken.append((asked.rstrip("\n"), answered))
+            asked = None
+    return taken
+
+
+def are_right(parts, taken):
+    """How many of the answers that krillc took are signatures; each of them is one of what it asked."""
+    signatures = 0
+    for asked, answered in taken:
+        word, *fields = asked.split(" ")
+        if word == "make":
+            want(f"key {KEY}", answered)
+            continue
+        if word == "drop":
+            want("done", answered)
+            continue
+        if word == "sign":
+            key, digest = fields
+            (signature,) = want("signature ([0-9a-f]{512})", answered)
+        elif word == "once":
+            (digest,) = fields
+            key, signature = want(f"once {KEY} ([0-9a-f]{{512}})", answered)
+        else:
+            fail(f"krillc asked {asked[:40]!r}")
+        if not parts.verifies(*map(bytes.fromhex, (key, digest, signature))):
+            fail(f"krillc was answered another signature than that of {asked[:40]!r}")
+        signatures += 1
+        if signatures == 1:
+            verify(key, digest, signature)
+    return signatures
+
+
+def kill_publications(parts):
+    """krillc and its signer are killed in publications, in turn, and the next publication is right at once, and every
+    signature that krillc takes is one of what it asked to be signed. Gives how many these were."""
+    tracing, signatures = may_trace(), 0
     os.makedirs("daemon/krill-data")
     path = "daemon/krill-data/signer-0"
     for end_of_it in (".in", ".out"):
         os.mkfifo(path + end_of_it, 0o600)
-    signer = start("daemon-keys", "--fifos", path)
-    daemon = Daemon("daemon")
+    signer = start("daemon-keys", *POOL, "--fifos", path)
+    daemon = Daemon("daemon", tracing and "calls-0")
     daemon.ask(command="roas update", ca="ta", add=["10.0.0.0/16-24 => 64496", "10.1.0.0/16 => 64497"])
     for turn in range(2 * ROUNDS):
         daemon.program.stdin.write(json.dumps({"command": "publish"}) + "\n")
@@ -444,10 +737,10 @@ def kill_publications():
         time.sleep(random.uniform(0, 0.3))
         if turn % 2:
             kill(daemon.program)
-            daemon = Daemon("daemon")
+            daemon = Daemon("daemon", tracing and f"calls-{turn}")
         else:
             kill(signer)
-            signer = start("daemon-keys", "--fifos", path)
+            signer = start("daemon-keys", *POOL, "--fifos", path)
             while not (holds(signer, path + ".in") and holds(signer, path + ".out")):
                 time.sleep(0.01)
             daemon.program.stdout.readline()
@@ -459,6 +752,13 @@ def kill_publications():
         daemon.ask(command="roas update", ca="ta", remove=origins)
     kill(daemon.program)
     kill(signer)
+    time.sleep(0.5)  # strace writes its last lines.
+    for calls in [it for it in os.listdir(".") if it.startswith("calls-")]:
+        signatures += are_right(parts, answers_taken(calls))
+        os.unlink(calls)
+    if tracing and not signatures:
+        fail("no signature was seen")
+    return f"{signatures} signatures" if tracing else "no strace"
 
 
 def pipes_of_krillc():
@@ -473,6 +773,7 @@ def pipes_of_krillc():
         Daemon("krillc-pipes").ended(4, "signer-0.out: no FIFO")
         os.unlink(pipe + "0.out")
     os.rename(pipe + "0.in", pipe + "1.in")
+    Daemon("krillc-pipes").ended(4, "signer-1.out is missing")
     os.mkfifo(pipe + "1.out")
     Daemon("krillc-pipes").ended(4, "signer-0.in is missing")
     for end_of_it in (".in", ".out"):
@@ -491,6 +792,11 @@ def main():
     strange_files()
     strange_pipes()
     faulty_lines()
+    pool()
+    parts = program_parts()
+    pool_is_bounded(parts)
+    aside(parts)
+    live_list()
     made = kills()
     fifos()
     said = []
@@ -501,8 +807,8 @@ def main():
         said.append(f"Krill's side met it, {ROUNDS} kills of each")
     if KRILLC:
         pipes_of_krillc()
-        kill_publications()
-        said.append(f"krillc met it, {ROUNDS} kills of each")
+        seen = kill_publications(parts)
+        said.append(f"krillc met it, {ROUNDS} kills of each, {seen}")
     print(f"checks/signer: ok ({made} keys outlived kills; {'; '.join(said) or 'Krill is not built, skipped'})")
 
 
