@@ -190,7 +190,7 @@ module _ (laws : Laws) (press : PressValue) (editions : List Edition) (counted :
       let locator = option_map (locator_for press.site) (row_of press.at.rows 0 Current) in
       record {
         rrdp = elim (puts_all press.last_export press.at.serial) as (λ b. puts_all press.last_export press.at.serial ≡ b
-        → Shows repository told (after_all (export_calls repository told b beside) files)) [
+            → Shows repository told (after_all (export_calls repository told b beside) files)) [
               | true ↦ λ test. in_the_end repository told beside files (not_empty told press.at.serial counted.count some) small are
               | false ↦ λ test.
                   let near = recent repository editions press.last_export press.at.serial files many test shows in

@@ -81,11 +81,7 @@ fn put_before_last(puts: &mut Vec<OutFile>, mut beside: Vec<OutFile>) -> Result<
 }
 
 /// The anchor's certificate and the locator of its current key, as far as they stand.
-fn anchor_files(
-    alloc: Global,
-    site: &Site,
-    at: &PublishedState,
-) -> Result<Vec<OutFile>, AllocError>
+fn anchor_files(alloc: Global, site: &Site, at: &PublishedState) -> Result<Vec<OutFile>, AllocError>
     ensures { IfOk result (λ files. map put_of files.items ≡ anchor_puts site.now at.now) }
 {
     let mut files = Vec::new(alloc);

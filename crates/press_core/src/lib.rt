@@ -20,7 +20,8 @@ pub use laws::{
     first_published_state_stands, more_commands_stand, more_commands_stay_published,
     more_editions_stay_shown, prepared_editions_are_published, prepared_editions_follow,
     prepared_editions_leave, published_editions_have_an_anchor,
-    rrdp_editions_are_what_editions_leave, telling_signers_vouch, vouching_signers_vouch_for_editions,
+    rrdp_editions_are_what_editions_leave, telling_signers_vouch,
+    vouching_signers_vouch_for_editions,
 };
 pub use prepared::Prepared;
 pub use press::{Press, PressRefused};

@@ -192,8 +192,10 @@ impl<S: Signer> Press<S> {
         ensures keys { HoldKeys self.old.ring self.new.ring }
     {
         let edition = self.prepare_edition(alloc, now, gathered)?;
-        let files = self.files_of(alloc, &edition)?;
-        Ok(Prepared::new(edition, files))
+        match self.files_of(alloc, &edition) {
+            Ok(files) => Ok(Prepared::new(edition, files)),
+            Err(_) => Err(PressFault::Memory),
+        }
     }
 
     // The next edition, without its files.
@@ -301,11 +303,7 @@ impl<S: Signer> Press<S> {
     }
 
     // Brings the files of the last edition to the outlet.
-    fn export_last<O: Outlet>(
-        &self,
-        alloc: Global,
-        outlet: &mut O,
-    ) -> Result<(), ExportFault<O>>
+    fn export_last<O: Outlet>(&self, alloc: Global, outlet: &mut O) -> Result<(), ExportFault<O>>
         requires { self.now.at.serial ≢ 0 }
         ensures done { OnOk result ((editions : List Edition) → HasFilesOf editions self.now
             → O.files outlet.new ≡ option_map (after_all (export_of self.now editions)) (O.files outlet.old)) }

@@ -33,7 +33,11 @@ pub fn shown(
         "another"
     };
     let locator = outlet.file("ta.tal").context("no locator")?;
-    write!(shown, ", ta.cer of {of} edition, ta.tal of {}, snapshots", locator.len())?;
+    write!(
+        shown,
+        ", ta.cer of {of} edition, ta.tal of {}, snapshots",
+        locator.len()
+    )?;
     for serial in 1..=parts.serial {
         let path = format!(in alloc; "{SESSION_TEXT}/{serial}/snapshot.xml")?;
         if outlet.file(path.as_str()).is_some() {
@@ -74,7 +78,17 @@ enum Line {
 fn read(alloc: Global, base: &str, line: &str) -> Result<Line> {
     let parts: Vec<&str> = line.split('"').collect(alloc)?;
     match parts.as_slice() {
-        [_, _, " version=", "1", " session_id=", _, " serial=", serial, _] => Ok(Line::Head {
+        [
+            _,
+            _,
+            " version=",
+            "1",
+            " session_id=",
+            _,
+            " serial=",
+            serial,
+            _,
+        ] => Ok(Line::Head {
             serial: String::from_str(alloc, serial)?,
         }),
         [_, uri, " hash=", hash, _] => file(alloc, base, uri, hash),
