@@ -1,5 +1,5 @@
 -- The CRLs that the editions of a history put.
-use Rattle.std.proofs.Common.{◌≡◌, ◌≢◌, ℕ, ◌+◌, ◌<◌, ◌≤◌, suc, sym, subst, ◌∙◌, ap, arith, List, [], ◌∷◌, ◌++◌, length, map, take, Some, refl, length-append}
+use Rattle.std.proofs.Common.{◌≡◌, ◌≢◌, ℕ, ◌+◌, ◌<◌, sym, subst, ◌∙◌, ap, arith, List, [], ◌∷◌, ◌++◌, length, map, take, Some, length-append}
 use Rattle.std.proofs.lemmas.List.{length-take-le, take-take}
 use Rattle.std.proofs.lemmas.Option.{slice_get_within}
 use Rattle.crl_obj.specs.Values.{SignedCrl}

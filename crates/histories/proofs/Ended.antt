@@ -13,27 +13,27 @@ use Rattle.histories.specs.Refused.{IsReopening, AreNoReopenings}
 use Rattle.histories.proofs.Growing.{ends_legal, starts_legal, after_on}
 use Rattle.histories.proofs.Shut.{not_both, IsInDoubt, IsDeskInDoubt, told_doubt, desk_shut, press_shut, desk_failed, press_failed, desk_until, press_until}
 
-none_opened : (lists : List (List Command)) (desk : ℕ) → doubt_at (map opened lists) desk ≡ None
+pub none_opened : (lists : List (List Command)) (desk : ℕ) → doubt_at (map opened lists) desk ≡ None
 none_opened [] desk = refl
 none_opened (list ∷ lists) zero = refl
 none_opened (list ∷ lists) (suc desk) = none_opened lists desk
 
 module _ (site : Bases) where
   -- The last of a history's events is allowed after all of the others.
-  last_allowed : (history between : History) (one other : Happening) → IsLegal site (history ++ one ∷ between ++ other ∷ [])
+  pub last_allowed : (history between : History) (one other : Happening) → IsLegal site (history ++ one ∷ between ++ other ∷ [])
       → IsAllowed site (signing (after_all (after_one (store_after history) one) between) other.signed) other.event
   last_allowed history between one other legal =
       (ends_legal site (after_one (store_after history) one) between (other ∷ [])
       (ends_legal site new_store history (one ∷ (between ++ other ∷ []))
       (subst (λ (all : History). IsLegal site all) (append_assoc history (one ∷ between) (other ∷ [])) legal)).1).0
 
-  starts : (history between : History) (one other : Happening) → IsLegal site (history ++ one ∷ between ++ other ∷ [])
+  pub starts : (history between : History) (one other : Happening) → IsLegal site (history ++ one ∷ between ++ other ∷ [])
       → IsLegal site (history ++ one ∷ between)
   starts history between one other legal = starts_legal site new_store (history ++ one ∷ between) (other ∷ []) legal
 
   -- ---- behind a fault
 
-  in_doubt_at : (history between : History) (signed : List Signature) (desk : ℕ) (command : Command) → AreNoReopenings between
+  pub in_doubt_at : (history between : History) (signed : List Signature) (desk : ℕ) (command : Command) → AreNoReopenings between
       → IsLegal site (history ++ record { signed = signed; event = DeskFault desk command } ∷ between)
       → IsDeskInDoubt desk command (after_all (after_one (store_after history) (record { signed = signed; event = DeskFault desk command })) between)
   in_doubt_at history between signed desk command never legal =
@@ -42,7 +42,7 @@ module _ (site : Bases) where
       desk_until site (after_one (store_after history) fault) desk command between both.1 never
       (desk_failed site (signing (store_after history) signed) desk command both.0)
 
-  in_doubt : (history between : History) (signed : List Signature) (edition : Edition) → AreNoReopenings between
+  pub in_doubt : (history between : History) (signed : List Signature) (edition : Edition) → AreNoReopenings between
       → IsLegal site (history ++ record { signed = signed; event = PressFault edition } ∷ between)
       → IsInDoubt edition (after_all (after_one (store_after history) (record { signed = signed; event = PressFault edition })) between).press
   in_doubt history between signed edition never legal =

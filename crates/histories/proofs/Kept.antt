@@ -128,7 +128,7 @@ at_first (suc n) (suc m) d there = at_first n m d there
 
 -- ---- signatures
 
-vouches_more : (signed more : List Signature) → VouchesMore (are_vouched signed) (are_vouched (signed ++ more))
+pub vouches_more : (signed more : List Signature) → VouchesMore (are_vouched signed) (are_vouched (signed ++ more))
 vouches_more signed more key digest bytes is =
     list_any-append (is_signature key digest bytes) signed more
     ∙ ap (λ (b : Bool). b || list_any (is_signature key digest bytes) more) is

@@ -13,3 +13,4 @@ mod Ended
 mod GoesOn
 mod Worked
 mod Crls
+mod Broken

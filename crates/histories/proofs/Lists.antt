@@ -17,7 +17,7 @@ weaker (Some x) P Q f h = f x h
 -- ---- each in turn
 
 -- What stands at a place of a list with one more behind: one of them, or that one.
-placed : {X : Type 0} (xs : List X) (x : X) (place : ℕ) (y : X) → slice_get (xs ++ x ∷ []) place ≡ Some y
+pub placed : {X : Type 0} (xs : List X) (x : X) (place : ℕ) (y : X) → slice_get (xs ++ x ∷ []) place ≡ Some y
     → (slice_get xs place ≡ Some y) ⊎ ((place ≡ length xs) × (x ≡ y))
 placed [] x zero y there = inr (refl, same_one x y there)
 placed [] x (suc place) y there = absurd (none-some y there)

@@ -6,10 +6,11 @@ use Rattle.key_ids.specs.Base.{IsBase, rsync_scheme}
 use Rattle.key_ids.specs.Uris.{Bases}
 use Rattle.pub_set.specs.declared.objects.Object.{Object}
 use Rattle.pub_set.specs.declared.steps.Change.{Change}
-use Rattle.pub_set.specs.Objects.{uri_at}
+use Rattle.pub_set.specs.Objects.{uri_at, content_at, IsAscending}
 use Rattle.pub_set.specs.Changes.{Contents, uri_of}
 use Rattle.rrdp_text.specs.Files.{File, IsSnapshot, snapshot_spelled, IsDelta, delta_spelled}
 use Rattle.rrdp_text.specs.Template.{snapshot_in, delta_in}
+use Rattle.rrdp_text.specs.Texts.{snapshot_text}
 use Rattle.rrdp_text.specs.Values.{AreBytes, IsUri, IsUuid, IsChange}
 use Rattle.editions.specs.Edition.{Edition, set_after}
 use Rattle.histories.specs.Events.{History}
@@ -70,22 +71,30 @@ module _ (stay : Stay) (apart : Apart) (named : Named) (texts : Texts) (site : B
       let below : edition.serial < 2 ^ 64 = omega (arith, most) in
       subst (λ (n : ℕ). n < 2 ^ 64) said below
 
+  -- By whichever list of the set's objects.
+  pub snapshot_read : Count → ReadSnapshot → (session : List ℕ) → IsUuid session
+      → (serial : ℕ) (edition : Edition) → HasEdition history serial edition
+      → (objects : List Object) → IsAscending objects → ((uri : List ℕ) → content_at objects uri ≡ set_of history serial uri)
+      → snapshot_in (snapshot_text session serial objects) ≡ Ok ((session, serial), objects)
+  snapshot_read counted reads session uuid serial edition has objects ascending are =
+      let each = each_found uri_at (λ (o : Object). o.bytes) (λ uri bytes. IsUri uri × AreBytes bytes) objects ascending
+      (λ at bytes there.
+      let held : set_of history serial at ≡ Some bytes = sym (are at) ∙ there in
+      (uris serial edition has at (is-some (set_of history serial at) bytes held), of_bytes serial at bytes held)) in
+      reads ((session, serial), objects) (
+        record { uuid = uuid; fits = fits serial edition has counted },
+        record { ascending = ascending; each = objects_are objects each },
+      )
+
   pub snapshots : Count → ((editions : List Edition) → IsSet (set_after editions)) → ReadSnapshot → (session : List ℕ) → IsUuid session
       → (serial : ℕ) (edition : Edition) → HasEdition history serial edition → HasSnapshot session serial (set_of history serial)
   snapshots counted left reads session uuid serial edition has =
       let set = left (take serial (editions_of history)) in
-      let each = each_found uri_at (λ (o : Object). o.bytes) (λ uri bytes. IsUri uri × AreBytes bytes) set.0 set.1
-      (λ at bytes there.
-      let held : set_of history serial at ≡ Some bytes = sym (set.2 at) ∙ there in
-      (uris serial edition has at (is-some (set_of history serial at) bytes held), of_bytes serial at bytes held)) in
       record {
         objects = set.0;
         ascending = set.1;
         are = set.2;
-        read = reads ((session, serial), set.0) (
-          record { uuid = uuid; fits = fits serial edition has counted },
-          record { ascending = set.1; each = objects_are set.0 each },
-        );
+        read = snapshot_read counted reads session uuid serial edition has set.0 set.1 set.2;
       }
 
   pub delta_texts : Count → ReadDelta → (session : List ℕ) → IsUuid session

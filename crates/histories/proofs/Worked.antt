@@ -7,10 +7,11 @@ use Rattle.authority_book.specs.declared.commands.Command.{Command}
 use Rattle.authority_book.specs.declared.commands.Command.TheVariants.{Add, Delete, AddParent}
 use Rattle.cmd_codec.specs.Spelling.{spelling, part_spelling, bytes_32}
 use Rattle.key_ids.specs.Uris.{Bases}
-use Rattle.histories.specs.Devices.{Device, Store, opened, for_desk, stopped_from, new_store}
+use Rattle.editions.specs.Edition.{Edition}
+use Rattle.histories.specs.Devices.{Device, Signature, Store, opened, for_desk, stopped_from, new_store}
 use Rattle.histories.specs.Events.{after_all, signing}
-use Rattle.histories.specs.Legal.{AreFound, IsLegal, CanBeWritten}
-use Rattle.histories.specs.Worked.{worked}
+use Rattle.histories.specs.Legal.{AreFound, IsLegal, CanBeWritten, MayBePublished}
+use Rattle.histories.specs.Worked.{worked, with_edition, with_doubted_edition}
 
 a-named : IsName (codes "A")
 a-named = record { not_empty = omega arith; short = omega arith; plain = AllPass-from_list_all is_name_byte (codes "A") refl }
@@ -140,3 +141,84 @@ worked_is_legal site = (
       next = record { held = tt; accepted = refl; fits = omega (arith, under-ta-size, delete-size) };
     }
     stopping (suc (suc desk)) = tt
+
+-- ---- with an edition
+
+module _ (site : Bases) (signed : List Signature) (edition : Edition)
+    (may : MayBePublished site (signing new_store signed) edition) where
+  abbrev before_the_stop : Store
+  before_the_stop = signing (after_all new_store (take 3 (with_edition signed edition))) []
+
+  stops-within : (desk : ℕ) → IfSome (for_desk (None ∷ Some (AddParent (codes "ta")) ∷ []) desk) (CanBeWritten site before_the_stop desk)
+  stops-within zero = tt
+  stops-within (suc zero) = record {
+    running = refl;
+    device = open-with [];
+    there = refl;
+    is_open = refl;
+    next = record { held = (ta-named, tt); accepted = refl; fits = omega (arith, under-ta-size) };
+  }
+  stops-within (suc (suc desk)) = tt
+
+  pub edition_is_legal : IsLegal site (with_edition signed edition)
+  edition_is_legal = (
+    may,
+    (
+      record {
+        running = refl;
+        device = open-with [];
+        there = refl;
+        is_open = refl;
+        next = record { held = (a-named, (omega arith, tt)); accepted = refl; fits = omega (arith, a-size) };
+      },
+      (
+        record {
+          running = refl;
+          device = open-with (Add (codes "A") 0 ∷ []);
+          there = refl;
+          is_open = refl;
+          next = record { held = (b-named, (omega arith, tt)); accepted = refl; fits = omega (arith, a-size, b-size) };
+        },
+        (
+          record { running = refl; desks = stops-within; press = tt },
+          (
+            record {
+              desks = (inr (Add (codes "B") 0, refl, refl), (inl refl, rest-found 2 62 (None ∷ Some (AddParent (codes "ta")) ∷ [])));
+              press = inl refl;
+            },
+            (
+              record {
+                running = refl;
+                device = open-with (Add (codes "A") 0 ∷ Add (codes "B") 0 ∷ []);
+                there = refl;
+                is_open = refl;
+                next = record { held = (c-named, (omega arith, tt)); accepted = refl; fits = omega (arith, a-size, b-size, c-size) };
+              },
+              tt,
+            ),
+          ),
+        ),
+      ),
+    ),
+  )
+
+  pub doubted_edition_is_legal : IsLegal site (with_doubted_edition signed edition)
+  doubted_edition_is_legal = (
+    may,
+    (
+      record {
+        running = refl;
+        device = open-with [];
+        there = refl;
+        is_open = refl;
+        next = record { held = (a-named, (omega arith, tt)); accepted = refl; fits = omega (arith, a-size) };
+      },
+      (
+        record { running = refl; desks = λ desk. tt; press = tt },
+        (
+          record { desks = (inl refl, rest-found 1 63 []); press = inr (edition, refl, refl) },
+          tt,
+        ),
+      ),
+    ),
+  )

@@ -1,26 +1,30 @@
 //! The theorem.
 
-ghost use Rattle.std.specs.Prelude.{◌≡◌, ◌≢◌, ℕ, ◌+◌, ◌≤◌, ◌++◌, ◌∷◌, [], List, Bool, false, Option, None, Some, drop, take};
+ghost use Rattle.std.specs.Prelude.{◌≡◌, ◌≢◌, ℕ, ◌+◌, ◌<◌, ◌≤◌, ◌++◌, ◌∷◌, [], List, Bool, false, true, Option, None, Some, Ok, drop, get_or, length, slice_get, take};
 ghost use Rattle.authority_book.specs.declared.commands.Command.{Command};
 ghost use Rattle.key_ids.specs.Base.{IsBase, rsync_scheme};
 ghost use Rattle.key_ids.specs.Uris.{Bases};
 ghost use Rattle.signer_api.specs.State.{SignerState};
 ghost use Rattle.crl_obj.specs.Values.{SignedCrl};
 ghost use Rattle.rp_rules.specs.Objects.{crl_in};
+ghost use Rattle.rrdp_text.specs.Template.{snapshot_in};
+ghost use Rattle.rrdp_text.specs.Texts.{snapshot_text};
 ghost use Rattle.rrdp_text.specs.Values.{IsUuid};
-ghost use Rattle.editions.specs.Edition.{Edition};
+ghost use Rattle.pub_set.specs.declared.objects.Object.{Object};
+ghost use Rattle.pub_set.specs.Objects.{content_at, IsAscending};
+ghost use Rattle.editions.specs.Edition.{Edition, cut_at};
 ghost use Rattle.editions.specs.Held.{HaveOwnSerials};
 ghost use Rattle.editions.specs.PlannedAndMade.{IsPlannedAndMade};
 ghost use Rattle.editions.specs.Published.{IsPublished, ManifestsRise};
-ghost use Rattle.editions.specs.Step.{AreMore, AreSteps};
-ghost use Rattle.histories.specs.Devices.{Signature, doubt_at};
+ghost use Rattle.editions.specs.Step.{AreMore, AreSteps, BeginsWith};
+ghost use Rattle.histories.specs.Devices.{Device, Signature, doubt_at, for_desk, new_store};
 ghost use Rattle.histories.specs.Events.{Event, History, signing};
 ghost use Rattle.histories.specs.Events.Event.{Commit, Publish, DeskFault, PressFault, Stop, Reopen};
 ghost use Rattle.histories.specs.Legal.{IsLegal, IsNextCommand, InTurn, MayBePublished, bytes_for, ground_of, most_bytes};
 ghost use Rattle.histories.specs.Acknowledged.{acknowledged, commands_of, editions_of, ground_after};
-ghost use Rattle.histories.specs.Found.{AreFoundAfter, TakesIn, reopening_by, store_after};
+ghost use Rattle.histories.specs.Found.{AreFoundAfter, TakesIn, latest, reopening_by, store_after};
 ghost use Rattle.histories.specs.Refused.{IsReopening, AreNoReopenings};
-ghost use Rattle.histories.specs.Worked.{worked};
+ghost use Rattle.histories.specs.Worked.{worked, with_edition, with_doubted_edition};
 ghost use Rattle.histories.specs.Published.{HasEdition, HasSnapshot, HasDelta, ListsSuperseded, set_of, applied};
 
 use cmd_codec::listed_names_are_names;
@@ -143,6 +147,87 @@ pub fn histories_end_at_faults_and_stops()
         (doubt_at store.desks desk ≡ None) × (store.press.doubt ≡ None) }
 {}
 
+/// Lists of events of which each breaks one rule: no such list is a legal history.
+pub fn histories_that_break_a_rule_are_refused()
+    // A reopening that lost a command which was acknowledged at some time before it.
+    ensures lost_commands { (site : Bases) (history later : History) (signed : List Signature)
+        (lists : List (List Command)) (editions : List Edition) (desk : ℕ)
+        → ¬ BeginsWith (commands_of history desk) (get_or lists desk [])
+        → IsLegal site (history ++ later ++ record { signed = signed; event = Reopen lists editions } ∷ []) → ⊥ }
+    // A stop that puts a second record in doubt at a desk whose write failed, and at the press.
+    ensures two_commands_in_doubt { (site : Bases) (history between : History) (signed later : List Signature)
+        (desk : ℕ) (command other : Command) (commands : List (Option Command)) (edition : Option Edition)
+        → AreNoReopenings between → for_desk commands desk ≡ Some other
+        → IsLegal site (history ++ record { signed = signed; event = DeskFault desk command }
+        ∷ between ++ record { signed = later; event = Stop commands edition } ∷ []) → ⊥ }
+    ensures two_editions_in_doubt { (site : Bases) (history between : History) (signed later : List Signature)
+        (edition other : Edition) (commands : List (Option Command)) → AreNoReopenings between
+        → IsLegal site (history ++ record { signed = signed; event = PressFault edition }
+        ∷ between ++ record { signed = later; event = Stop commands (Some other) } ∷ []) → ⊥ }
+    // A record in doubt that survives a reopening: one that didn't find it, and then one that does.
+    ensures commands_found_later { (site : Bases) (history : History) (signed later : List Signature)
+        (lists others : List (List Command)) (editions more : List Edition) (desk : ℕ)
+        → get_or others desk [] ≢ get_or lists desk []
+        → IsLegal site (history ++ record { signed = signed; event = Reopen lists editions }
+        ∷ record { signed = later; event = Reopen others more } ∷ []) → ⊥ }
+    ensures editions_found_later { (site : Bases) (history : History) (signed later : List Signature)
+        (lists others : List (List Command)) (editions more : List Edition) → more ≢ editions
+        → IsLegal site (history ++ record { signed = signed; event = Reopen lists editions }
+        ∷ record { signed = later; event = Reopen others more } ∷ []) → ⊥ }
+    // A publication whose cut counts more commands of a desk than were acknowledged, as the one in doubt would be.
+    ensures doubted_cuts { (site : Bases) (history : History) (signed : List Signature) (edition : Edition) (desk : ℕ)
+        → length (commands_of history desk) < cut_at edition.cut desk
+        → IsLegal site (history ++ record { signed = signed; event = Publish edition } ∷ []) → ⊥ }
+    // A reopening that finds an edition which nobody offered: it wasn't acknowledged, and isn't in doubt.
+    ensures strange_editions { (site : Bases) (history : History) (signed : List Signature)
+        (lists : List (List Command)) (editions : List Edition) (place : ℕ) (edition : Edition)
+        → slice_get editions place ≡ Some edition → slice_get (editions_of history) place ≢ Some edition
+        → (store_after history).press.doubt ≢ Some edition
+        → IsLegal site (history ++ record { signed = signed; event = Reopen lists editions } ∷ []) → ⊥ }
+    // A publication on a journal that is shut, and a commit on one.
+    ensures shut_press { (site : Bases) (history : History) (signed : List Signature) (edition : Edition)
+        → (store_after history).press.shut ≡ true
+        → IsLegal site (history ++ record { signed = signed; event = Publish edition } ∷ []) → ⊥ }
+    ensures shut_desks { (site : Bases) (history : History) (signed : List Signature) (desk : ℕ)
+        (command : Command) (device : Device Command)
+        → slice_get (store_after history).desks desk ≡ Some device → device.shut ≡ true
+        → IsLegal site (history ++ record { signed = signed; event = Commit desk command } ∷ []) → ⊥ }
+    // A commit behind a stop.
+    ensures stopped_commits { (site : Bases) (history : History) (signed later : List Signature)
+        (commands : List (Option Command)) (edition : Option Edition) (desk : ℕ) (command : Command)
+        → IsLegal site (history ++ record { signed = signed; event = Stop commands edition }
+        ∷ record { signed = later; event = Commit desk command } ∷ []) → ⊥ }
+    // A signature that is vouched at some time, and later isn't: no list of events at all has one.
+    ensures vouched_no_more { (site : Bases) (history later : History) (key digest bytes : List ℕ)
+        → (ground_after site history).vouched key digest bytes ≡ true
+        → (ground_after site (history ++ later)).vouched key digest bytes ≡ false → ⊥ }
+    // A publication of another serial than the next one.
+    ensures other_serials { (site : Bases) (history : History) (signed : List Signature) (edition : Edition)
+        → edition.serial ≢ latest (editions_of history) + 1
+        → IsLegal site (history ++ record { signed = signed; event = Publish edition } ∷ []) → ⊥ }
+    // A command behind which the desk's list takes more bytes than its journal has room for.
+    ensures too_many_bytes { (site : Bases) (history : History) (signed : List Signature) (desk : ℕ)
+        (command : Command) → most_bytes < bytes_for (commands_of history desk ++ command ∷ [])
+        → IsLegal site (history ++ record { signed = signed; event = Commit desk command } ∷ []) → ⊥ }
+{}
+
+/// The text of a serial's snapshot is read as that of no other serial.
+pub fn snapshots_tell_their_serials()
+    ensures { (site : Bases) (history : History) (session named : List ℕ) (serial other : ℕ)
+        (edition : Edition) (objects found : List Object)
+        → IsBase rsync_scheme site.rsync → IsUuid session → IsLegal site history
+        → HasEdition history serial edition → IsAscending objects
+        → ((uri : List ℕ) → content_at objects uri ≡ set_of history serial uri) → other ≢ serial
+        → snapshot_in (snapshot_text session serial objects) ≡ Ok ((named, other), found) → ⊥ }
+{
+    accepted_names_are_apart();
+    listed_names_are_names();
+    origin_texts_are_ascii();
+    steps_count_up();
+    steps_stay_steps();
+    texts_are_read_back();
+}
+
 /// How every legal history may go on.
 pub fn legal_histories_go_on()
     // The store may be opened again, and all that `found` of `headline` allows may be found then.
@@ -173,4 +258,14 @@ pub fn legal_histories_go_on()
 /// There are such histories.
 pub fn some_histories_are_legal()
     ensures { (site : Bases) → IsLegal site worked }
+{}
+
+/// Some have an edition: wherever one may be the first, it may be followed by a commit, a write that fails, a stop within
+/// another, a reopening that finds it, and one more commit; and it may be in doubt itself, and then be found.
+pub fn some_histories_with_editions_are_legal()
+    ensures published { (site : Bases) (signed : List Signature) (edition : Edition)
+        → MayBePublished site (signing new_store signed) edition → IsLegal site (with_edition signed edition) }
+    ensures doubted { (site : Bases) (signed : List Signature) (edition : Edition)
+        → MayBePublished site (signing new_store signed) edition
+        → IsLegal site (with_doubted_edition signed edition) }
 {}
