@@ -34,7 +34,7 @@ use Rattle.press_core.specs.Press.{PressValue, DropsEach}
 use Rattle.press_core.specs.Signers.{HasAllVouched, HoldKeys}
 use Rattle.press_core.specs.PrepareInput.{PrepareInput, start_of}
 use Rattle.press_core.specs.Planned.{IsPrepared, calls_for}
-use Rattle.press_core.specs.Next.{PreparedValue}
+use Rattle.press_core.specs.Next.{NextValue}
 use Rattle.press_core.specs.Stands.{IsLeftBy, StandsFor}
 use Rattle.press_core.specs.Follows.{AreBehind, Follows, edition_of}
 use Rattle.press_core.specs.Faults.{IsPressFault}
@@ -69,7 +69,7 @@ CutsGoOn = (lists : List (List Command)) (cut : List ℕ) (gathered : List Gathe
 
 -- What was signed for an edition is vouched where all that the signers vouch for is.
 abbrev pub VouchLaw : Type 0
-VouchLaw = (start : PrepareInput) (ring : List SignerState) (prepared : PreparedValue) (is : IsPrepared start ring prepared) (vouched : Vouched)
+VouchLaw = (start : PrepareInput) (ring : List SignerState) (prepared : NextValue) (is : IsPrepared start ring prepared) (vouched : Vouched)
     → HasAllVouched vouched ring → All (IsVouchedBy vouched) (calls_for start ring prepared is)
 
 pub hold_same : (signers : List SignerState) → HoldKeys signers signers
@@ -235,7 +235,7 @@ module _ {D : Type 0} where
     abbrev made : List SignerState
     made = done.made
 
-    abbrev prepared : PreparedValue
+    abbrev prepared : NextValue
     prepared = done.prepared
 
     abbrev new : InstanceValue D

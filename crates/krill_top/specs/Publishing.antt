@@ -20,7 +20,7 @@ use Rattle.press_core.specs.declared.fault.PressFault.TheVariants.{Memory}
 use Rattle.press_core.specs.Press.{PressValue, DropsEach}
 use Rattle.press_core.specs.Signers.{HoldKeys}
 use Rattle.press_core.specs.PrepareInput.{start_of}
-use Rattle.press_core.specs.Next.{PreparedValue}
+use Rattle.press_core.specs.Next.{NextValue}
 use Rattle.press_core.specs.Planned.{IsPrepared, calls_for}
 use Rattle.press_core.specs.Stands.{IsLeftBy}
 use Rattle.press_core.specs.Follows.{edition_of}
@@ -85,7 +85,7 @@ pub record Publishes (clock : ℕ) (told : Published) (before after : InstanceSt
   pub gathered : List Gathered
   pub at : IsAtPress press gathered before
   pub made : List SignerState
-  pub prepared : PreparedValue
+  pub prepared : NextValue
   pub is_prepared : IsPrepared (start_of press clock gathered) made prepared
   pub same_site : after.site ≡ before.site
   pub same_desks : after.desk_states ≡ before.desk_states

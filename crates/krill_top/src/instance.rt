@@ -24,13 +24,14 @@ use key_ids::Site;
 use names::Name;
 use notice_board::Sheet;
 use press_core::{
-    FreshRefused, Press, first_published_state_stands, more_commands_stand,
+    Press, PressRefused, first_published_state_stands, more_commands_stand,
     vouching_signers_vouch_for_editions,
 };
 use signer_api::Signer;
 use signer_ring::Ring;
 use std::alloc::{AllocError, Global};
 use std::marker::Model;
+use uuid::Uuid;
 
 /// The base of the published objects' URIs, and that of the files that tell of them.
 const RSYNC_BASE: &str = "rsync://rpki.example/repo/";
@@ -106,9 +107,9 @@ impl<D: Disk, G: Signer> Instance<D, G> {
         let Ok(site) = default_site(alloc) else {
             return Err(InstanceRefused { desks, ring });
         };
-        let press = match Press::fresh(alloc, site, ring) {
+        let press = match Press::new(alloc, site, Uuid::nil(), ring) {
             Ok(press) => press,
-            Err(FreshRefused { ring, .. }) => return Err(InstanceRefused { desks, ring }),
+            Err(PressRefused { ring, .. }) => return Err(InstanceRefused { desks, ring }),
         };
         let Ok(sheet) = press.sheet(alloc) else {
             let ring = press.close();

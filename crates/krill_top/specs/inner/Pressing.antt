@@ -13,7 +13,7 @@ use Rattle.press_core.specs.declared.fault.PressFault.TheVariants.{Memory}
 use Rattle.press_core.specs.Press.{PressValue, DropsEach}
 use Rattle.press_core.specs.Signers.{HoldKeys}
 use Rattle.press_core.specs.PrepareInput.{start_of}
-use Rattle.press_core.specs.Next.{PreparedValue}
+use Rattle.press_core.specs.Next.{NextValue}
 use Rattle.press_core.specs.Follows.{IsNextEdition}
 use Rattle.press_core.specs.Faults.{IsPressFault}
 use Rattle.krill_top.specs.inner.Gathered.{AreSince}
@@ -23,7 +23,7 @@ use Rattle.krill_top.specs.inner.Gathered.{AreSince}
 pub record IsPressed {D : Type 0} (clock : ℕ) (desks : List (View D)) (old new : PressValue) (told : Published) (sheet : Sheet) : Type 0 where
   pub groups : List Gathered
   pub made : List SignerState
-  pub prepared : PreparedValue
+  pub prepared : NextValue
   pub since : AreSince 0 desks old.at.cut groups
   pub edition : IsNextEdition (start_of old clock groups) made prepared
   pub kept : Keeps old.ring made
