@@ -1,5 +1,6 @@
-use Rattle.std.proofs.Common.{inr}
+use Rattle.std.proofs.Common.{ℕ, List, inr, subst}
 use Rattle.std.proofs.lemmas.Result.{err_from_is_err_and}
+use Rattle.krill_top.specs.inner.Gathered.{AreSince}
 use Rattle.krill_top.proofs.pressing.press_all.Goals as goal
 
 -- The signers made the edition, and memory ran out before readers could be shown it.
@@ -13,7 +14,7 @@ returns-in_err-sheet-clause-refused g c =
       held = c.in_ok-prepared.ensures.keys;
       cause = inr (record {
         groups = c.in_ok-gathered.gathered.items;
-        since = c.in_ok-gathered.ensures;
+        since = subst (λ (cut : List ℕ). AreSince 0 c.args.desks.now cut c.in_ok-gathered.gathered.items) c.cut.ensures c.in_ok-gathered.ensures;
         met = inr (record { work = is.made.work; planned = is.made.planned; out = inr (is.made.made, is.made.is_made) });
       });
     })
