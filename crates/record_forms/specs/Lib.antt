@@ -1,0 +1,4 @@
+pub mod Form
+pub mod Forms
+pub mod Outcome
+pub mod laws

@@ -1,0 +1,5 @@
+-- The laws of forms.
+pub mod ByteLaws
+pub mod FormLaws
+pub mod ListLaws
+pub mod OutcomeLaws
