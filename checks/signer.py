@@ -143,6 +143,17 @@ def is_running(pid):
         return False
 
 
+def opened_by(pid):
+    """What a process has open, by kind or path. What it closes meanwhile isn't in it."""
+    opened = set()
+    for it in os.listdir(f"/proc/{pid}/fd"):
+        try:
+            opened.add(os.readlink(f"/proc/{pid}/fd/{it}").split(":")[0])
+        except FileNotFoundError:
+            pass
+    return opened
+
+
 def pool():
     """Keys made ahead sign once each, in the order of the requests; they are on no disk; those that make them have
     nothing else open, and end with the signer, however it ends; where one ends, another follows."""
@@ -163,9 +174,8 @@ def pool():
             verify(key, digest, signature)
             keys.add(key)
         for maker in makers:
-            opened = {os.readlink(f"/proc/{maker}/fd/{it}").split(":")[0] for it in os.listdir(f"/proc/{maker}/fd")}
-            if not opened <= {"pipe", "/dev/null"}:
-                fail(f"a process that makes keys has {opened} open")
+            # One that has just begun still reads the script.
+            await_that(lambda: opened_by(maker) <= {"pipe", "/dev/null"}, "a maker with nothing but pipes open")
         (kept,) = want(f"key {KEY}", program.stdout.readline().rstrip("\n"))
         want(word, program.stdout.readline().rstrip("\n"))
         key, _ = want(f"once {KEY} ([0-9a-f]{{512}})", program.stdout.readline().rstrip("\n"))
