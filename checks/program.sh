@@ -133,6 +133,27 @@ if [ "$got" != 0 ] || ! cmp -s told "$top/examples/publish-session.replies"; the
     failed=1
 fi
 
+# What was published stands: the notification names the snapshot with its hash, beside the anchor's
+# certificate and locator.
+(
+    cd krill-data/repo
+    snapshot=$(ls -d */1/snapshot.xml)
+    [ "$(find . -type f | LC_ALL=C sort | tr '\n' ' ')" = "./$snapshot ./notification.xml ./ta.cer ./ta.tal " ]
+    grep -q "session_id=\"${snapshot%%/*}\" serial=\"1\"" notification.xml
+    grep -q "/$snapshot\" hash=\"$(sha256sum <"$snapshot" | cut -d' ' -f1)\"" notification.xml
+) || { echo "checks/program: published files: $(find krill-data/repo -type f)"; failed=1; }
+
+# Where they can't be put the edition stands: each publication tries again, and so does the end of the run.
+rm -r krill-data/repo
+: >krill-data/repo
+printf '{"command":"%s"}\n' publish publish serial >input
+expect 4 '{"code":29,"detail":"1","refused":"OutletFault"}
+{"code":29,"detail":"1","refused":"OutletFault"}
+{"reply":"serial","serial":1}
+' 'krillc: device failed
+' run
+rm krill-data/repo
+
 # A signer whose pipes stand, and one that has only one of them.
 printf '%s\n' '{"command":"publish"}' >input
 if python3 -c 'import cryptography' 2>python-said; then

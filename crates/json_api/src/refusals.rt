@@ -44,6 +44,8 @@ pub enum Refused {
     SignerFault { signer: u32 },
     /// A key that was made has the identifier of another one.
     KeyClash { id: KeyId },
+    /// The outlet failed: the edition with that serial stands, and isn't exported.
+    OutletFault { serial: u64 },
     BadLine,
     UnknownCommand,
     Memory,
@@ -84,6 +86,9 @@ pub fn refused_into(out: &mut Vec<u8>, refused: &Refused)
             refusal_into(out, 27, Detail::Number(u64::from(signer)), "SignerFault")
         }
         Refused::KeyClash { id } => refusal_into(out, 28, Detail::Key(id), "KeyClash"),
+        Refused::OutletFault { serial } => {
+            refusal_into(out, 29, Detail::Number(serial), "OutletFault")
+        }
         Refused::BadLine => refusal_into(out, 31, Detail::Empty, "BadLine"),
         Refused::UnknownCommand => refusal_into(out, 32, Detail::Empty, "UnknownCommand"),
         Refused::Memory => refusal_into(out, 40, Detail::Empty, "Memory"),

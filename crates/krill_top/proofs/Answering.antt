@@ -3,6 +3,7 @@ use Rattle.std.proofs.Common.{◌≡◌, ℕ, ◌⊎◌, ◌<◌, Bool, true, fa
 use Rattle.std.specs.declared.alloc.Global.{Global}
 use Rattle.std.specs.Prelude.{Result, Ok, Err, IfOk, Vec, Option, None, Some, slice_set}
 use Rattle.disk_api.specs.declared.disk.Disk.{Ghosts as DiskGhosts}
+use Rattle.outlet_api.specs.declared.outlet.Outlet.{Ghosts as OutletGhosts}
 use Rattle.authority_book.specs.declared.commands.Command.{Command}
 use Rattle.authority_book.specs.declared.refusals.Refusal.{Refusal}
 use Rattle.json_api.specs.declared.line.Line.{Line}
@@ -19,8 +20,7 @@ use Rattle.line_loop.specs.Readings.{IsReading}
 use Rattle.krill_top.specs.InstanceState.{InstanceState, TimedInstanceState, at_clock}
 use Rattle.krill_top.specs.Outcomes.{Outcome, CommandedAt, fault_outcome}
 use Rattle.krill_top.specs.Outcomes.Outcome.{Accepted, Verdict}
-use Rattle.krill_top.specs.Publishing.{ComesTo, has_published}
-use Rattle.krill_top.specs.declared.publication.Publication.{Publication}
+use Rattle.krill_top.specs.Publishing.{Outcome as Publication, ComesTo, has_changed}
 use Rattle.krill_top.specs.Replies.{IsBlank, IsToldSo, memory_text, bad_line_text, outcome_text, is_change, publish_text, CommandedIn, CommandText, PublishText, SaidText, IsReadText, IsText, IsToldOr, IsFaultText, IsTextIn, IsReply}
 use Rattle.krill_top.specs.inner.Instances.{TimedInstance, IsInState, Moves, MovesTimed, MayText, MayReply}
 use Rattle.krill_top.proofs.Standing.{set_same}
@@ -37,53 +37,51 @@ unchanged_desks None command signers refusal before after is = is.1
 unchanged_desks (Some number) command signers refusal before after is =
     is.put ∙ ap (λ (s : DeskState). slice_set before number s) is.changes.same ∙ set_same before number is.was is.found
 
-same_state : (before after : InstanceState) → after.site ≡ before.site → after.desk_states ≡ before.desk_states → after.editions ≡ before.editions → after.calls ≡ before.calls → after.signers ≡ before.signers → after ≡ before
-same_state before after site desk_states editions calls signers = λ i. record { site = site i; desk_states = desk_states i; editions = editions i; calls = calls i; signers = signers i }
-
 unchanged : (name : List ℕ) (command : Command) (refusal : Refusal) (before after : InstanceState) → CommandedIn name command (Verdict refusal) before after → after ≡ before
 unchanged name command refusal before after is =
-    same_state before after is.same_site (unchanged_desks (desk_named before.desk_states name) command (length before.signers) refusal before.desk_states after.desk_states is.commanded) is.same_editions is.same_calls is.same_signers
+    is.same ∙ ap (λ (d : DeskStates). record before { desk_states = d })
+    (unchanged_desks (desk_named before.desk_states name) command (length before.signers) refusal before.desk_states after.desk_states is.commanded)
 
 abbrev failed : LineFault → Result Line LineFault
 failed fault = Err fault
 
-module _ {D : Type 0} (disk_of : DiskGhosts D) where
-  pub told_or_memory : (P : TimedInstanceState → List ℕ → Bool → TimedInstanceState → Type 0) (timed : TimedInstance D) (told : List ℕ)
-      → ((before : InstanceState) → IsInState timed.instance before → P (at_clock timed.clock before) told false (at_clock timed.clock before)) ⊎ (told ≡ memory_text)
-      → MovesTimed disk_of (λ b a. IsToldOr P b told false a) timed timed
-  told_or_memory P timed told is = stay_timed disk_of (λ b a. IsToldOr P b told false a) timed (λ before stands. elim is [
+module _ {D O : Type 0} (disk_of : DiskGhosts D) (outlet_of : OutletGhosts O) where
+  pub told_or_memory : (P : TimedInstanceState → List ℕ → Bool → TimedInstanceState → Type 0) (timed : TimedInstance D O) (told : List ℕ)
+      → ((before : InstanceState) → IsInState outlet_of timed.instance before → P (at_clock timed.clock before) told false (at_clock timed.clock before)) ⊎ (told ≡ memory_text)
+      → MovesTimed disk_of outlet_of (λ b a. IsToldOr P b told false a) timed timed
+  told_or_memory P timed told is = stay_timed disk_of outlet_of (λ b a. IsToldOr P b told false a) timed (λ before stands. elim is [
     | inl so ↦ inl (so before stands)
     | inr memory ↦ inr (record { text_is = memory; unchanged = refl; same = refl })
   ])
 
   -- ---- a command
 
-  module _ (name : List ℕ) (command : Command) (text : List ℕ) (old new : TimedInstance D) (same_clock : new.clock ≡ old.clock) where
+  module _ (name : List ℕ) (command : Command) (text : List ℕ) (old new : TimedInstance D O) (same_clock : new.clock ≡ old.clock) where
     -- it comes to an outcome, and gets that text
     told_outcome : (outcome : Outcome) (changed : Bool) → text ≡ outcome_text name outcome → changed ≡ is_change outcome
-        → Moves disk_of (λ b a. CommandedIn name command outcome b a) old.instance new.instance
-        → MovesTimed disk_of (λ b a. IsToldOr (CommandText name command) b text changed a) old new
+        → Moves disk_of outlet_of (λ b a. CommandedIn name command outcome b a) old.instance new.instance
+        → MovesTimed disk_of outlet_of (λ b a. IsToldOr (CommandText name command) b text changed a) old new
     told_outcome outcome changed is so moves =
-        moves_at disk_of (λ b a. CommandedIn name command outcome b a) (λ b a. IsToldOr (CommandText name command) b text changed a) old new moves
+        moves_at disk_of outlet_of (λ b a. CommandedIn name command outcome b a) (λ b a. IsToldOr (CommandText name command) b text changed a) old new moves
         (λ before after comes. inl (record { outcome = outcome; comes = comes; same_clock = same_clock; text_is = is; changed_is = so }))
 
-    pub accepted_text : (count : ℕ) → text ≡ accepted_spelling name count → Moves disk_of (λ b a. CommandedIn name command (Accepted count) b a) old.instance new.instance
-        → MovesTimed disk_of (λ b a. IsToldOr (CommandText name command) b text true a) old new
+    pub accepted_text : (count : ℕ) → text ≡ accepted_spelling name count → Moves disk_of outlet_of (λ b a. CommandedIn name command (Accepted count) b a) old.instance new.instance
+        → MovesTimed disk_of outlet_of (λ b a. IsToldOr (CommandText name command) b text true a) old new
     accepted_text count is moves = told_outcome (Accepted count) true is refl moves
 
     -- a refused command changes nothing, and its text may find no memory
-    untold : (refusal : Refusal) (changed : Bool) → text ≡ memory_text → changed ≡ is_change (Verdict refusal) → Moves disk_of (λ b a. CommandedIn name command (Verdict refusal) b a) old.instance new.instance
-        → MovesTimed disk_of (λ b a. IsToldOr (CommandText name command) b text changed a) old new
+    untold : (refusal : Refusal) (changed : Bool) → text ≡ memory_text → changed ≡ is_change (Verdict refusal) → Moves disk_of outlet_of (λ b a. CommandedIn name command (Verdict refusal) b a) old.instance new.instance
+        → MovesTimed disk_of outlet_of (λ b a. IsToldOr (CommandText name command) b text changed a) old new
     untold refusal changed memory so moves =
-        moves_at disk_of (λ b a. CommandedIn name command (Verdict refusal) b a) (λ b a. IsToldOr (CommandText name command) b text changed a) old new moves
+        moves_at disk_of outlet_of (λ b a. CommandedIn name command (Verdict refusal) b a) (λ b a. IsToldOr (CommandText name command) b text changed a) old new moves
         (λ before after comes. inr (record { text_is = memory; unchanged = so; same = same_timed before after (unchanged name command refusal before after comes) }))
       where
         same_timed : (before after : InstanceState) → after ≡ before → at_clock new.clock after ≡ at_clock old.clock before
         same_timed before after same = λ i. record { state = same i; clock = same_clock i }
 
     pub fault_text : (fault : CommandFault D) (changed : Bool) → IsFaultText name fault text → changed ≡ is_change (fault_outcome fault)
-        → Moves disk_of (λ b a. CommandedIn name command (fault_outcome fault) b a) old.instance new.instance
-        → MovesTimed disk_of (λ b a. IsToldOr (CommandText name command) b text changed a) old new
+        → Moves disk_of outlet_of (λ b a. CommandedIn name command (fault_outcome fault) b a) old.instance new.instance
+        → MovesTimed disk_of outlet_of (λ b a. IsToldOr (CommandText name command) b text changed a) old new
     fault_text faults.NoSuchAuthority changed is so moves = told_outcome (fault_outcome {D = D} faults.NoSuchAuthority) changed is so moves
     fault_text (faults.Shut rose) changed is so moves = told_outcome (fault_outcome {D = D} (faults.Shut rose)) changed is so moves
     fault_text (faults.JournalFull held needed) changed is so moves = told_outcome (fault_outcome {D = D} (faults.JournalFull held needed)) changed is so moves
@@ -96,18 +94,18 @@ module _ {D : Type 0} (disk_of : DiskGhosts D) where
 
   -- ---- a publication
 
-  pub publish_told : (clock : ℕ) (outcome : Publication) (text : List ℕ) (changed : Bool) (old new : TimedInstance D) → IsReading old.clock clock new.clock
-      → text ≡ publish_text outcome → changed ≡ has_published outcome → Moves disk_of (λ b a. ComesTo clock outcome b a) old.instance new.instance
-      → MovesTimed disk_of (λ b a. PublishText b text changed a) old new
+  pub publish_told : (clock : ℕ) (outcome : Publication) (text : List ℕ) (changed : Bool) (old new : TimedInstance D O) → IsReading old.clock clock new.clock
+      → text ≡ publish_text outcome → changed ≡ has_changed outcome → Moves disk_of outlet_of (λ b a. ComesTo clock outcome b a) old.instance new.instance
+      → MovesTimed disk_of outlet_of (λ b a. PublishText b text changed a) old new
   publish_told clock outcome text changed old new read is so moves =
-      moves_at disk_of (λ b a. ComesTo clock outcome b a) (λ b a. PublishText b text changed a) old new moves
+      moves_at disk_of outlet_of (λ b a. ComesTo clock outcome b a) (λ b a. PublishText b text changed a) old new moves
       (λ before after comes. record { clock = clock; read = read; outcome = outcome; comes = comes; text_is = is; changed_is = so })
 
   -- ---- a read
 
-  pub read_text : {E : Type 0} (IsRight : InstanceState → List ℕ → Type 0) (timed : TimedInstance D) (result : Result (Vec ℕ Global) E) (told : List ℕ)
-      → IfOk result (λ text. (state : InstanceState) → IsInState timed.instance state → IsRight state text.items) → IsTextIn result told ⊎ (told ≡ memory_text)
-      → MovesTimed disk_of (λ b a. IsToldOr (λ before text changed after. IsToldSo (IsRight before.state) before text changed after) b told false a) timed timed
+  pub read_text : {E : Type 0} (IsRight : InstanceState → List ℕ → Type 0) (timed : TimedInstance D O) (result : Result (Vec ℕ Global) E) (told : List ℕ)
+      → IfOk result (λ text. (state : InstanceState) → IsInState outlet_of timed.instance state → IsRight state text.items) → IsTextIn result told ⊎ (told ≡ memory_text)
+      → MovesTimed disk_of outlet_of (λ b a. IsToldOr (λ before text changed after. IsToldSo (IsRight before.state) before text changed after) b told false a) timed timed
   read_text IsRight timed (Ok text) told is said =
       told_or_memory (λ before told changed after. IsToldSo (IsRight before.state) before told changed after) timed told (elim said [
         | inl same ↦ inl (λ before stands. record { text_is = subst (λ (t : List ℕ). IsRight before t) (sym same) (is before stands); unchanged = refl; same = refl })
@@ -121,40 +119,40 @@ module _ {D : Type 0} (disk_of : DiskGhosts D) where
 
   -- ---- a line
 
-  pub said_text : (old new : TimedInstance D) (line : List ℕ) (said : Line) (text : List ℕ) (changed : Bool) → ReadsLine line (Ok said)
-      → MovesTimed disk_of (λ b a. IsToldOr (SaidText said) b text changed a) old new → MayText disk_of old line text changed new
+  pub said_text : (old new : TimedInstance D O) (line : List ℕ) (said : Line) (text : List ℕ) (changed : Bool) → ReadsLine line (Ok said)
+      → MovesTimed disk_of outlet_of (λ b a. IsToldOr (SaidText said) b text changed a) old new → MayText disk_of outlet_of old line text changed new
   said_text old new line said text changed reads moves =
-      timed_so disk_of (λ b a. IsToldOr (SaidText said) b text changed a) (λ b a. IsText line b text changed a) old new moves
+      timed_so disk_of outlet_of (λ b a. IsToldOr (SaidText said) b text changed a) (λ b a. IsText line b text changed a) old new moves
       (λ before after is. elim is [
         | inl told ↦ inl (record { said = Ok said; reads = reads; answer = told })
         | inr memory ↦ inr memory
       ])
 
-  pub line_fault_text : (old : TimedInstance D) (line : List ℕ) (fault : LineFault) (text : List ℕ) → (¬ (failed fault ≡ failed Memory) → ReadsLine line (Err fault))
-      → (text ≡ fault_spelling fault) ⊎ (text ≡ memory_text) → MayText disk_of old line text false old
+  pub line_fault_text : (old : TimedInstance D O) (line : List ℕ) (fault : LineFault) (text : List ℕ) → (¬ (failed fault ≡ failed Memory) → ReadsLine line (Err fault))
+      → (text ≡ fault_spelling fault) ⊎ (text ≡ memory_text) → MayText disk_of outlet_of old line text false old
   line_fault_text old line fault text reads is = told_or_memory (IsReadText line) old text (elim is [
     | inl told ↦ of_fault fault reads told
     | inr memory ↦ inr memory
   ])
     where
       of_fault : (fault : LineFault) → (¬ (failed fault ≡ failed Memory) → ReadsLine line (Err fault)) → text ≡ fault_spelling fault
-          → ((before : InstanceState) → IsInState old.instance before → IsReadText line (at_clock old.clock before) text false (at_clock old.clock before)) ⊎ (text ≡ memory_text)
+          → ((before : InstanceState) → IsInState outlet_of old.instance before → IsReadText line (at_clock old.clock before) text false (at_clock old.clock before)) ⊎ (text ≡ memory_text)
       of_fault Memory reads told = inr told
       of_fault BadLine reads told = inl (λ before stands. record { said = Err BadLine; reads = reads (λ e. cc); answer = record { text_is = told; unchanged = refl; same = refl } })
       of_fault UnknownCommand reads told = inl (λ before stands. record { said = Err UnknownCommand; reads = reads (λ e. cc); answer = record { text_is = told; unchanged = refl; same = refl } })
       of_fault (BadField name) reads told = inl (λ before stands. record { said = Err (BadField name); reads = reads (λ e. cc); answer = record { text_is = told; unchanged = refl; same = refl } })
 
-  pub blank_replies : (old : TimedInstance D) (line : List ℕ) → IsBlank line → MayReply disk_of old line [] false old
-  blank_replies old line blank = stay_timed disk_of (λ b a. IsReply b line [] false a) old
+  pub blank_replies : (old : TimedInstance D O) (line : List ℕ) → IsBlank line → MayReply disk_of outlet_of old line [] false old
+  blank_replies old line blank = stay_timed disk_of outlet_of (λ b a. IsReply b line [] false a) old
       (λ before stands. inl (blank, record { text_is = refl; unchanged = refl; same = refl }))
 
-  pub text_replies : (old new : TimedInstance D) (line text : List ℕ) (changed : Bool) → ¬ IsBlank line → MayText disk_of old line text changed new → MayReply disk_of old line (text ++ 10 ∷ []) changed new
+  pub text_replies : (old new : TimedInstance D O) (line text : List ℕ) (changed : Bool) → ¬ IsBlank line → MayText disk_of outlet_of old line text changed new → MayReply disk_of outlet_of old line (text ++ 10 ∷ []) changed new
   text_replies old new line text changed not_blank moves =
-      timed_so disk_of (λ b a. IsText line b text changed a) (λ b a. IsReply b line (text ++ 10 ∷ []) changed a) old new moves
+      timed_so disk_of outlet_of (λ b a. IsText line b text changed a) (λ b a. IsReply b line (text ++ 10 ∷ []) changed a) old new moves
       (λ before after is. inr (record { not_blank = not_blank; text = text; reply_is = refl; answer = is }))
 
   -- a line above the limit is neither blank nor a line of the table
-  pub long_replies : (old : TimedInstance D) (line : List ℕ) → LINE_LIMIT < length line → MayReply disk_of old line (bad_line_text ++ 10 ∷ []) false old
+  pub long_replies : (old : TimedInstance D O) (line : List ℕ) → LINE_LIMIT < length line → MayReply disk_of outlet_of old line (bad_line_text ++ 10 ∷ []) false old
   long_replies old line long =
       let none : (value : _) → ¬ IsDocument line value = λ value is. omega (arith, is.short, long) in
       let not_blank : ¬ IsBlank line = λ blank. omega (arith, blank.short, long) in
@@ -163,30 +161,30 @@ module _ {D : Type 0} (disk_of : DiskGhosts D) where
       record { said = Err BadLine; reads = inr (none, refl); answer = record { text_is = refl; unchanged = refl; same = refl } })))
 
   -- a line that says this, said by its kind
-  pub kind_said : (P : TimedInstanceState → List ℕ → Bool → TimedInstanceState → Type 0) (said kind : Line) (old new : TimedInstance D) (text : List ℕ) (changed taken : Bool)
+  pub kind_said : (P : TimedInstanceState → List ℕ → Bool → TimedInstanceState → Type 0) (said kind : Line) (old new : TimedInstance D O) (text : List ℕ) (changed taken : Bool)
       → said ≡ kind → changed ≡ taken → ((before after : TimedInstanceState) → P before text taken after → SaidText kind before text taken after)
-      → MovesTimed disk_of (λ b a. IsToldOr P b text taken a) old new
-      → MovesTimed disk_of (λ b a. IsToldOr (SaidText said) b text changed a) old new
+      → MovesTimed disk_of outlet_of (λ b a. IsToldOr P b text taken a) old new
+      → MovesTimed disk_of outlet_of (λ b a. IsToldOr (SaidText said) b text changed a) old new
   kind_said P said kind old new text changed taken said_is taken_is so moves =
-      subst (λ (k : Bool). MovesTimed disk_of (λ b a. IsToldOr (SaidText said) b text k a) old new) (sym taken_is)
-      (subst (λ (l : Line). MovesTimed disk_of (λ b a. IsToldOr (SaidText l) b text taken a) old new) (sym said_is)
-      (timed_so disk_of (λ b a. IsToldOr P b text taken a) (λ b a. IsToldOr (SaidText kind) b text taken a) old new moves
+      subst (λ (k : Bool). MovesTimed disk_of outlet_of (λ b a. IsToldOr (SaidText said) b text k a) old new) (sym taken_is)
+      (subst (λ (l : Line). MovesTimed disk_of outlet_of (λ b a. IsToldOr (SaidText l) b text taken a) old new) (sym said_is)
+      (timed_so disk_of outlet_of (λ b a. IsToldOr P b text taken a) (λ b a. IsToldOr (SaidText kind) b text taken a) old new moves
       (λ before after answer. elim answer [
         | inl is ↦ inl (so before after is)
         | inr memory ↦ inr memory
       ])))
 
-  pub read_said : {E : Type 0} (said kind : Line) (IsRight : InstanceState → List ℕ → Type 0) (timed : TimedInstance D) (result : Result (Vec ℕ Global) E) (told : List ℕ) (changed : Bool)
+  pub read_said : {E : Type 0} (said kind : Line) (IsRight : InstanceState → List ℕ → Type 0) (timed : TimedInstance D O) (result : Result (Vec ℕ Global) E) (told : List ℕ) (changed : Bool)
       → said ≡ kind → changed ≡ false
       → ((before after : TimedInstanceState) → IsToldSo (IsRight before.state) before told false after → SaidText kind before told false after)
-      → IfOk result (λ text. (state : InstanceState) → IsInState timed.instance state → IsRight state text.items) → IsTextIn result told ⊎ (told ≡ memory_text)
-      → MovesTimed disk_of (λ b a. IsToldOr (SaidText said) b told changed a) timed timed
+      → IfOk result (λ text. (state : InstanceState) → IsInState outlet_of timed.instance state → IsRight state text.items) → IsTextIn result told ⊎ (told ≡ memory_text)
+      → MovesTimed disk_of outlet_of (λ b a. IsToldOr (SaidText said) b told changed a) timed timed
   read_said said kind IsRight timed result told changed said_is none so is given =
       kind_said (λ before text taken after. IsToldSo (IsRight before.state) before text taken after) said kind timed timed told changed false said_is none so
       (read_text IsRight timed result told is given)
 
   -- what is said for sure
-  pub surely : (P : TimedInstanceState → List ℕ → Bool → TimedInstanceState → Type 0) (old new : TimedInstance D) (text : List ℕ) (changed : Bool)
-      → MovesTimed disk_of (λ b a. P b text changed a) old new → MovesTimed disk_of (λ b a. IsToldOr P b text changed a) old new
+  pub surely : (P : TimedInstanceState → List ℕ → Bool → TimedInstanceState → Type 0) (old new : TimedInstance D O) (text : List ℕ) (changed : Bool)
+      → MovesTimed disk_of outlet_of (λ b a. P b text changed a) old new → MovesTimed disk_of outlet_of (λ b a. IsToldOr P b text changed a) old new
   surely P old new text changed moves =
-      timed_so disk_of (λ b a. P b text changed a) (λ b a. IsToldOr P b text changed a) old new moves (λ before after is. inl is)
+      timed_so disk_of outlet_of (λ b a. P b text changed a) (λ b a. IsToldOr P b text changed a) old new moves (λ before after is. inl is)

@@ -7,7 +7,10 @@ pub mod Commanding
 pub mod Lists
 pub mod Since
 pub mod Named
+pub mod Pressed
 pub mod Publishing
+pub mod Exporting
+pub mod Telling
 pub mod FirstInstanceState
 pub mod Reading
 pub mod Answering

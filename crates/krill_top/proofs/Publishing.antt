@@ -1,8 +1,9 @@
 -- What the instance's calls make of it.
-use Rattle.std.proofs.Common.{◌≡◌, ℕ, suc, ◌+◌, ◌≤◌, ◌<◌, true, List, [], ◌∷◌, ◌++◌, length, get_or, refl, sym, ◌∙◌, ap, subst, arith, inl, inr}
-use Rattle.std.specs.Prelude.{◌⊎◌, All, Some, slice_get}
-use Rattle.std.proofs.lemmas.List.{length-map}
+use Rattle.std.proofs.Common.{◌≡◌, ◌≢◌, ℕ, suc, ◌+◌, ◌≤◌, ◌<◌, List, [], ◌∷◌, ◌++◌, length, get_or, refl, sym, ◌∙◌, ap, subst, arith, inl, inr}
+use Rattle.std.specs.Prelude.{◌⊎◌, All, Option, None, Some, IfSome, Ok, Err, slice_get}
+use Rattle.std.proofs.lemmas.List.{length-map, length-append}
 use Rattle.disk_api.specs.declared.disk.Disk.{Ghosts as DiskGhosts}
+use Rattle.outlet_api.specs.declared.outlet.Outlet.{Ghosts as OutletGhosts}
 use Rattle.authority_book.specs.declared.commands.Command.{Command}
 use Rattle.authority_book.specs.declared.rows.NameRow.{NameRow}
 use Rattle.authority_book.specs.Settings.{Settings}
@@ -11,7 +12,7 @@ use Rattle.entitle.specs.Owed.{AreOwed}
 use Rattle.cmd_codec.specs.Spelling.{spelling}
 use Rattle.desk_core.specs.View.{View}
 use Rattle.signer_api.specs.State.{SignerState}
-use Rattle.signer_ring.specs.Ring.{AllTell, Keeps}
+use Rattle.signer_ring.specs.Ring.{Keeps}
 use Rattle.signer_ring.specs.Calls.{Call}
 use Rattle.editions.specs.inner.Vouched.{IsVouchedBy}
 use Rattle.rp_rules.specs.Certificates.{Vouched}
@@ -29,7 +30,6 @@ use Rattle.editions.specs.Sheets.{sheet_of}
 use Rattle.editions.specs.Ended.{ended_keys}
 use Rattle.editions.specs.Gathering.{configs_with, cut_with, AreNextCommands, AreGathered, AreAccepted}
 use Rattle.press_core.specs.declared.fault.PressFault.{PressFault}
-use Rattle.press_core.specs.declared.fault.PressFault.TheVariants.{Memory}
 use Rattle.press_core.specs.Press.{PressValue, DropsEach}
 use Rattle.press_core.specs.Signers.{HasAllVouched, HoldKeys}
 use Rattle.press_core.specs.PrepareInput.{PrepareInput, start_of}
@@ -39,13 +39,17 @@ use Rattle.press_core.specs.Stands.{IsLeftBy, StandsFor}
 use Rattle.press_core.specs.Follows.{AreBehind, Follows, edition_of}
 use Rattle.press_core.specs.Faults.{IsPressFault}
 use Rattle.krill_top.specs.DeskStates.{most_desks, commands_of, names_in}
-use Rattle.krill_top.specs.InstanceState.{InstanceState, lists_of, premises_of, AreVouchedIn, HasAllOf, VouchForCalls}
+use Rattle.krill_top.specs.InstanceState.{InstanceState, lists_of, premises_of, repository_in, AreVouchedIn, VouchForCalls, IsCoherentIn}
+use Rattle.key_ids.specs.Uris.{Bases}
+use Rattle.outlet_api.specs.Calls.{Files}
+use Rattle.rrdp_state.specs.Exported.{Repository}
+use Rattle.press_core.specs.declared.last_export.LastExport.{LastExport}
+use Rattle.press_core.specs.Exports.{IsCoherent, ShowsEdition, ShowsLast}
 use Rattle.krill_top.specs.Outcomes.{Outcome, Commanded}
 use Rattle.notice_board.specs.declared.sheets.Sheet.{Sheet}
 use Rattle.krill_top.specs.inner.Gathered.{AreSince}
 use Rattle.krill_top.specs.inner.Pressing.{IsPressed, IsNotPressed}
-use Rattle.krill_top.specs.Publishing.{TakesAll, IsAtPress, IsSoundStep, Publishes, IsUnasked, IsMetBy, ComesTo}
-use Rattle.krill_top.specs.declared.publication.Publication.TheVariants as publication
+use Rattle.krill_top.specs.Publishing.{TakesAll, IsAtPress, Publishes, IsUnasked, IsMetBy, MakesOrNot}
 use Rattle.krill_top.specs.Replies.{CommandedIn}
 use Rattle.krill_top.specs.DesksInStates.{Leads}
 use Rattle.krill_top.specs.inner.Instances.{InstanceValue, IsInState, IsInstance, Moves}
@@ -72,6 +76,19 @@ abbrev pub VouchLaw : Type 0
 VouchLaw = (start : PrepareInput) (ring : List SignerState) (prepared : NextValue) (is : IsPrepared start ring prepared) (vouched : Vouched)
     → HasAllVouched vouched ring → All (IsVouchedBy vouched) (calls_for start ring prepared is)
 
+-- What an outlet shows it still shows when there are more editions.
+abbrev pub CoherentLaw : Type 0
+CoherentLaw = (repository : Repository) (editions : List Edition) (edition : Edition) (files : Files)
+    → IsCoherent repository editions files → IsCoherent repository (editions ++ edition ∷ []) files
+
+abbrev pub ShownLaw : Type 0
+ShownLaw = (session : List ℕ) (site : Bases) (editions : List Edition) (edition : Edition) (last : LastExport) (files : Option Files)
+    → ShowsLast (ShowsEdition session site) editions last files → ShowsLast (ShowsEdition session site) (editions ++ edition ∷ []) last files
+
+if_some_so : {A : Type 0} (o : Option A) (P Q : A → Type 0) → IfSome o P → ((x : A) → P x → Q x) → IfSome o Q
+if_some_so None P Q is so = tt
+if_some_so (Some x) P Q is so = so x is
+
 pub hold_same : (signers : List SignerState) → HoldKeys signers signers
 hold_same signers number before key there among = (before, there, among)
 
@@ -80,16 +97,16 @@ configs_long desk [] cut = refl
 configs_long desk (list ∷ lists) [] = ap suc (configs_long (desk + 1) lists [])
 configs_long desk (list ∷ lists) (n ∷ cut) = ap suc (configs_long (desk + 1) lists cut)
 
-module _ {D : Type 0} where
+module _ {D O : Type 0} (outlet_of : OutletGhosts O) where
   -- the instance stays one
-  pub instance_on : (disk_of : DiskGhosts D) (P : InstanceState → InstanceState → Type 0) (old new : InstanceValue D) → Moves disk_of P old new → IsInstance old → IsInstance new
+  pub instance_on : (disk_of : DiskGhosts D) (P : InstanceState → InstanceState → Type 0) (old new : InstanceValue D O) → Moves disk_of outlet_of P old new → IsInstance outlet_of old → IsInstance outlet_of new
   instance_on disk_of P old new moves is =
       let arrived = moves is.state is.stands in
       record { state = arrived.after; stands = arrived.stands }
 
   -- ---- what stands in a state
 
-  pub sound_in : (instance : InstanceValue D) (state : InstanceState) → IsInState instance state → Sound instance.desks state.desk_states instance.press.at.cut
+  pub sound_in : (instance : InstanceValue D O) (state : InstanceState) → IsInState outlet_of instance state → Sound instance.desks state.desk_states instance.press.at.cut
   sound_in instance state stands = record {
     all = stands.desks;
     one_each = as_many instance.desks state.desk_states stands.desks ∙ sym (lists_long state.desk_states) ∙ stands.left.desks;
@@ -97,7 +114,7 @@ module _ {D : Type 0} where
   }
 
   -- the cut is within what the desks have
-  pub within_records : (instance : InstanceValue D) (state : InstanceState) → IsInState instance state → (number : ℕ) (desk : View D) → slice_get instance.desks number ≡ Some desk
+  pub within_records : (instance : InstanceValue D O) (state : InstanceState) → IsInState outlet_of instance state → (number : ℕ) (desk : View D) → slice_get instance.desks number ≡ Some desk
       → get_or instance.press.at.cut number 0 ≤ length desk.records
   within_records instance state stands number desk here =
       let at : At state.desk_states number desk = at_place instance.desks state.desk_states number desk stands.desks here in
@@ -107,21 +124,27 @@ module _ {D : Type 0} where
 
   -- ---- nothing is published
 
-  abbrev asked : InstanceValue D → List SignerState → InstanceValue D
+  abbrev asked : InstanceValue D O → List SignerState → InstanceValue D O
   asked instance ring = record instance { press = record instance.press { ring = ring } }
 
-  same_count : (instance : InstanceValue D) (ring : List SignerState) (before : InstanceState) → Keeps instance.press.ring ring → IsInState instance before → length before.signers ≡ length ring
+  same_count : (instance : InstanceValue D O) (ring : List SignerState) (before : InstanceState) → Keeps instance.press.ring ring → IsInState outlet_of instance before → length before.signers ≡ length ring
   same_count instance ring before kept stands = ap length (sym stands.ring) ∙ sym kept.count
 
-  stands_asked : (instance : InstanceValue D) (ring : List SignerState) (before : InstanceState) → Keeps instance.press.ring ring → IsInState instance before
-      → IsInState (asked instance ring) (record before { signers = ring })
+  stands_asked : (instance : InstanceValue D O) (ring : List SignerState) (before : InstanceState) → Keeps instance.press.ring ring → IsInState outlet_of instance before
+      → IsInState outlet_of (asked instance ring) (record before { signers = ring })
   stands_asked instance ring before kept stands =
       let count = same_count instance ring before kept stands in
       record {
         desks = stands.desks;
         left = stands.left;
         stands = stands.stands;
+        serial = stands.serial;
+        files = stands.files;
         site = stands.site;
+        session = stands.session;
+        exported = stands.exported;
+        outlet = stands.outlet;
+        shows = stands.shows;
         ring = refl;
         kept = stands.kept;
         one_each = stands.one_each;
@@ -131,21 +154,19 @@ module _ {D : Type 0} where
         name_signers = subst (λ (n : ℕ). All (λ (name : NameRow). name.signer < n) (names_in before.desk_states)) count stands.name_signers;
       }
 
-  pub not_published : (disk_of : DiskGhosts D) (clock : ℕ) (fault : PressFault) (old new : InstanceValue D) (ring : List SignerState) → new ≡ asked old ring
+  pub not_published : (disk_of : DiskGhosts D) (clock : ℕ) (fault : PressFault) (old new : InstanceValue D O) (ring : List SignerState) → new ≡ asked old ring
       → Keeps old.press.ring ring → HoldKeys old.press.ring ring
-      → ((before : InstanceState) → IsInState old before → IsUnasked fault before (record before { signers = ring }) ⊎ IsMetBy clock fault before (record before { signers = ring }))
-      → Moves disk_of (λ b a. ComesTo clock (publication.Refused fault) b a) old new
+      → ((before : InstanceState) → IsInState outlet_of old before → IsUnasked fault before (record before { signers = ring }) ⊎ IsMetBy clock fault before (record before { signers = ring }))
+      → Moves disk_of outlet_of (λ b a. MakesOrNot clock (Err fault) b a) old new
   not_published disk_of clock fault old new ring same kept held cause =
-      subst (λ (o : InstanceValue D). Moves disk_of (λ b a. ComesTo clock (publication.Refused fault) b a) old o) (sym same) (λ before stands.
+      subst (λ (o : InstanceValue D O). Moves disk_of outlet_of (λ b a. MakesOrNot clock (Err fault) b a) old o) (sym same) (λ before stands.
       let keeps : Keeps before.signers ring = subst (λ (s : List SignerState). Keeps s ring) stands.ring kept in
       record {
         after = record before { signers = ring };
         same_site = refl;
+        same_session = refl;
         step = record {
-          same_site = refl;
-          same_desks = refl;
-          same_editions = refl;
-          same_calls = refl;
+          same = refl;
           kept = keeps;
           held = subst (λ (s : List SignerState). HoldKeys s ring) stands.ring held;
           cause = cause before stands;
@@ -154,10 +175,11 @@ module _ {D : Type 0} where
         disks = go_on_same disk_of old.desks before.desk_states stands.desks;
         kept = keeps;
         vouch = λ tell vouched has all. all;
+        coherent = λ is. is;
       })
 
   -- the press as it stands in the state
-  pub at_press : (old : InstanceValue D) (groups : List Gathered) (before : InstanceState) → AreSince 0 old.desks old.press.at.cut groups → IsInState old before
+  pub at_press : (old : InstanceValue D O) (groups : List Gathered) (before : InstanceState) → AreSince 0 old.desks old.press.at.cut groups → IsInState outlet_of old before
       → IsAtPress old.press groups before
   at_press old groups before since stands =
       let sound = sound_in old before stands in
@@ -170,8 +192,8 @@ module _ {D : Type 0} where
       }
 
   -- a press met why
-  pub met_by : (clock : ℕ) (fault : PressFault) (old : InstanceValue D) (groups : List Gathered) (ring : List SignerState) (before : InstanceState)
-      → AreSince 0 old.desks old.press.at.cut groups → IsPressFault (start_of old.press clock groups) ring fault → IsInState old before
+  pub met_by : (clock : ℕ) (fault : PressFault) (old : InstanceValue D O) (groups : List Gathered) (ring : List SignerState) (before : InstanceState)
+      → AreSince 0 old.desks old.press.at.cut groups → IsPressFault (start_of old.press clock groups) ring fault → IsInState outlet_of old before
       → IsMetBy clock fault before (record before { signers = ring })
   met_by clock fault old groups ring before since met stands = record {
     press = old.press;
@@ -182,21 +204,21 @@ module _ {D : Type 0} where
 
   -- ---- what a press asks for
 
-  pub gathered_right : (old : InstanceValue D) (groups : List Gathered) → AreSince 0 old.desks old.press.at.cut groups → AreGathered old.press.at.cut groups
+  pub gathered_right : (old : InstanceValue D O) (groups : List Gathered) → AreSince 0 old.desks old.press.at.cut groups → AreGathered old.press.at.cut groups
   gathered_right old groups since = are_gathered old.desks old.press.at.cut groups since
 
-  pub accepted_right : (old : InstanceValue D) (groups : List Gathered) → IsInstance old → AreSince 0 old.desks old.press.at.cut groups → AreAccepted old.press.at.configs groups
+  pub accepted_right : (old : InstanceValue D O) (groups : List Gathered) → IsInstance outlet_of old → AreSince 0 old.desks old.press.at.cut groups → AreAccepted old.press.at.configs groups
   accepted_right old groups is since =
       let stands = is.stands in
       let sound = sound_in old is.state stands in
       they_are_accepted old.desks is.state.desk_states old.press.at.cut groups old.press.at.configs sound since stands.left.configs
       (ap length stands.left.configs ∙ configs_long 0 (lists_of is.state.desk_states) old.press.at.cut ∙ stands.left.desks)
 
-  pub live_signers_right : (old : InstanceValue D) → IsInstance old → All (λ (row : KeyRow). row.signer < length old.press.ring) old.press.at.rows
+  pub live_signers_right : (old : InstanceValue D O) → IsInstance outlet_of old → All (λ (row : KeyRow). row.signer < length old.press.ring) old.press.at.rows
   live_signers_right old is =
       subst (λ (s : List SignerState). All (λ (row : KeyRow). row.signer < length s) old.press.at.rows) (sym is.stands.ring) is.stands.live_signers
 
-  names_at_cut : (old : InstanceValue D) (groups : List Gathered) (state : InstanceState) → CutsGoOn → IsInState old state → AreSince 0 old.desks old.press.at.cut groups
+  names_at_cut : (old : InstanceValue D O) (groups : List Gathered) (state : InstanceState) → CutsGoOn → IsInState outlet_of old state → AreSince 0 old.desks old.press.at.cut groups
       → 0 < length old.desks → names_of (configs_with old.press.at.configs groups) ≡ names_in state.desk_states
   names_at_cut old groups state go stands since some =
       let sound = sound_in old state stands in
@@ -206,16 +228,16 @@ module _ {D : Type 0} where
       ∙ ap names_of (go (lists_of state.desk_states) old.press.at.cut groups (sym stands.left.desks) on)
       ∙ names_now state.desk_states (cut_with old.press.at.cut groups) takes (omega (arith, some, as_many old.desks state.desk_states stands.desks))
 
-  pub cut_long : (old : InstanceValue D) → IsInstance old → length old.press.at.cut ≡ most_desks
+  pub cut_long : (old : InstanceValue D O) → IsInstance outlet_of old → length old.press.at.cut ≡ most_desks
   cut_long old is = is.stands.one_each
 
-  pub some_desks : (old : InstanceValue D) (state : InstanceState) → IsInState old state → 0 < length old.desks
+  pub some_desks : (old : InstanceValue D O) (state : InstanceState) → IsInState outlet_of old state → 0 < length old.desks
   some_desks old state stands = omega (arith, (sound_in old state stands).one_each, stands.one_each)
 
-  pub within_right : (old : InstanceValue D) → IsInstance old → (number : ℕ) (desk : View D) → slice_get old.desks number ≡ Some desk → get_or old.press.at.cut number 0 ≤ length desk.records
+  pub within_right : (old : InstanceValue D O) → IsInstance outlet_of old → (number : ℕ) (desk : View D) → slice_get old.desks number ≡ Some desk → get_or old.press.at.cut number 0 ≤ length desk.records
   within_right old is = within_records old is.state is.stands
 
-  pub name_signers_right : (old : InstanceValue D) (groups : List Gathered) → CutsGoOn → IsInstance old → AreSince 0 old.desks old.press.at.cut groups
+  pub name_signers_right : (old : InstanceValue D O) (groups : List Gathered) → CutsGoOn → IsInstance outlet_of old → AreSince 0 old.desks old.press.at.cut groups
       → All (λ (name : NameRow). name.signer < length old.press.ring) (names_of (configs_with old.press.at.configs groups))
   name_signers_right old groups go is since =
       subst (λ (names : List NameRow). All (λ (name : NameRow). name.signer < length old.press.ring) names) (sym (names_at_cut old groups is.state go is.stands since (some_desks old is.state is.stands)))
@@ -224,11 +246,11 @@ module _ {D : Type 0} where
   -- ---- an edition
 
   -- The instance once an edition was pressed.
-  abbrev pressed : InstanceValue D → PressValue → Sheet → InstanceValue D
+  abbrev pressed : InstanceValue D O → PressValue → Sheet → InstanceValue D O
   pressed old press sheet = record old { press = press; sheet = sheet }
 
-  module _ (law : VouchLaw) (clock : ℕ) (old : InstanceValue D) (press : PressValue) (told : Published) (sheet : Sheet) (done : IsPressed clock old.desks old.press press told sheet)
-      (before : InstanceState) (stands : IsInState old before) where
+  module _ (law : VouchLaw) (still_coherent : CoherentLaw) (still_shown : ShownLaw) (clock : ℕ) (old : InstanceValue D O) (press : PressValue) (told : Published) (sheet : Sheet) (done : IsPressed clock old.desks old.press press told sheet)
+      (before : InstanceState) (stands : IsInState outlet_of old before) where
     abbrev groups : List Gathered
     groups = done.groups
 
@@ -238,7 +260,7 @@ module _ {D : Type 0} where
     abbrev prepared : NextValue
     prepared = done.prepared
 
-    abbrev new : InstanceValue D
+    abbrev new : InstanceValue D O
     new = pressed old press sheet
 
     abbrev edition : Edition
@@ -248,9 +270,7 @@ module _ {D : Type 0} where
     calls = calls_for (start_of old.press clock groups) made prepared done.edition.is_prepared
 
     abbrev after : InstanceState
-    after = record {
-      site = before.site;
-      desk_states = before.desk_states;
+    after = record before {
       editions = before.editions ++ edition ∷ [];
       calls = before.calls ++ calls;
       signers = new.press.ring;
@@ -290,10 +310,7 @@ module _ {D : Type 0} where
       made = made;
       prepared = prepared;
       is_prepared = done.edition.is_prepared;
-      same_site = refl;
-      same_desks = refl;
       one_more = refl;
-      more_calls = refl;
       takes_all = takes;
       numbers = record {
         serial = ap (λ (p : Published). p.serial) done.told_is;
@@ -329,6 +346,10 @@ module _ {D : Type 0} where
     kept_then : Keeps before.signers after.signers
     kept_then = subst (λ (s : List SignerState). Keeps s new.press.ring) stands.ring all_kept
 
+    coherent_then : IsCoherentIn before → IsCoherentIn after
+    coherent_then is = if_some_so before.outlet.files (IsCoherent (repository_in before) before.editions) (IsCoherent (repository_in before) (before.editions ++ edition ∷ [])) is
+        (λ files was. still_coherent (repository_in before) before.editions edition files was)
+
     vouch : VouchForCalls before after
     vouch tell vouched has all =
         let kept : Keeps before.signers made = subst (λ (s : List SignerState). Keeps s made) stands.ring done.kept in
@@ -336,14 +357,23 @@ module _ {D : Type 0} where
         (law (start_of old.press clock groups) made prepared done.edition.is_prepared vouched
         (telling_vouched vouched made (kept.told tell) (has_before vouched made new.press.ring done.still has)))
 
-    stands_then : IsInState new after
+    stands_then : IsInState outlet_of new after
     stands_then =
         let count : length before.signers ≡ length new.press.ring = same_count old new.press.ring before all_kept stands in
         record {
           desks = stands.desks;
           left = subst (λ (s : PublishedStateValue). IsLeftBy (lists_of before.desk_states) (before.editions ++ edition ∷ []) s) (sym done.at) left_then;
           stands = λ vouched all. subst (λ (s : PublishedStateValue). StandsFor (premises_of vouched before) (before.editions ++ edition ∷ []) s) (sym done.at) (follows vouched all).stands;
+          serial =
+              let long : length (before.editions ++ edition ∷ []) ≡ length before.editions + 1 = length-append before.editions (edition ∷ []) in
+              let at : new.press.at.serial ≡ prepared.next.serial = ap (λ (s : PublishedStateValue). s.serial) done.at in
+              omega (arith, long, at, done.edition.is_prepared.next.serial, stands.serial);
+          files = done.files (lists_of before.desk_states) before.editions stands.left stands.files;
           site = done.site ∙ stands.site;
+          session = done.session ∙ stands.session;
+          exported = done.last_export ∙ stands.exported;
+          outlet = stands.outlet;
+          shows = still_shown before.session before.site before.editions edition before.exported before.outlet.files stands.shows;
           ring = refl;
           kept = λ some. subst IsConsistentState (sym done.at) done.edition.is_prepared.next.kept;
           one_each = ap (λ (s : PublishedStateValue). length s.cut) done.at ∙ done.edition.is_prepared.next.kept.cut;
@@ -354,20 +384,32 @@ module _ {D : Type 0} where
           name_signers = subst (λ (n : ℕ). All (λ (name : NameRow). name.signer < n) (names_in before.desk_states)) count stands.name_signers;
         }
 
-  pub published : VouchLaw → (disk_of : DiskGhosts D) (clock : ℕ) (old : InstanceValue D) (press : PressValue) (told : Published) (sheet : Sheet)
-      → IsPressed clock old.desks old.press press told sheet → Moves disk_of (λ b a. ComesTo clock (publication.Published told) b a) old (pressed old press sheet)
-  published law disk_of clock old press told sheet done before stands = record {
-    after = after law clock old press told sheet done before stands;
+  pub published : VouchLaw → CoherentLaw → ShownLaw → (disk_of : DiskGhosts D) (clock : ℕ) (old : InstanceValue D O) (press : PressValue) (told : Published) (sheet : Sheet)
+      → IsPressed clock old.desks old.press press told sheet → Moves disk_of outlet_of (λ b a. MakesOrNot clock (Ok told) b a) old (pressed old press sheet)
+  published law still_coherent still_shown disk_of clock old press told sheet done before stands = record {
+    after = after law still_coherent still_shown clock old press told sheet done before stands;
     same_site = refl;
-    step = publishes law clock old press told sheet done before stands;
-    stands = stands_then law clock old press told sheet done before stands;
+    same_session = refl;
+    step = publishes law still_coherent still_shown clock old press told sheet done before stands;
+    stands = stands_then law still_coherent still_shown clock old press told sheet done before stands;
     disks = go_on_same disk_of old.desks before.desk_states stands.desks;
-    kept = kept_then law clock old press told sheet done before stands;
-    vouch = vouch law clock old press told sheet done before stands;
+    kept = kept_then law still_coherent still_shown clock old press told sheet done before stands;
+    vouch = vouch law still_coherent still_shown clock old press told sheet done before stands;
+    coherent = coherent_then law still_coherent still_shown clock old press told sheet done before stands;
   }
 
-  pub unpublished : (disk_of : DiskGhosts D) (clock : ℕ) (old : InstanceValue D) (press : PressValue) (fault : PressFault) → IsNotPressed clock old.desks old.press press fault
-      → Moves disk_of (λ b a. ComesTo clock (publication.Refused fault) b a) old (record old { press = press })
+  -- the serial of what was pressed
+  pub pressed_serial : (clock : ℕ) (old : InstanceValue D O) (press : PressValue) (told : Published) (sheet : Sheet) → IsPressed clock old.desks old.press press told sheet
+      → (told.serial ≡ press.at.serial) × (press.at.serial ≢ 0)
+  pressed_serial clock old press told sheet done =
+      let at : press.at.serial ≡ done.prepared.next.serial = ap (λ (s : PublishedStateValue). s.serial) done.at in
+      let next = done.edition.is_prepared.next.serial in (
+        ap (λ (p : Published). p.serial) done.told_is ∙ sym at,
+        λ none. absurd (omega (arith, at, next, none)),
+      )
+
+  pub unpublished : (disk_of : DiskGhosts D) (clock : ℕ) (old : InstanceValue D O) (press : PressValue) (fault : PressFault) → IsNotPressed clock old.desks old.press press fault
+      → Moves disk_of outlet_of (λ b a. MakesOrNot clock (Err fault) b a) old (record old { press = press })
   unpublished disk_of clock old press fault is =
       not_published disk_of clock fault old (record old { press = press }) press.ring (ap (λ (p : PressValue). record old { press = p }) is.same) is.kept is.held
       (λ before stands. elim is.cause [
@@ -377,9 +419,9 @@ module _ {D : Type 0} where
 
   -- ---- a command
 
-  pub commanded_moves : (disk_of : DiskGhosts D) (name : List ℕ) (command : Command) (outcome : Outcome) (old : InstanceValue D) (desks : List (View D)) → MoreLeft → MoreStand
+  pub commanded_moves : (disk_of : DiskGhosts D) (name : List ℕ) (command : Command) (outcome : Outcome) (old : InstanceValue D O) (desks : List (View D)) → MoreLeft → MoreStand
       → Leads disk_of (λ b a. Commanded name command old.signers outcome b a) old.desks desks
-      → Moves disk_of (λ b a. CommandedIn name command outcome b a) old (record old { desks = desks })
+      → Moves disk_of outlet_of (λ b a. CommandedIn name command outcome b a) old (record old { desks = desks })
   commanded_moves disk_of name command outcome old desks more_left more leads before stands =
       let goes = leads before.desk_states stands.desks in
       let step : Commanded name command (length before.signers) outcome before.desk_states goes.after = subst (λ (n : ℕ). Commanded name command n outcome before.desk_states goes.after) stands.counted goes.step in
@@ -387,7 +429,8 @@ module _ {D : Type 0} where
       record {
         after = record before { desk_states = goes.after };
         same_site = refl;
-        step = record { commanded = step; same_site = refl; same_editions = refl; same_calls = refl; same_signers = refl };
+        same_session = refl;
+        step = record { commanded = step; same = refl };
         stands = record {
           desks = goes.stands;
           left = more_left (lists_of before.desk_states) (lists_of goes.after) before.editions old.press.at grow stands.left;
@@ -396,7 +439,13 @@ module _ {D : Type 0} where
             site = refl;
             vouched = λ key digest signature is. is;
           }) (stands.stands vouched all);
+          serial = stands.serial;
+          files = stands.files;
           site = stands.site;
+          session = stands.session;
+          exported = stands.exported;
+          outlet = stands.outlet;
+          shows = stands.shows;
           ring = stands.ring;
           kept = stands.kept;
           one_each = stands.one_each;
@@ -408,4 +457,5 @@ module _ {D : Type 0} where
         disks = goes.disks;
         kept = keeps_same before.signers;
         vouch = vouch_same before;
+        coherent = λ is. is;
       }

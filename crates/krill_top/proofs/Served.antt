@@ -1,6 +1,6 @@
 -- A run over all desks, from what opening found, what the session did, and what closing leaves.
-use Rattle.std.proofs.Common.{◌≡◌, ℕ, zero, suc, ◌+◌, ◌≤◌, List, [], ◌∷◌, length, map, refl, sym, ◌∙◌, ap, subst, inl, inr, arith}
-use Rattle.std.specs.Prelude.{Option, None, Some, IfSome, slice_get, ⊤}
+use Rattle.std.proofs.Common.{◌≡◌, ℕ, zero, suc, ◌+◌, ◌≤◌, List, [], ◌∷◌, length, map, refl, sym, ◌∙◌, ap, subst, arith}
+use Rattle.std.specs.Prelude.{Bool, Option, None, Some, Result, IfSome, slice_get, ⊤}
 use Rattle.std.specs.Option.{option_map}
 use Rattle.host_calls.specs.Rise.{HasRisen}
 use Rattle.disk_api.specs.declared.disk.Disk.{Ghosts as DiskGhosts}
@@ -19,14 +19,20 @@ use Rattle.krill_top.specs.DeskStates.{DeskStates, DeskState}
 use Rattle.signer_api.specs.State.{SignerState}
 use Rattle.krill_top.specs.declared.faults.OpenFault.{OpenFault}
 use Rattle.krill_top.specs.DeskStates.{names_in}
-use Rattle.krill_top.specs.InstanceState.{InstanceState, first_state}
-use Rattle.krill_top.specs.DesksInStates.{IsIn, InAt, AreIn, all_stored, DeskGoesOn, DeskGoesOnAt}
-use Rattle.krill_top.specs.inner.Instances.{InstanceValue, TimedInstance, IsInState}
-use Rattle.krill_top.specs.Statuses.{run_status, fault_of}
+use Rattle.krill_top.specs.InstanceState.{InstanceState, outlet_state, first_state}
+use Rattle.krill_top.specs.Session.{session_of}
+use Rattle.krill_top.specs.Exports.{Repeats}
+use Rattle.outlet_api.specs.declared.outlet.Outlet.{Ghosts as OutletGhosts}
+use Rattle.outlet_api.specs.declared.exports.ExportFault.{ExportFault}
+use Rattle.krill_top.specs.DesksInStates.{IsIn, InAt, AreIn, all_stored, DeskGoesOn, DeskGoesOnAt, DesksGoOn}
+use Rattle.krill_top.specs.inner.Instances.{InstanceValue, TimedInstance, IsInState, Moves}
+use Rattle.krill_top.specs.Statuses.{run_status, end_fault}
 use Rattle.krill_top.specs.inner.Opened.{IsOpened, IsClosed, AreOpened, AreClosed}
 use Rattle.krill_top.specs.Sessions.{Served}
 use Rattle.krill_top.specs.Run.{IsNext, IsServed, IsServedAt, IsSignersCause, IsClosedAgain, ServesOne, signers_needed, streams_of}
-use Rattle.krill_top.proofs.Standing.{go_on_same}
+use Rattle.krill_top.proofs.Standing.{go_on_same, go_on_then}
+use Rattle.krill_top.proofs.Vouching.{vouch_then}
+use Rattle.krill_top.proofs.Exporting.{NewestLaw, exported_shown}
 use Rattle.krill_top.proofs.InTurn.{opened_stood_for, closed_left}
 
 module _ {D : Type 0} (disk_of : DiskGhosts D) where
@@ -153,46 +159,68 @@ module _ {D : Type 0} (disk_of : DiskGhosts D) where
         cause = cause desk_states.0 desk_states.1;
       }
 
-module _ {D G S K C : Type 0} (disk_of : DiskGhosts D) (state_of : G → SignerState) (source_of : SourceGhosts S) (sink_of : SinkGhosts K) (clock_of : ClockGhosts C) where
+-- what a run began with, what it hands back, and how it went
+pub record IsRun {D G S K O C : Type 0} (disk_of : DiskGhosts D) (state_of : G → SignerState) (outlet_of : OutletGhosts O) (source_of : SourceGhosts S) (sink_of : SinkGhosts K)
+    (before after : SessionEnds S K C) (end : SessionEnd) (closing : Result Bool (ExportFault O)) (run : RunEnd D G S K O C) (closed : InstanceValue D O) : Type 0 where
+  pub desks : AreClosed disk_of closed.desks run.desks.items
+  pub signers : map state_of run.signers.items ≡ closed.press.ring
+  pub outlet : run.outlet ≡ closed.outlet
+  pub sessions : run.sessions.items ≡ after ∷ []
+  pub status : run.status ≡ run_status (end_fault end closing)
+  pub fault : run.fault ≡ end_fault end closing
+  pub source_fault : end ≡ SourceFault → HasRisen (source_of.fault_count before.source) (source_of.fault_count after.source)
+  pub sink_fault : end ≡ SinkFault → HasRisen (sink_of.fault_count before.sink) (sink_of.fault_count after.sink)
+  pub source_later : source_of.fault_count before.source ≤ source_of.fault_count after.source
+  pub sink_later : sink_of.fault_count before.sink ≤ sink_of.fault_count after.sink
+
+module _ {D G S K O C : Type 0} (disk_of : DiskGhosts D) (state_of : G → SignerState) (outlet_of : OutletGhosts O) (source_of : SourceGhosts S) (sink_of : SinkGhosts K) (clock_of : ClockGhosts C) where
   -- the instance, and what the clock tells of a session
-  abbrev pub timed_by : SessionEnds S K C → InstanceValue D → TimedInstance D
+  abbrev pub timed_by : SessionEnds S K C → InstanceValue D O → TimedInstance D O
   timed_by ends instance = record { instance = instance; clock = clock_of.readings ends.clock }
 
-  pub serves : (disks : List D) (signers : List G) (before after : SessionEnds S K C) (end : SessionEnd) (run : RunEnd D G S K C) (instance served : InstanceValue D)
-      → AreOpened disk_of 0 disks instance.desks → instance.press.ring ≡ map state_of signers
-      → ((desk_states : DeskStates) → AreIn instance.desks desk_states → IsInState instance (first_state desk_states (map state_of signers)))
+  pub serves : NewestLaw → (random : List ℕ) (disks : List D) (signers : List G) (outlet : O) (before after : SessionEnds S K C) (end : SessionEnd) (closing : Result Bool (ExportFault O))
+      (run : RunEnd D G S K O C) (instance served closed : InstanceValue D O)
+      → AreOpened disk_of 0 disks instance.desks
+      → ((desk_states : DeskStates) → AreIn instance.desks desk_states → IsInState outlet_of instance (first_state (session_of random) desk_states (map state_of signers) (outlet_state outlet_of outlet)))
       → ((desk_states : DeskStates) → AreIn instance.desks desk_states → signers_needed (names_in desk_states) ≤ length (map state_of signers))
-      → Served disk_of source_of sink_of (streams_of before) (streams_of after) (timed_by before instance) (timed_by after served) end → AreClosed disk_of served.desks run.desks.items
-      → map state_of run.signers.items ≡ served.press.ring
-      → run.sessions.items ≡ after ∷ [] → run.status ≡ run_status (fault_of end) → run.fault ≡ fault_of end
-      → (end ≡ SourceFault → HasRisen (source_of.fault_count before.source) (source_of.fault_count after.source))
-      → (end ≡ SinkFault → HasRisen (sink_of.fault_count before.sink) (sink_of.fault_count after.sink))
-      → source_of.fault_count before.source ≤ source_of.fault_count after.source → sink_of.fault_count before.sink ≤ sink_of.fault_count after.sink
-      → ServesOne disk_of state_of source_of sink_of clock_of disks signers before run
+      → Served disk_of outlet_of source_of sink_of (streams_of before) (streams_of after) (timed_by before instance) (timed_by after served) end
+      → Moves disk_of outlet_of (Repeats closing) served closed
+      → IsRun disk_of state_of outlet_of source_of sink_of before after end closing run closed
+      → ServesOne disk_of state_of outlet_of source_of sink_of clock_of random disks signers outlet before run
   unfolding opened_seen
-  serves disks signers before after end run instance served opened ring stands there session closed signers_back sessions status fault source_fault sink_fault source_later sink_later =
+  serves law random disks signers outlet before after end closing run instance served closed opened stands there session repeats is =
       let desk_states = opened_seen disk_of disks instance.desks opened in
-      let begun : InstanceState = first_state desk_states.0 (map state_of signers) in
+      let begun : InstanceState = first_state (session_of random) desk_states.0 (map state_of signers) (outlet_state outlet_of outlet) in
       let done = session begun (stands desk_states.0 desk_states.1) in
+      let last = repeats done.after done.stands in
+      let disks_on : DesksGoOn disk_of instance.desks closed.desks desk_states.0 last.after.desk_states =
+      go_on_then disk_of instance.desks served.desks closed.desks desk_states.0 done.after.desk_states last.after.desk_states done.disks last.disks in
       record {
         after = after;
         end = end;
+        closing = closing;
         begun = begun;
-        ended = done.after;
-        handed_back = sessions;
-        status = status;
-        fault = fault;
-        served = done.step;
-        disks = λ n. served_at disk_of n (slice_get disks n) (slice_get instance.desks n) (slice_get served.desks n) (slice_get run.desks.items n) (slice_get desk_states.0 n) (slice_get done.after.desk_states n)
-            (opened_at disk_of 0 disks instance.desks opened n n (omega arith)) (done.disks n) (done.stands.desks n) (closed_at disk_of served.desks run.desks.items closed n);
+        served = done.after;
+        ended = last.after;
+        handed_back = is.sessions;
+        status = is.status;
+        fault = is.fault;
+        session = done.step;
+        repeats = last.step;
+        disks = λ n. served_at disk_of n (slice_get disks n) (slice_get instance.desks n) (slice_get closed.desks n) (slice_get run.desks.items n) (slice_get desk_states.0 n) (slice_get last.after.desk_states n)
+            (opened_at disk_of 0 disks instance.desks opened n n (omega arith)) (disks_on n) (last.stands.desks n) (closed_at disk_of closed.desks run.desks.items is.desks n);
         begins = refl;
-        same_site = done.same_site;
-        steps = λ vouched all. (done.stands.stands vouched all).steps;
-        vouch = done.vouch;
-        signers_ended = signers_back ∙ done.stands.ring;
+        same_site = last.same_site ∙ done.same_site;
+        same_session = last.same_session ∙ done.same_session;
+        steps = λ vouched all. (last.stands.stands vouched all).steps;
+        vouch = vouch_then begun done.after last.after done.kept last.kept done.vouch last.vouch;
+        signers_ended = is.signers ∙ last.stands.ring;
         signers_there = there desk_states.0 desk_states.1;
-        source_fault = source_fault;
-        sink_fault = sink_fault;
-        source_later = source_later;
-        sink_later = sink_later;
+        outlet_ended = ap (outlet_state outlet_of) is.outlet ∙ last.stands.outlet;
+        coherent = λ was. last.coherent (done.coherent was);
+        shown = λ exported. exported_shown disk_of outlet_of law closed last.after last.stands exported;
+        source_fault = is.source_fault;
+        sink_fault = is.sink_fault;
+        source_later = is.source_later;
+        sink_later = is.sink_later;
       }

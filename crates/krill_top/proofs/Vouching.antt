@@ -1,5 +1,5 @@
 -- What signers vouch for, before and after calls that keep it, and what was made for editions.
-use Rattle.std.proofs.Common.{◌≡◌, ℕ, true, List, ◌++◌, length, take, drop, subst, refl, ◌∙◌}
+use Rattle.std.proofs.Common.{List, ◌++◌, length, subst, refl, ◌∙◌}
 use Rattle.std.proofs.Math.Seq.{take-append_seam, drop-append_seam}
 use Rattle.std.proofs.lemmas.List.Elements.{All-take, All-drop}
 use Rattle.std.specs.Prelude.{All, Any}
@@ -7,7 +7,7 @@ use Rattle.signer_api.specs.State.{SignerState, Tells, Vouches}
 use Rattle.signer_ring.specs.Ring.{AllTell, Keeps}
 use Rattle.rp_rules.specs.Certificates.{Vouched}
 use Rattle.press_core.specs.Signers.{HasAllVouched}
-use Rattle.krill_top.specs.InstanceState.{InstanceState, HasAllOf, AreVouchedIn, VouchForCalls}
+use Rattle.krill_top.specs.InstanceState.{InstanceState, HasAllOf, VouchForCalls}
 
 -- where all tell, what is said of one that tells is said of one
 any_telling : (P : SignerState → Type 0) (signers : List SignerState) → AllTell signers → Any (λ signer. Tells signer → P signer) signers → Any P signers

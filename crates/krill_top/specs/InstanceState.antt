@@ -1,5 +1,6 @@
--- What replies rest on: each desk's commands, what was published of them, the signers, and the clock.
-use Rattle.std.specs.Prelude.{◌≡◌, ℕ, true, List, [], Option, All, map, codes}
+-- What replies rest on: each desk's commands, what was published of them and exported, the signers, the
+-- outlet, and the clock.
+use Rattle.std.specs.Prelude.{◌≡◌, ℕ, Bool, ◌==◌, ◌||◌, true, false, List, [], Option, All, IfSome, map, codes}
 use Rattle.authority_book.specs.declared.commands.Command.{Command}
 use Rattle.key_ids.specs.Uris.{Bases}
 use Rattle.signer_api.specs.State.{SignerState}
@@ -9,16 +10,39 @@ use Rattle.rp_rules.specs.Certificates.{Vouched}
 use Rattle.editions.specs.Edition.{Edition}
 use Rattle.editions.specs.Step.{Premises}
 use Rattle.editions.specs.inner.Vouched.{IsVouchedBy}
+use Rattle.editions.specs.Edition.{state_after}
+use Rattle.outlet_api.specs.Calls.{Files}
+use Rattle.outlet_api.specs.declared.outlet.Outlet.{Ghosts as OutletGhosts}
+use Rattle.rrdp_state.specs.Exported.{Repository}
+use Rattle.press_core.specs.declared.last_export.LastExport.{LastExport}
+use Rattle.press_core.specs.declared.last_export.LastExport.TheVariants.{NoExport, Failed, Done}
+use Rattle.press_core.specs.Files.{repository_at}
+use Rattle.press_core.specs.Exports.{IsCoherent, ShowsEdition}
 use Rattle.krill_top.specs.DeskStates.{DeskStates}
 
--- The bases of the repository, the desks, the editions that stand, the first first, the calls by
--- which the signers made these, and the signers.
+-- What stands at each path of the outlet, where it tells, and how often it has failed.
+pub record OutletState : Type 0 where
+  pub files : Option Files
+  pub faults : ℕ
+
+abbrev pub outlet_state : {O : Type 0} → OutletGhosts O → O → OutletState
+outlet_state outlet_of outlet = record {
+  files = outlet_of.files outlet;
+  faults = outlet_of.fault_count outlet;
+}
+
+-- The bases of the repository, and the session of its RRDP files; the desks; the editions that stand,
+-- the first first, the calls by which the signers made these, and how the last export of this run
+-- ended; the signers, and the outlet.
 pub record InstanceState : Type 0 where
   pub site : Bases
+  pub session : List ℕ
   pub desk_states : DeskStates
   pub editions : List Edition
   pub calls : List Call
+  pub exported : LastExport
   pub signers : List SignerState
+  pub outlet : OutletState
 
 -- A state, and what the readings of the session's clock give from then on, where it tells.
 pub record TimedInstanceState : Type 0 where
@@ -38,14 +62,17 @@ default_bases = record {
   rrdp = codes "https://rpki.example/rrdp/";
 }
 
--- The state over these desks and signers before the first edition.
-abbrev pub first_state : DeskStates → List SignerState → InstanceState
-first_state desk_states signers = record {
+-- The state over these desks, signers and outlet before the first edition.
+abbrev pub first_state : List ℕ → DeskStates → List SignerState → OutletState → InstanceState
+first_state session desk_states signers outlet = record {
   site = default_bases;
+  session = session;
   desk_states = desk_states;
   editions = [];
   calls = [];
+  exported = NoExport;
   signers = signers;
+  outlet = outlet;
 }
 
 -- Over what editions are made: the accepted commands of each desk, the repository's bases, and these
@@ -73,3 +100,36 @@ abbrev pub VouchForCalls : InstanceState → InstanceState → Type 0
 VouchForCalls before after = AllTell before.signers
     → (vouched : Vouched) → HasAllOf vouched after.signers
     → AreVouchedIn vouched before → AreVouchedIn vouched after
+
+-- ---- exports
+
+-- The serial of the last edition, and 0 where there is none.
+abbrev pub last_serial : InstanceState → ℕ
+last_serial state = (state_after state.editions).serial
+
+abbrev pub is_of : LastExport → ℕ → Bool
+is_of NoExport serial = false
+is_of Failed serial = false
+is_of (Done exported) serial = exported == serial
+
+-- Whether the last edition is exported: there is none, or the last export was of it and ended Ok.
+abbrev pub is_exported_at : LastExport → ℕ → Bool
+is_exported_at exported serial = (serial == 0) || is_of exported serial
+
+abbrev pub is_exported : InstanceState → Bool
+is_exported state = is_exported_at state.exported (last_serial state)
+
+-- The RRDP files of the state, in its session.
+abbrev pub repository_in : InstanceState → Repository
+repository_in state = repository_at state.session state.site
+
+-- Where the outlet tells its files: there is no notification, or it is that of one of the editions, and
+-- each file that it names stands with its hash.
+abbrev pub IsCoherentIn : InstanceState → Type 0
+IsCoherentIn state = IfSome state.outlet.files (IsCoherent (repository_in state) state.editions)
+
+-- Where the outlet tells its files: the notification is that of the last edition, each file that it
+-- names stands with its hash, and so do the trust anchor's certificate and its locator.
+abbrev pub ShowsLastIn : InstanceState → Type 0
+ShowsLastIn state =
+    IfSome state.outlet.files (ShowsEdition state.session state.site state.editions)

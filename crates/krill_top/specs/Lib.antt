@@ -1,6 +1,8 @@
 pub mod DeskStates
 pub mod InstanceState
 pub mod Outcomes
+pub mod Session
+pub mod Exports
 pub mod Publishing
 pub mod Reads
 pub mod Sheets

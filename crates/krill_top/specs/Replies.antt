@@ -18,6 +18,8 @@ use Rattle.editions.specs.declared.published_state.Published.{Published}
 use Rattle.press_core.specs.declared.fault.PressFault.{PressFault}
 use Rattle.press_core.specs.declared.fault.PressFault.TheVariants as press
 use Rattle.line_loop.specs.Readings.{IsReading}
+use Rattle.outlet_api.specs.declared.outlet.OutletStop.{OutletStop}
+use Rattle.outlet_api.specs.declared.outlet.OutletStop.TheVariants as stop
 use Rattle.krill_top.specs.InstanceState.{InstanceState, TimedInstanceState}
 use Rattle.krill_top.specs.declared.command_fault.CommandFault.{CommandFault}
 use Rattle.krill_top.specs.declared.command_fault.CommandFault.TheVariants as faults
@@ -25,9 +27,8 @@ use Rattle.krill_top.specs.Outcomes.{Outcome, Commanded, fault_outcome}
 use Rattle.krill_top.specs.Outcomes.Outcome.{Accepted, NoSuchAuthority, Shut, Verdict, JournalFull, DiskFault, Memory}
 use Rattle.krill_top.specs.Reads.{list_reply, history_reply}
 use Rattle.krill_top.specs.Sheets.{IsShowText, IsRoasText}
-use Rattle.krill_top.specs.Publishing.{ComesTo, has_published}
-use Rattle.krill_top.specs.declared.publication.Publication.{Publication}
-use Rattle.krill_top.specs.declared.publication.Publication.TheVariants as publication
+use Rattle.krill_top.specs.Publishing.{Outcome as Publication, ComesTo, has_changed}
+use Rattle.krill_top.specs.Publishing.Outcome.{Published as Exported, Unexported, Repeated, Refused as Unmade}
 
 -- Space, tab and carriage return.
 abbrev pub is_blank_byte : ℕ → Bool
@@ -65,16 +66,13 @@ is_change (Accepted count) = true
 is_change (DiskFault device) = true
 is_change other = false
 
--- A command to the authority of that name comes to this, with the signers that there are. It changes no
--- edition, and asks no signer.
+-- A command to the authority of that name comes to this, with the signers that there are. It changes
+-- nothing else.
 pub record CommandedIn (name : List ℕ) (command : Command) (outcome : Outcome)
     (before after : InstanceState) : Type 0 where
   pub commanded : Commanded name command
       (length before.signers) outcome before.desk_states after.desk_states
-  pub same_site : after.site ≡ before.site
-  pub same_editions : after.editions ≡ before.editions
-  pub same_calls : after.calls ≡ before.calls
-  pub same_signers : after.signers ≡ before.signers
+  pub same : after ≡ record before { desk_states = after.desk_states }
 
 -- A command gets the text of what it comes to. The clock isn't read.
 pub record CommandText (name : List ℕ) (command : Command) (before : TimedInstanceState)
@@ -104,10 +102,18 @@ refused_of (press.SignerFault signer met) = refused.SignerFault signer
 refused_of (press.KeyClash id met) = refused.KeyClash id
 refused_of press.Memory = refused.Memory
 
+-- Why an edition isn't exported. Want of memory is told without its serial.
+abbrev pub unexported_as : ℕ → OutletStop → Refused
+unexported_as serial stop.Fault = refused.OutletFault serial
+unexported_as serial stop.Memory = refused.Memory
+
 abbrev pub publish_text : Publication → List ℕ
-publish_text (publication.Published published) =
+publish_text (Exported published) =
     published_spelling (published_in_reply published)
-publish_text (publication.Refused fault) = refused_spelling (refused_of fault)
+publish_text (Unexported serial stopped) =
+    refused_spelling (unexported_as serial stopped)
+publish_text (Repeated fault) = refused_spelling (refused_of fault)
+publish_text (Unmade serial fault) = refused_spelling (refused_of fault)
 
 -- The clock is read once, and a publication gets the text of what it comes to at that time.
 pub record PublishText (before : TimedInstanceState) (text : List ℕ)
@@ -117,7 +123,7 @@ pub record PublishText (before : TimedInstanceState) (text : List ℕ)
   pub outcome : Publication
   pub comes : ComesTo clock outcome before.state after.state
   pub text_is : text ≡ publish_text outcome
-  pub changed_is : changed ≡ has_published outcome
+  pub changed_is : changed ≡ has_changed outcome
 
 -- ---- a line
 

@@ -1,5 +1,5 @@
 -- What a whole run leaves.
-use Rattle.std.specs.Prelude.{◌≡◌, ◌⊎◌, ℕ, ◌≤◌, ◌<◌, ◌+◌, max, List, [], ◌∷◌, ◌++◌, Option, None, Some, IfSome, length, map, slice_get, ⊤}
+use Rattle.std.specs.Prelude.{◌≡◌, ◌⊎◌, ℕ, ◌≤◌, ◌<◌, ◌+◌, max, Bool, true, Result, List, [], ◌∷◌, ◌++◌, Option, None, Some, IfSome, length, map, slice_get, ⊤}
 use Rattle.std.specs.Option.{option_map}
 use Rattle.gate_journal.specs.Format.{opened}
 use Rattle.host_calls.specs.Rise.{HasRisen}
@@ -22,20 +22,26 @@ use Rattle.krill_top.specs.declared.faults.RunFault.{RunFault}
 use Rattle.krill_top.specs.declared.serving.SessionEnds.{SessionEnds}
 use Rattle.krill_top.specs.declared.running.RunEnd.{RunEnd}
 use Rattle.krill_top.specs.DeskStates.{DeskStates, DeskState, names_in}
-use Rattle.krill_top.specs.InstanceState.{InstanceState, at_clock, first_state, premises_of, AreVouchedIn, VouchForCalls}
+use Rattle.krill_top.specs.InstanceState.{InstanceState, at_clock, outlet_state, first_state, premises_of}
+use Rattle.krill_top.specs.InstanceState.{is_exported, AreVouchedIn, VouchForCalls, IsCoherentIn, ShowsLastIn}
+use Rattle.krill_top.specs.Exports.{Repeats}
+use Rattle.krill_top.specs.Session.{session_of}
+use Rattle.outlet_api.specs.declared.outlet.Outlet.{Ghosts as OutletGhosts}
+use Rattle.outlet_api.specs.declared.exports.ExportFault.{ExportFault}
 use Rattle.krill_top.specs.DesksInStates.{all_stored, RoseWithin}
 use Rattle.krill_top.specs.Sessions.{Streams, Converses}
 use Rattle.krill_top.specs.RunDisks.{RecoveredTo, IsSafe, IsOpeningRefused}
-use Rattle.krill_top.specs.Statuses.{fault_status, run_status, fault_of, opening_fault}
+use Rattle.krill_top.specs.Statuses.{fault_status, run_status, end_fault, opening_fault}
 
 -- A run that was refused at once: nothing was read or written, and no device was called.
-pub record IsRefusedRun {D G S K C : Type 0} (desks : List D) (signers : List G)
+pub record IsRefusedRun {D G S K O C : Type 0} (desks : List D) (signers : List G) (outlet : O)
     (sessions : List (SessionEnds S K C)) (fault : RunFault)
-    (run : RunEnd D G S K C) : Type 0 where
+    (run : RunEnd D G S K O C) : Type 0 where
   pub status_is : run.status ≡ fault_status fault
   pub fault_is : run.fault ≡ Some fault
   pub desks_untouched : run.desks.items ≡ desks
   pub signers_untouched : run.signers.items ≡ signers
+  pub outlet_untouched : run.outlet ≡ outlet
   pub untouched : run.sessions.items ≡ sessions
 
 -- The command in doubt would be the next one of its desk.
@@ -92,15 +98,16 @@ pub record IsClosedAgain {D : Type 0} (disk_of : DiskGhosts D) (fault : OpenFaul
   pub disks : AreServed disk_of desks news found found
   pub cause : IsSignersCause fault signers found
 
--- A run over which nothing was opened: no source was read, and no sink was given anything. No signer was
--- called.
-pub record IsRefusedAtOpening {D G S K C : Type 0} (disk_of : DiskGhosts D) (state_of : G → SignerState) (desks : List D) (signers : List G)
-    (sessions : List (SessionEnds S K C)) (run : RunEnd D G S K C) : Type 0 where
+-- A run over which nothing was opened: no source was read, and no sink was given anything. No signer
+-- was called, and nothing was put.
+pub record IsRefusedAtOpening {D G S K O C : Type 0} (disk_of : DiskGhosts D) (state_of : G → SignerState) (desks : List D) (signers : List G)
+    (outlet : O) (sessions : List (SessionEnds S K C)) (run : RunEnd D G S K O C) : Type 0 where
   pub fault : OpenFault
   pub status_is : run.status ≡ fault_status (opening_fault fault)
   pub fault_is : run.fault ≡ Some (opening_fault fault)
   pub refused : IsOpeningRefused disk_of fault desks run.desks.items ⊎ IsClosedAgain disk_of fault (length signers) desks run.desks.items
   pub same_signers : map state_of run.signers.items ≡ map state_of signers
+  pub outlet_untouched : run.outlet ≡ outlet
   pub untouched : run.sessions.items ≡ sessions
 
 -- ---- a run that served its session
@@ -108,31 +115,44 @@ pub record IsRefusedAtOpening {D G S K C : Type 0} (disk_of : DiskGhosts D) (sta
 abbrev pub streams_of : {S K C : Type 0} → SessionEnds S K C → Streams S K
 streams_of ends = record { source = ends.source; sink = ends.sink }
 
--- A run that opened its desks, served its session over them, and hands all back. Each disk holds the
--- commands that it held and the accepted ones of its authority. Of these the editions were published;
--- before the session there was none. Each follows those before it where the signatures that were made
--- for them are vouched, and where all signers tell what they vouch for, these are among that. The
--- session's clock was read for its publications alone. A fault of the source or the sink comes only
--- where it failed in this run.
-pub record ServesOne {D G S K C : Type 0} (disk_of : DiskGhosts D) (state_of : G → SignerState) (source_of : SourceGhosts S) (sink_of : SinkGhosts K)
-    (clock_of : ClockGhosts C) (desks : List D) (signers : List G) (before : SessionEnds S K C) (run : RunEnd D G S K C) : Type 0 where
+-- A run that opened its desks, served its session over them, exported the last edition again where it
+-- wasn't exported, and hands all back. Each disk holds the commands that it held and the accepted ones
+-- of its authority. Of these the editions were published; before the session there was none. Each
+-- follows those before it where the signatures that were made for them are vouched, and where all
+-- signers tell what they vouch for, these are among that. The session's clock was read for its
+-- publications alone. A fault of the source or the sink comes only where it failed in this run.
+pub record ServesOne {D G S K O C : Type 0} (disk_of : DiskGhosts D) (state_of : G → SignerState)
+    (outlet_of : OutletGhosts O) (source_of : SourceGhosts S) (sink_of : SinkGhosts K)
+    (clock_of : ClockGhosts C) (random : List ℕ) (desks : List D) (signers : List G) (outlet : O)
+    (before : SessionEnds S K C) (run : RunEnd D G S K O C) : Type 0 where
   pub after : SessionEnds S K C
   pub end : SessionEnd
+  pub closing : Result Bool (ExportFault O)
   pub begun : InstanceState
+  pub served : InstanceState
   pub ended : InstanceState
   pub handed_back : run.sessions.items ≡ after ∷ []
-  pub status : run.status ≡ run_status (fault_of end)
-  pub fault : run.fault ≡ fault_of end
-  pub served : Converses source_of sink_of (streams_of before) (streams_of after) end
-      (at_clock (clock_of.readings before.clock) begun) (at_clock (clock_of.readings after.clock) ended)
+  pub status : run.status ≡ run_status (end_fault end closing)
+  pub fault : run.fault ≡ end_fault end closing
+  pub session : Converses source_of sink_of (streams_of before) (streams_of after) end
+      (at_clock (clock_of.readings before.clock) begun)
+      (at_clock (clock_of.readings after.clock) served)
+  pub repeats : Repeats closing served ended
   pub disks : AreServed disk_of desks run.desks.items begun.desk_states ended.desk_states
-  pub begins : begun ≡ first_state begun.desk_states (map state_of signers)
+  pub begins : begun ≡ first_state (session_of random) begun.desk_states (map state_of signers)
+      (outlet_state outlet_of outlet)
   pub same_site : ended.site ≡ begun.site
+  pub same_session : ended.session ≡ begun.session
   pub steps : (vouched : Vouched) → AreVouchedIn vouched ended
       → AreSteps (premises_of vouched ended) ended.editions
   pub vouch : VouchForCalls begun ended
   pub signers_ended : map state_of run.signers.items ≡ ended.signers
   pub signers_there : signers_needed (names_in begun.desk_states) ≤ length begun.signers
+  pub outlet_ended : outlet_state outlet_of run.outlet ≡ ended.outlet
+  -- where no notification stood at first, each that stands is one of an edition of this run
+  pub coherent : IsCoherentIn begun → IsCoherentIn ended
+  -- and where the last edition is exported, it is that one's
+  pub shown : is_exported ended ≡ true → (ended.editions ≡ []) ⊎ ShowsLastIn ended
   pub source_fault : end ≡ SourceFault → HasRisen (source_of.fault_count before.source) (source_of.fault_count after.source)
   pub sink_fault : end ≡ SinkFault → HasRisen (sink_of.fault_count before.sink) (sink_of.fault_count after.sink)
   pub source_later : source_of.fault_count before.source ≤ source_of.fault_count after.source

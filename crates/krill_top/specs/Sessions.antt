@@ -2,6 +2,7 @@
 use Rattle.std.specs.Prelude.{ℕ, List}
 use Rattle.std.specs.Io.KnownBytes.{Consumes, Appends, IsAtEnd}
 use Rattle.disk_api.specs.declared.disk.Disk.{Ghosts as DiskGhosts}
+use Rattle.outlet_api.specs.declared.outlet.Outlet.{Ghosts as OutletGhosts}
 use Rattle.line_loop.specs.declared.traits.Source.{Ghosts as SourceGhosts}
 use Rattle.line_loop.specs.declared.traits.Sink.{Ghosts as SinkGhosts}
 use Rattle.line_loop.specs.Session.{Serves}
@@ -27,7 +28,7 @@ pub record Converses {S K : Type 0} (source_of : SourceGhosts S) (sink_of : Sink
   pub replies : Serves IsReply begun given (IsAtEnd (source_of.left new.source)) written ended end
 
 -- The session was served over the instance, from each state in which it may be.
-abbrev pub Served : {D S K : Type 0} → DiskGhosts D → SourceGhosts S → SinkGhosts K
-    → Streams S K → Streams S K → TimedInstance D → TimedInstance D → SessionEnd → Type 0
-Served disk_of source_of sink_of old new before after end =
-    MovesTimed disk_of (Converses source_of sink_of old new end) before after
+abbrev pub Served : {D O S K : Type 0} → DiskGhosts D → OutletGhosts O → SourceGhosts S → SinkGhosts K
+    → Streams S K → Streams S K → TimedInstance D O → TimedInstance D O → SessionEnd → Type 0
+Served disk_of outlet_of source_of sink_of old new before after end =
+    MovesTimed disk_of outlet_of (Converses source_of sink_of old new end) before after

@@ -1,5 +1,7 @@
 -- How a run ends: its status, and the line that says why.
-use Rattle.std.specs.Prelude.{ℕ, List, ◌++◌, Option, None, Some, codes, decimal}
+use Rattle.std.specs.Prelude.{ℕ, List, ◌++◌, Option, None, Some, Result, Ok, Err, codes, decimal}
+use Rattle.outlet_api.specs.declared.exports.ExportFault.{ExportFault}
+use Rattle.outlet_api.specs.declared.exports.ExportFault.TheVariants as export
 use Rattle.line_loop.specs.declared.session.SessionEnd.{SessionEnd}
 use Rattle.line_loop.specs.declared.session.SessionEnd.TheVariants.{End, SourceFault, SinkFault, Spent, Memory}
 use Rattle.krill_top.specs.declared.faults.OpenFault.{OpenFault}
@@ -27,6 +29,22 @@ fault_of SourceFault = Some faults.Device
 fault_of SinkFault = Some faults.Device
 fault_of (Spent bytes) = Some (faults.Spent bytes)
 fault_of Memory = Some faults.Memory
+
+-- Why the export at the end didn't end well.
+abbrev pub export_fault : {T O : Type 0} → Result T (ExportFault O) → Option RunFault
+export_fault (Ok done) = None
+export_fault (Err (export.OutletFault rose)) = Some faults.Device
+export_fault (Err export.Memory) = Some faults.Memory
+
+-- A device that failed goes before want of memory, and that before a budget that is spent.
+abbrev pub graver : Option RunFault → Option RunFault → Option RunFault
+graver session None = session
+graver (Some faults.Device) (Some fault) = Some faults.Device
+graver session (Some fault) = Some fault
+
+-- Why a run ended whose session ended so, and then the export of the last edition.
+abbrev pub end_fault : {T O : Type 0} → SessionEnd → Result T (ExportFault O) → Option RunFault
+end_fault session closing = graver (fault_of session) (export_fault closing)
 
 -- Where opening was refused: a disk that failed is a device, and out of memory is that.
 abbrev pub opening_fault : OpenFault → RunFault

@@ -5,3 +5,4 @@ pub mod Opened
 pub mod Gathered
 pub mod Pressing
 pub mod Started
+pub mod Refusing

@@ -5,7 +5,9 @@ ghost use Rattle.std.specs.List.{list_all};
 ghost use Rattle.json_api.specs.Reply.{accepted_spelling, published_spelling, serial_spelling};
 ghost use Rattle.json_api.specs.Refused.{verdict_spelling, fault_spelling, refused_spelling};
 ghost use Rattle.krill_top.specs.Replies as spec;
-ghost use Rattle.krill_top.specs.Replies.{is_blank_byte, IsBlank, memory_text, bad_line_text, published_in_reply, publish_text, serial_text, IsTold, CommandText, PublishText, SaidText, IsToldOr, IsFaultText, IsTextIn};
+ghost use Rattle.krill_top.specs.Exports.{stop_of};
+ghost use Rattle.krill_top.specs.Publishing.{outcome_of};
+ghost use Rattle.krill_top.specs.Replies.{is_blank_byte, IsBlank, memory_text, bad_line_text, published_in_reply, publish_text, unexported_as, serial_text, IsTold, CommandText, PublishText, SaidText, IsToldOr, IsFaultText, IsTextIn};
 ghost use Rattle.krill_top.specs.inner.Instances.{MovesTimed, MayText};
 ghost use Rattle.krill_top.specs.inner.Handlers.{timed};
 
@@ -20,6 +22,7 @@ use json_api::{
 };
 use line_loop::{Clock, LINE_LIMIT, LineHandler};
 use names::Name;
+use outlet_api::{ExportFault, Outlet};
 use press_core::PressFault;
 use signer_api::Signer;
 use std::alloc::{AllocError, Global};
@@ -29,15 +32,15 @@ const REPLY_ROOM: usize = 256;
 
 /// The instance, the clock of its publications, and what reads the lines that are answered over them.
 #[derive(Drop)]
-pub struct Handler<D: Disk, G: Signer, C: Clock> {
-    instance: Instance<D, G>,
+pub struct Handler<D: Disk, G: Signer, O: Outlet, C: Clock> {
+    instance: Instance<D, G, O>,
     clock: C,
     reader: LineReader,
 }
 
-impl<D: Disk, G: Signer, C: Clock> Handler<D, G, C> {
+impl<D: Disk, G: Signer, O: Outlet, C: Clock> Handler<D, G, O, C> {
     /// Answers over this instance, and publishes by this clock.
-    pub fn new(alloc: Global, instance: Instance<D, G>, clock: C) -> Handler<D, G, C>
+    pub fn new(alloc: Global, instance: Instance<D, G, O>, clock: C) -> Handler<D, G, O, C>
         ensures instance { result.instance ≡ instance }
         ensures clock { result.clock ≡ clock }
     {
@@ -49,7 +52,7 @@ impl<D: Disk, G: Signer, C: Clock> Handler<D, G, C> {
     }
 
     /// The instance, with the commands that were accepted and what was published, and the clock.
-    pub fn into_parts(self) -> (Instance<D, G>, C)
+    pub fn into_parts(self) -> (Instance<D, G, O>, C)
         ensures instance { result.0 ≡ self.instance }
         ensures clock { result.1 ≡ self.clock }
     {
@@ -66,7 +69,7 @@ impl<D: Disk, G: Signer, C: Clock> Handler<D, G, C> {
         out: &mut Vec<u8>,
     ) -> Result<bool, AllocError>
         ensures ok { IfOk result (λ changed. (text : List ℕ) × (out.new.items ≡ out.old.items ++ text ++ 10 ∷ [])
-            × MovesTimed D.Disk (λ b a. IsToldOr (CommandText name.now command) b text changed a) (timed C.Clock self.old) (timed C.Clock self.new)) }
+            × MovesTimed D.Disk O.Outlet (λ b a. IsToldOr (CommandText name.now command) b text changed a) (timed C.Clock self.old) (timed C.Clock self.new)) }
         ensures err { OnErr result ((self.new ≡ self.old) × (out.new.items ≡ out.old.items)) }
     {
         out.reserve(REPLY_ROOM)?;
@@ -83,17 +86,17 @@ impl<D: Disk, G: Signer, C: Clock> Handler<D, G, C> {
         }
     }
 
-    // Publishes at the clock's next reading, and says whether that changed the editions. The room for the
-    // reply is taken before that.
+    // Publishes at the clock's next reading, and says whether that changed the editions or their export. The
+    // room for the reply is taken before that.
     fn answer_publish(&mut self, alloc: Global, out: &mut Vec<u8>) -> Result<bool, AllocError>
         ensures ok { IfOk result (λ changed. (text : List ℕ) × (out.new.items ≡ out.old.items ++ text ++ 10 ∷ [])
-            × MovesTimed D.Disk (λ b a. PublishText b text changed a) (timed C.Clock self.old) (timed C.Clock self.new)) }
+            × MovesTimed D.Disk O.Outlet (λ b a. PublishText b text changed a) (timed C.Clock self.old) (timed C.Clock self.new)) }
         ensures err { OnErr result ((self.new ≡ self.old) × (out.new.items ≡ out.old.items)) }
     {
         out.reserve(REPLY_ROOM)?;
         let now = self.clock.now();
         let publication = self.instance.publish(alloc, now);
-        let changed = publication.has_published();
+        let changed = publication.has_changed();
         append_publication(out, publication);
         Ok(changed)
     }
@@ -101,7 +104,7 @@ impl<D: Disk, G: Signer, C: Clock> Handler<D, G, C> {
     // Answers with the serial of the last edition.
     fn answer_serial(&self, out: &mut Vec<u8>) -> Result<bool, AllocError>
         ensures ok { IfOk result (λ changed. (text : List ℕ) × (out.new.items ≡ out.old.items ++ text ++ 10 ∷ [])
-            × MovesTimed D.Disk (λ b a. IsTold (serial_text b.state) b text changed a) (timed C.Clock self.now) (timed C.Clock self.now)) }
+            × MovesTimed D.Disk O.Outlet (λ b a. IsTold (serial_text b.state) b text changed a) (timed C.Clock self.now) (timed C.Clock self.now)) }
         ensures err { OnErr result (out.new.items ≡ out.old.items) }
     {
         out.reserve(REPLY_ROOM)?;
@@ -117,7 +120,7 @@ impl<D: Disk, G: Signer, C: Clock> Handler<D, G, C> {
         out: &mut Vec<u8>,
     ) -> Result<bool, AllocError>
         ensures ok { IfOk result (λ changed. (text : List ℕ) × (out.new.items ≡ out.old.items ++ text ++ 10 ∷ [])
-            × MovesTimed D.Disk (λ b a. IsToldOr (SaidText said) b text changed a) (timed C.Clock self.old) (timed C.Clock self.new)) }
+            × MovesTimed D.Disk O.Outlet (λ b a. IsToldOr (SaidText said) b text changed a) (timed C.Clock self.old) (timed C.Clock self.new)) }
         ensures err { OnErr result ((self.new ≡ self.old) × (out.new.items ≡ out.old.items)) }
     {
         match said {
@@ -139,7 +142,7 @@ impl<D: Disk, G: Signer, C: Clock> Handler<D, G, C> {
         out: &mut Vec<u8>,
     ) -> Result<bool, AllocError>
         ensures ok { IfOk result (λ changed. (text : List ℕ) × (out.new.items ≡ out.old.items ++ text ++ 10 ∷ [])
-            × MayText D.Disk (timed C.Clock self.old) line.now text changed (timed C.Clock self.new)) }
+            × MayText D.Disk O.Outlet (timed C.Clock self.old) line.now text changed (timed C.Clock self.new)) }
         ensures err { OnErr result ((self.new ≡ self.old) × (out.new.items ≡ out.old.items)) }
     {
         match self.reader.read(alloc, line) {
@@ -189,13 +192,28 @@ fn refused_of(fault: PressFault) -> Refused
 }
 
 // Appends the reply to a publication, in the room that is there.
-fn append_publication(out: &mut Vec<u8>, publication: Publication)
+fn append_publication<O: Outlet>(out: &mut Vec<u8>, publication: Publication<O>)
     requires { vec_len out.old + REPLY_ROOM ≤ vec_capacity out.old }
-    ensures { out.new.items ≡ out.old.items ++ publish_text publication ++ 10 ∷ [] }
+    ensures { out.new.items ≡ out.old.items ++ publish_text (outcome_of publication) ++ 10 ∷ [] }
 {
     match publication {
         Publication::Published { published } => append_published(out, &published_of(published)),
-        Publication::Refused { fault } => append_refused(out, &refused_of(fault)),
+        Publication::Unexported { serial, fault } => {
+            append_refused(out, &unexported_as(serial, fault));
+        }
+        Publication::Repeated { fault } | Publication::Refused { fault, .. } => {
+            append_refused(out, &refused_of(fault));
+        }
+    }
+}
+
+// Why an edition isn't exported, as a reply tells it.
+fn unexported_as<O: Outlet>(serial: u64, fault: ExportFault<O>) -> Refused
+    ensures { result ≡ unexported_as serial (stop_of fault) }
+{
+    match fault {
+        ExportFault::OutletFault { .. } => Refused::OutletFault { serial },
+        ExportFault::Memory => Refused::Memory,
     }
 }
 
@@ -387,10 +405,10 @@ fn has_publish(line: &[u8]) -> bool {
     line.len() <= LONGEST_PUBLISH && line.windows(word.len()).any(|part| part == word.as_slice())
 }
 
-impl<D: Disk, G: Signer, C: Clock> LineHandler for Handler<D, G, C> {
+impl<D: Disk, G: Signer, O: Outlet, C: Clock> LineHandler for Handler<D, G, O, C> {
     ghost use Rattle.krill_top.specs.inner.Instances.{MayReply};
 
-    ghost answers = { λ old line reply changed new. MayReply D.Disk (timed C.Clock old) line reply changed (timed C.Clock new) };
+    ghost answers = { λ old line reply changed new. MayReply D.Disk O.Outlet (timed C.Clock old) line reply changed (timed C.Clock new) };
 
     fn answer(
         &mut self,

@@ -1,13 +1,16 @@
 //! The desks of a tree, and the press that publishes for it.
 
-ghost use Rattle.std.specs.Prelude.{◌≡◌, ◌≤◌, ◌<◌, [], List, length, IfOk, IfErr};
+ghost use Rattle.std.specs.Prelude.{◌≡◌, ◌≢◌, ◌≤◌, ◌<◌, false, true, length, IfOk, IfErr};
 ghost use Rattle.editions.specs.Edition.{state_after};
 ghost use Rattle.krill_top.specs.DeskStates.{DeskStates, most_desks, names_in};
-ghost use Rattle.krill_top.specs.InstanceState.{InstanceState, default_bases, first_state};
+ghost use Rattle.krill_top.specs.InstanceState.{InstanceState, outlet_state, default_bases, first_state, last_serial, is_of, is_exported_at, is_exported};
 ghost use Rattle.krill_top.specs.Reads.{list_reply, history_reply};
 ghost use Rattle.krill_top.specs.Sheets.{IsShowText, IsRoasText};
 ghost use Rattle.krill_top.specs.Outcomes.{outcome_of};
-ghost use Rattle.krill_top.specs.Publishing.{ComesTo};
+ghost use Rattle.krill_top.specs.Publishing.{MakesOrNot, ComesTo, is_nothing};
+ghost use Rattle.krill_top.specs.Publishing as publishing;
+ghost use Rattle.krill_top.specs.Exports.{ExportsOrStops, Repeats};
+ghost use Rattle.krill_top.specs.inner.Refusing.{ExportsMade, RefusesFor, refused_or_repeated};
 ghost use Rattle.krill_top.specs.Replies.{CommandedIn};
 ghost use Rattle.krill_top.specs.DesksInStates.{AreIn};
 ghost use Rattle.krill_top.specs.inner.Instances.{IsInState, Moves};
@@ -19,13 +22,14 @@ use crate::pressing::{Pressed, press_all};
 use crate::publication::Publication;
 use authority_book::Command;
 use disk_api::Disk;
-use editions::gathered_commands_go_on;
+use editions::{Published, gathered_commands_go_on};
 use key_ids::Site;
 use names::Name;
 use notice_board::Sheet;
+use outlet_api::{ExportFault, Outlet};
 use press_core::{
-    Press, PressRefused, first_published_state_stands, more_commands_stand,
-    vouching_signers_vouch_for_editions,
+    LastExport, Press, PressFault, PressRefused, first_published_state_stands, more_commands_stand,
+    more_editions_stay_shown, vouching_signers_vouch_for_editions,
 };
 use signer_api::Signer;
 use signer_ring::Ring;
@@ -40,39 +44,43 @@ const RRDP_BASE: &str = "https://rpki.example/rrdp/";
 
 /// The desks of a tree, and the press that publishes what they have accepted.
 #[derive(Drop)]
-pub struct Instance<D: Disk, G: Signer> {
+pub struct Instance<D: Disk, G: Signer, O: Outlet> {
     desks: Desks<D>,
     press: Press<G>,
     // What readers are shown of the last edition.
     sheet: Sheet,
     signers: u32,
+    outlet: O,
 }
 
-impl<D: Disk, G: Signer> Model for Instance<D, G> {
+impl<D: Disk, G: Signer, O: Outlet> Model for Instance<D, G, O> {
     ghost use Rattle.krill_top.specs.inner.Instances.{InstanceValue, IsInstance};
 
-    ghost Value = { InstanceValue D };
+    ghost Value = { InstanceValue D O };
 
     ghost view = { λ instance. record {
       desks = instance.desks;
       press = instance.press;
       sheet = instance.sheet;
       signers = instance.signers;
+      outlet = instance.outlet;
     } };
 
-    ghost invariant = { λ instance. IsInstance (record {
+    ghost invariant = { λ instance. IsInstance O.Outlet (record {
       desks = instance.desks;
       press = instance.press;
       sheet = instance.sheet;
       signers = instance.signers;
+      outlet = instance.outlet;
     }) };
 }
 
-/// Desks and signers for which there was no memory.
+/// Desks, signers and an outlet for which there was no memory.
 #[derive(Drop)]
-pub struct InstanceRefused<D: Disk, G: Signer> {
+pub struct InstanceRefused<D: Disk, G: Signer, O: Outlet> {
     pub desks: Desks<D>,
     pub ring: Ring<G>,
+    pub outlet: O,
 }
 
 // The site, where nothing else is said.
@@ -85,50 +93,103 @@ fn default_site(alloc: Global) -> Result<Site, AllocError>
     }
 }
 
-impl<D: Disk, G: Signer> Instance<D, G> {
-    /// An instance over these desks that has published nothing yet.
+// Whether the edition of that serial, if there is one, is at the outlet.
+fn is_exported_at(last: LastExport, serial: u64) -> bool
+    ensures { result ≡ is_exported_at last serial }
+{
+    serial == 0 || is_of(last, serial)
+}
+
+fn is_of(last: LastExport, serial: u64) -> bool
+    ensures { result ≡ is_of last serial }
+{
+    match last {
+        LastExport::NoExport => false,
+        LastExport::Failed => false,
+        LastExport::Done { serial: exported } => exported == serial,
+    }
+}
+
+// Where there was nothing to publish behind the edition of that serial, and it was or wasn't exported again.
+fn refused_or_repeated<O: Outlet>(repeated: bool, serial: u64, fault: PressFault) -> Publication<O>
+    ensures { publishing.outcome_of result ≡ refused_or_repeated repeated serial fault }
+{
+    if repeated {
+        Publication::Repeated { fault }
+    } else {
+        Publication::Refused { serial, fault }
+    }
+}
+
+// Whether there was nothing to publish.
+fn is_nothing(fault: &PressFault) -> bool
+    ensures { result ≡ is_nothing fault.now }
+{
+    matches!(fault, PressFault::Nothing { .. })
+}
+
+impl<D: Disk, G: Signer, O: Outlet> Instance<D, G, O> {
+    /// An instance over these desks that has published nothing yet. Its RRDP files are of that session.
     pub fn open(
         alloc: Global,
         desks: Desks<D>,
         ring: Ring<G>,
-    ) -> Result<Instance<D, G>, InstanceRefused<D, G>>
+        outlet: O,
+        session: Uuid,
+    ) -> Result<Instance<D, G, O>, InstanceRefused<D, G, O>>
         requires all { length desks ≡ most_desks }
         requires stands { (desk_states : DeskStates) × AreIn desks desk_states × (signers_needed (names_in desk_states) ≤ length ring) }
         ensures opened { IfOk result (λ instance. (desk_states : DeskStates)
             → AreIn desks desk_states → signers_needed (names_in desk_states) ≤ length ring
-            → IsInState instance (first_state desk_states ring)) }
+            → IsInState O.Outlet instance (first_state session desk_states ring (outlet_state O.Outlet outlet))) }
         ensures desks { IfOk result (λ instance. instance.desks ≡ desks) }
-        ensures ring { IfOk result (λ instance. instance.press.ring ≡ ring) }
         ensures refused_desks { IfErr result (λ refused. refused.desks ≡ desks) }
         ensures refused_ring { IfErr result (λ refused. refused.ring ≡ ring) }
+        ensures refused_outlet { IfErr result (λ refused. refused.outlet ≡ outlet) }
     {
         first_published_state_stands();
         let signers = ring.len();
         let Ok(site) = default_site(alloc) else {
-            return Err(InstanceRefused { desks, ring });
+            return Err(InstanceRefused {
+                desks,
+                ring,
+                outlet,
+            });
         };
-        let press = match Press::new(alloc, site, Uuid::nil(), ring) {
+        let press = match Press::new(alloc, site, session, ring) {
             Ok(press) => press,
-            Err(PressRefused { ring, .. }) => return Err(InstanceRefused { desks, ring }),
+            Err(PressRefused { ring, .. }) => {
+                return Err(InstanceRefused {
+                    desks,
+                    ring,
+                    outlet,
+                });
+            }
         };
         let Ok(sheet) = press.sheet(alloc) else {
             let ring = press.close();
-            return Err(InstanceRefused { desks, ring });
+            return Err(InstanceRefused {
+                desks,
+                ring,
+                outlet,
+            });
         };
         Ok(Instance {
             desks,
             press,
             sheet,
             signers,
+            outlet,
         })
     }
 
-    /// The desks, with the commands that were accepted, and the signers.
-    pub fn close(self) -> (Desks<D>, Ring<G>)
+    /// The desks, with the commands that were accepted, the signers, and the outlet.
+    pub fn close(self) -> (Desks<D>, Ring<G>, O)
         ensures desks { result.0 ≡ self.desks }
         ensures ring { result.1 ≡ self.press.ring }
+        ensures outlet { result.2 ≡ self.outlet }
     {
-        (self.desks, self.press.close())
+        (self.desks, self.press.close(), self.outlet)
     }
 
     /// Gives a command to the authority of that name, and answers how many commands of that authority
@@ -139,32 +200,120 @@ impl<D: Disk, G: Signer> Instance<D, G> {
         name: &Name,
         command: Command,
     ) -> Result<u64, CommandFault<D>>
-        ensures { Moves D.Disk (λ b a. CommandedIn name.now command (outcome_of result) b a) self.old self.new }
+        ensures { Moves D.Disk O.Outlet (λ b a. CommandedIn name.now command (outcome_of result) b a) self.old self.new }
     {
         more_commands_stand();
         self.desks.command(alloc, name, command, self.signers)
     }
 
-    /// Publishes all that the desks have accepted, at that clock in seconds since 1970. The edition follows the
-    /// last one. A refusal changes nothing but what the signers made and counted. Refused in the order of
+    /// Publishes all that the desks have accepted, at that clock in seconds since 1970, and brings it to the
+    /// outlet. The edition follows the last one. Where the outlet fails the edition stands, and the next
+    /// publication exports it again, even where that has nothing to publish.
+    ///
+    /// A refusal changes nothing but what the signers made and counted. Refused in the order of
     /// [`Press::prepare`](press_core::Press::prepare).
-    pub fn publish(&mut self, alloc: Global, now: u64) -> Publication
-        ensures { Moves D.Disk (λ b a. ComesTo now result b a) self.old self.new }
+    pub fn publish(&mut self, alloc: Global, now: u64) -> Publication<O>
+        ensures { Moves D.Disk O.Outlet (λ b a. ComesTo now (publishing.outcome_of result) b a) self.old self.new }
+    {
+        match self.make_edition(alloc, now) {
+            Ok(published) => self.export_made(alloc, published),
+            Err(fault) => self.refuse(alloc, fault),
+        }
+    }
+
+    // Makes the next edition of all that the desks have accepted. It isn't exported yet.
+    fn make_edition(&mut self, alloc: Global, now: u64) -> Result<Published, PressFault>
+        ensures moves { Moves D.Disk O.Outlet (λ b a. MakesOrNot now result b a) self.old self.new }
+        ensures serial { IfOk result (λ published. published.serial ≡ self.new.press.at.serial) }
+        ensures some { IfOk result (λ published. self.new.press.at.serial ≢ 0) }
     {
         gathered_commands_go_on();
         vouching_signers_vouch_for_editions();
+        more_editions_stay_shown();
         match press_all(alloc, &self.desks, &mut self.press, now) {
             Ok(Pressed { published, sheet }) => {
                 self.sheet = sheet;
-                Publication::Published { published }
+                Ok(published)
             }
-            Err(fault) => Publication::Refused { fault },
+            Err(fault) => Err(fault),
         }
+    }
+
+    // Brings the edition that was made to the outlet.
+    fn export_made(&mut self, alloc: Global, published: Published) -> Publication<O>
+        requires some { self.old.press.at.serial ≢ 0 }
+        requires serial { published.serial ≡ self.old.press.at.serial }
+        ensures { Moves D.Disk O.Outlet (ExportsMade published (publishing.outcome_of result)) self.old self.new }
+    {
+        match self.export(alloc) {
+            Ok(()) => Publication::Published { published },
+            Err(fault) => Publication::Unexported {
+                serial: published.serial,
+                fault,
+            },
+        }
+    }
+
+    // What comes of a publication that makes no edition, for this reason.
+    fn refuse(&mut self, alloc: Global, fault: PressFault) -> Publication<O>
+        ensures { Moves D.Disk O.Outlet (RefusesFor fault (publishing.outcome_of result)) self.old self.new }
+    {
+        let serial = self.serial();
+        if is_nothing(&fault) {
+            return self.refuse_nothing(alloc, serial, fault);
+        }
+        Publication::Refused { serial, fault }
+    }
+
+    // There was nothing to publish behind the edition of that serial.
+    fn refuse_nothing(&mut self, alloc: Global, serial: u64, fault: PressFault) -> Publication<O>
+        requires nothing { is_nothing fault ≡ true }
+        requires serial { (state : InstanceState) → IsInState O.Outlet self.old state → serial ≡ last_serial state }
+        ensures { Moves D.Disk O.Outlet (RefusesFor fault (publishing.outcome_of result)) self.old self.new }
+    {
+        match self.repeat_export(alloc) {
+            Ok(repeated) => refused_or_repeated(repeated, serial, fault),
+            Err(export) => Publication::Unexported {
+                serial,
+                fault: export,
+            },
+        }
+    }
+
+    /// Brings the last edition to the outlet again, where it couldn't be before, and answers whether that
+    /// was so.
+    pub fn repeat_export(&mut self, alloc: Global) -> Result<bool, ExportFault<O>>
+        ensures { Moves D.Disk O.Outlet (Repeats result) self.old self.new }
+    {
+        if self.is_exported() {
+            return Ok(false);
+        }
+        match self.export(alloc) {
+            Ok(()) => Ok(true),
+            Err(fault) => Err(fault),
+        }
+    }
+
+    // Whether the last edition is at the outlet, or there is none.
+    fn is_exported(&self) -> bool
+        ensures exported { (state : InstanceState) → IsInState O.Outlet self.now state → result ≡ is_exported state }
+        ensures some { result ≡ false → self.now.press.at.serial ≢ 0 }
+    {
+        is_exported_at(self.press.last_export(), self.press.serial())
+    }
+
+    // Brings the last edition to the outlet.
+    fn export(&mut self, alloc: Global) -> Result<(), ExportFault<O>>
+        requires { self.old.press.at.serial ≢ 0 }
+        ensures { Moves D.Disk O.Outlet (ExportsOrStops result) self.old self.new }
+    {
+        more_editions_stay_shown();
+        self.press.export_to(alloc, &mut self.outlet)
     }
 
     /// The serial of the last edition, and 0 where there was none.
     pub fn serial(&self) -> u64
-        ensures { (state : InstanceState) → IsInState self.now state
+        ensures { (state : InstanceState) → IsInState O.Outlet self.now state
             → result ≡ (state_after state.editions).serial }
     {
         self.sheet.serial
@@ -172,7 +321,7 @@ impl<D: Disk, G: Signer> Instance<D, G> {
 
     /// The reply to `list`: the names of the tree, and which of them are deleted.
     pub fn list(&self, alloc: Global) -> Result<Vec<u8>, AllocError>
-        ensures { IfOk result (λ text. (state : InstanceState) → IsInState self.now state
+        ensures { IfOk result (λ text. (state : InstanceState) → IsInState O.Outlet self.now state
             → text.items ≡ list_reply state.desk_states) }
     {
         self.desks.list(alloc)
@@ -180,7 +329,7 @@ impl<D: Disk, G: Signer> Instance<D, G> {
 
     /// The reply to `show`: an authority's state.
     pub fn show(&self, alloc: Global, name: &Name) -> Result<Vec<u8>, AllocError>
-        ensures { IfOk result (λ text. (state : InstanceState) → IsInState self.now state
+        ensures { IfOk result (λ text. (state : InstanceState) → IsInState O.Outlet self.now state
             → IsShowText state name.now text.items) }
     {
         self.desks.show(alloc, &self.sheet, name)
@@ -188,7 +337,7 @@ impl<D: Disk, G: Signer> Instance<D, G> {
 
     /// The reply to `roas list`: an authority's origins.
     pub fn roas(&self, alloc: Global, name: &Name) -> Result<Vec<u8>, AllocError>
-        ensures { IfOk result (λ text. (state : InstanceState) → IsInState self.now state
+        ensures { IfOk result (λ text. (state : InstanceState) → IsInState O.Outlet self.now state
             → IsRoasText state name.now text.items) }
     {
         self.desks.roas(alloc, &self.sheet, name)
@@ -196,7 +345,7 @@ impl<D: Disk, G: Signer> Instance<D, G> {
 
     /// The reply to `history commands`: an authority's commands, all that were accepted.
     pub fn history(&self, alloc: Global, name: &Name) -> Result<Vec<u8>, AllocError>
-        ensures { IfOk result (λ text. (state : InstanceState) → IsInState self.now state
+        ensures { IfOk result (λ text. (state : InstanceState) → IsInState O.Outlet self.now state
             → text.items ≡ history_reply state.desk_states name.now) }
     {
         self.desks.history(alloc, name)

@@ -14,6 +14,7 @@ mod publication;
 mod reads;
 mod running;
 mod serving;
+mod session_id;
 mod starting;
 
 pub use command_fault::CommandFault;

@@ -2,26 +2,36 @@
 
 ghost use Rattle.std.specs.Prelude.{◌≡◌};
 ghost use Rattle.krill_top.specs.Publishing as spec;
+ghost use Rattle.krill_top.specs.Publishing.{outcome_of};
 
 use editions::Published;
+use outlet_api::{ExportFault, Outlet};
 use press_core::PressFault;
 
 /// What comes of a publication.
 #[derive(Drop)]
-pub enum Publication {
-    /// An edition was made, and stands.
+pub enum Publication<O: Outlet> {
+    /// An edition was made, and brought to the outlet.
     Published { published: Published },
-    /// No edition was made: those before it stand, and no other.
-    Refused { fault: PressFault },
+    /// The edition of that serial stands, made now or before, and couldn't be brought to the outlet. The
+    /// next publication tries it again.
+    Unexported { serial: u64, fault: ExportFault<O> },
+    /// There was nothing to publish, and the last edition was brought to the outlet, which had failed
+    /// before.
+    Repeated { fault: PressFault },
+    /// No edition was made: that of this serial stands, or none where it is 0, and nothing was exported.
+    Refused { serial: u64, fault: PressFault },
 }
 
-impl Publication {
-    /// Whether it changed the editions.
-    pub fn has_published(&self) -> bool
-        ensures { result ≡ spec.has_published self.now }
+impl<O: Outlet> Publication<O> {
+    /// Whether it changed the editions, or what is exported of them.
+    pub fn has_changed(&self) -> bool
+        ensures { result ≡ spec.has_changed (outcome_of self.now) }
     {
         match self {
-            Publication::Published { .. } => true,
+            Publication::Published { .. }
+            | Publication::Unexported { .. }
+            | Publication::Repeated { .. } => true,
             Publication::Refused { .. } => false,
         }
     }

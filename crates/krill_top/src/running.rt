@@ -1,8 +1,11 @@
 //! The top call.
 
-ghost use Rattle.std.specs.Prelude.{◌≡◌, ◌≢◌, ◌↔◌, ◌⊎◌, ◌<◌, ◌≤◌, [], ◌∷◌, List, length, map, IsTrue};
+ghost use Rattle.std.specs.Prelude.{◌≡◌, ◌≢◌, ◌↔◌, ◌⊎◌, ◌<◌, ◌≤◌, [], ◌∷◌, ℕ, List, length, map, IsTrue};
 ghost use Rattle.krill_top.specs.Words.{AreRunWords};
-ghost use Rattle.krill_top.specs.Statuses.{run_status, fault_of, opening_fault};
+ghost use Rattle.krill_top.specs.Statuses.{run_status, fault_of, export_fault, graver, opening_fault};
+ghost use Rattle.signer_api.specs.State.{SignerState};
+ghost use Rattle.krill_top.specs.Session.{session_of};
+ghost use Rattle.krill_top.specs.InstanceState.{OutletState, outlet_state};
 ghost use Rattle.krill_top.specs.DeskStates.{most_desks};
 ghost use Rattle.krill_top.specs.inner.Started.{IsStarted};
 ghost use Rattle.krill_top.specs.Run.{IsRefusedRun, IsRefusedAtOpening, ServesOne};
@@ -14,9 +17,12 @@ use crate::faults::{OpenFault, RunFault};
 use crate::fronts::{put_in_front, take_first};
 use crate::handler::Handler;
 use crate::serving::{Session, SessionEnds};
+use crate::session_id::session_of;
 use crate::starting::{Devices, NotStarted, SIGNERS_WRONG, Started, start, stop};
 use disk_api::Disk;
 use line_loop::{Clock, SessionEnd, Sink, Source};
+use outlet_api::{ExportFault, Outlet};
+use press_core::more_editions_stay_shown;
 use signer_api::Signer;
 use std::alloc::Global;
 
@@ -28,16 +34,17 @@ const SESSIONS_WRONG: u32 = 2;
 /// How many signers there are at most.
 const MOST_SIGNERS: usize = 8;
 
-/// What a run leaves: its status, why it isn't 0, and the desks' disks, the signers and the sessions'
-/// ends as they stand.
+/// What a run leaves: its status, why it isn't 0, and the desks' disks, the signers, the outlet and the
+/// sessions' ends as they stand.
 #[derive(Drop)]
-pub struct RunEnd<D: Disk, G: Signer, S: Source, K: Sink, C: Clock> {
+pub struct RunEnd<D: Disk, G: Signer, S: Source, K: Sink, O: Outlet, C: Clock> {
     /// 0, or that of its fault.
     pub status: u8,
     /// None where the run ended well.
     pub fault: Option<RunFault>,
     pub desks: Vec<D>,
     pub signers: Vec<G>,
+    pub outlet: O,
     pub sessions: Vec<SessionEnds<S, K, C>>,
 }
 
@@ -63,6 +70,30 @@ fn fault_of(ended: SessionEnd) -> Option<RunFault>
     }
 }
 
+// Why the export at the end didn't end well.
+fn export_fault<O: Outlet>(closing: &Result<bool, ExportFault<O>>) -> Option<RunFault>
+    ensures { result ≡ export_fault closing.now }
+{
+    match closing {
+        Ok(_) => None,
+        Err(ExportFault::OutletFault { .. }) => Some(RunFault::Device),
+        Err(ExportFault::Memory) => Some(RunFault::Memory),
+    }
+}
+
+// A device that failed goes before want of memory, and that before a budget that is spent.
+fn graver(session: Option<RunFault>, export: Option<RunFault>) -> Option<RunFault>
+    ensures { result ≡ graver session export }
+{
+    match export {
+        None => session,
+        Some(fault) => match session {
+            Some(RunFault::Device) => Some(RunFault::Device),
+            _ => Some(fault),
+        },
+    }
+}
+
 /// Why a run ended whose opening was refused.
 fn opening_fault(fault: OpenFault) -> RunFault
     ensures { result ≡ opening_fault fault }
@@ -76,18 +107,22 @@ fn opening_fault(fault: OpenFault) -> RunFault
     }
 }
 
-// Serves the one session over the instance, and closes it.
-fn serve_one<D: Disk, G: Signer, S: Source, K: Sink, C: Clock>(
+// Serves the one session over the instance, exports the last edition again where it couldn't be before,
+// and closes it.
+fn serve_one<D: Disk, G: Signer, S: Source, K: Sink, O: Outlet, C: Clock>(
     alloc: Global,
-    started: Started<D, G>,
+    started: Started<D, G, O>,
     sessions: Vec<SessionEnds<S, K, C>>,
-) -> RunEnd<D, G, S, K, C>
-    requires started { (disks : List D) × (signers : List G) × IsStarted D.Disk G.state disks signers started }
+) -> RunEnd<D, G, S, K, O, C>
+    requires started { (session : List ℕ) × (disks : List D) × (signers : List SignerState) × (outlet : OutletState)
+        × IsStarted D.Disk O.Outlet session disks signers outlet started }
     requires session { length sessions.items ≡ 1 }
-    ensures { (disks : List D) (signers : List G) (before : SessionEnds S K C)
-        → IsStarted D.Disk G.state disks signers started → sessions.items ≡ before ∷ []
-        → ServesOne D.Disk G.state S.Source K.Sink C.Clock disks signers before result }
+    ensures { (random : List ℕ) (disks : List D) (signers : List G) (outlet : O) (before : SessionEnds S K C)
+        → IsStarted D.Disk O.Outlet (session_of random) disks (map G.state signers) (outlet_state O.Outlet outlet) started
+        → sessions.items ≡ before ∷ []
+        → ServesOne D.Disk G.state O.Outlet S.Source K.Sink C.Clock random disks signers outlet before result }
 {
+    more_editions_stay_shown();
     let Started { instance, disks } = started;
     let mut sessions = sessions;
     let SessionEnds {
@@ -97,14 +132,16 @@ fn serve_one<D: Disk, G: Signer, S: Source, K: Sink, C: Clock>(
     } = take_first(&mut sessions);
     let mut handler = Handler::new(alloc, instance, clock);
     let ended = Session::serve(alloc, &mut handler, &mut source, &mut sink);
-    let (instance, clock) = handler.into_parts();
+    let (mut instance, clock) = handler.into_parts();
+    let closing = instance.repeat_export(alloc);
     let ends = SessionEnds {
         source,
         sink,
         clock,
     };
     put_in_front(&mut sessions, ends);
-    run_end(fault_of(ended), stop(Started { instance, disks }), sessions)
+    let fault = graver(fault_of(ended), export_fault(&closing));
+    run_end(fault, stop(Started { instance, disks }), sessions)
 }
 
 /// The status of a run that ended so.
@@ -118,15 +155,16 @@ fn status_of(fault: &Option<RunFault>) -> u8
 }
 
 // What a run leaves that ended so.
-fn run_end<D: Disk, G: Signer, S: Source, K: Sink, C: Clock>(
+fn run_end<D: Disk, G: Signer, S: Source, K: Sink, O: Outlet, C: Clock>(
     fault: Option<RunFault>,
-    devices: Devices<D, G>,
+    devices: Devices<D, G, O>,
     sessions: Vec<SessionEnds<S, K, C>>,
-) -> RunEnd<D, G, S, K, C>
+) -> RunEnd<D, G, S, K, O, C>
     ensures status { result.status ≡ run_status fault }
     ensures fault { result.fault ≡ fault }
     ensures desks { result.desks.items ≡ devices.disks.items }
     ensures signers { result.signers.items ≡ devices.signers.items }
+    ensures outlet { result.outlet ≡ devices.outlet }
     ensures sessions { result.sessions.items ≡ sessions.items }
 {
     RunEnd {
@@ -134,24 +172,26 @@ fn run_end<D: Disk, G: Signer, S: Source, K: Sink, C: Clock>(
         fault,
         desks: devices.disks,
         signers: devices.signers,
+        outlet: devices.outlet,
         sessions,
     }
 }
 
 // Opens all, and serves the one session.
-fn run_one<D: Disk, G: Signer, S: Source, K: Sink, C: Clock>(
+fn run_one<D: Disk, G: Signer, S: Source, K: Sink, O: Outlet, C: Clock>(
     alloc: Global,
-    devices: Devices<D, G>,
+    random: [u8; 32],
+    devices: Devices<D, G, O>,
     sessions: Vec<SessionEnds<S, K, C>>,
-) -> RunEnd<D, G, S, K, C>
+) -> RunEnd<D, G, S, K, O, C>
     requires desks { length devices.disks.items ≡ most_desks }
     requires signers { length devices.signers.items ≤ 8 }
     requires session { length sessions.items ≡ 1 }
     ensures { (before : SessionEnds S K C) → sessions.items ≡ before ∷ []
-        → IsRefusedAtOpening D.Disk G.state devices.disks.items devices.signers.items sessions.items result
-        ⊎ ServesOne D.Disk G.state S.Source K.Sink C.Clock devices.disks.items devices.signers.items before result }
+        → IsRefusedAtOpening D.Disk G.state devices.disks.items devices.signers.items devices.outlet sessions.items result
+        ⊎ ServesOne D.Disk G.state O.Outlet S.Source K.Sink C.Clock random devices.disks.items devices.signers.items devices.outlet before result }
 {
-    match start(alloc, devices) {
+    match start(alloc, session_of(random), devices) {
         Ok(started) => serve_one(alloc, started, sessions),
         Err(NotStarted { devices, fault }) => {
             run_end(Some(opening_fault(fault)), devices, sessions)
@@ -202,42 +242,47 @@ fn refusal(words: &[String], disks: usize, signers: usize, sessions: usize) -> O
 }
 
 /// Does what the words name. `run` opens the 64 desks over their disks, in order, and the instance over
-/// them and the signers, and serves the one session: each command goes to the desk of its authority,
-/// and what the desks have accepted is published.
+/// them, the signers and the outlet, and serves the one session: each command goes to the desk of its
+/// authority, and what the desks have accepted is published and brought to the outlet. Where the last
+/// edition couldn't be, that is tried once more at the end. The session of its RRDP files is drawn from
+/// `random`.
 ///
-/// Where opening is refused no source is read and no sink is given anything. All devices come back as
-/// they stand.
+/// Where opening is refused no source is read, no sink is given anything, and nothing is put. All devices
+/// come back as they stand.
 ///
 /// Asked before anything is opened, in this order: the words (`Words`), that there is one session,
 /// 64 desks, and 1 to 8 signers (`WrongCount` with 2, 0 and 1).
-pub fn run_krill<D: Disk, G: Signer, S: Source, K: Sink, C: Clock>(
+pub fn run_krill<D: Disk, G: Signer, S: Source, K: Sink, O: Outlet, C: Clock>(
     alloc: Global,
     words: &[String],
+    random: [u8; 32],
     desks: Vec<D>,
     signers: Vec<G>,
+    outlet: O,
     sessions: Vec<SessionEnds<S, K, C>>,
-) -> RunEnd<D, G, S, K, C>
-    ensures words { ¬ AreRunWords words.now → IsRefusedRun desks.items signers.items sessions.items faults.Words result }
+) -> RunEnd<D, G, S, K, O, C>
+    ensures words { ¬ AreRunWords words.now → IsRefusedRun desks.items signers.items outlet sessions.items faults.Words result }
     ensures sessions { AreRunWords words.now → length sessions.items ≢ 1
-        → IsRefusedRun desks.items signers.items sessions.items (faults.Refused (opening.WrongCount 2 1 (length sessions.items))) result }
+        → IsRefusedRun desks.items signers.items outlet sessions.items (faults.Refused (opening.WrongCount 2 1 (length sessions.items))) result }
     ensures desks { AreRunWords words.now → length sessions.items ≡ 1 → length desks.items ≢ most_desks
-        → IsRefusedRun desks.items signers.items sessions.items (faults.Refused (opening.WrongCount 0 most_desks (length desks.items))) result }
+        → IsRefusedRun desks.items signers.items outlet sessions.items (faults.Refused (opening.WrongCount 0 most_desks (length desks.items))) result }
     ensures no_signer { AreRunWords words.now → length sessions.items ≡ 1 → length desks.items ≡ most_desks → signers.items ≡ []
-        → IsRefusedRun desks.items signers.items sessions.items (faults.Refused (opening.WrongCount 1 1 0)) result }
+        → IsRefusedRun desks.items signers.items outlet sessions.items (faults.Refused (opening.WrongCount 1 1 0)) result }
     ensures signers { AreRunWords words.now → length sessions.items ≡ 1 → length desks.items ≡ most_desks → 8 < length signers.items
-        → IsRefusedRun desks.items signers.items sessions.items (faults.Refused (opening.WrongCount 1 8 (length signers.items))) result }
+        → IsRefusedRun desks.items signers.items outlet sessions.items (faults.Refused (opening.WrongCount 1 8 (length signers.items))) result }
     ensures served { AreRunWords words.now → length desks.items ≡ most_desks → 0 < length signers.items → length signers.items ≤ 8
         → (before : SessionEnds S K C) → sessions.items ≡ before ∷ []
-        → IsRefusedAtOpening D.Disk G.state desks.items signers.items sessions.items result
-        ⊎ ServesOne D.Disk G.state S.Source K.Sink C.Clock desks.items signers.items before result }
+        → IsRefusedAtOpening D.Disk G.state desks.items signers.items outlet sessions.items result
+        ⊎ ServesOne D.Disk G.state O.Outlet S.Source K.Sink C.Clock random desks.items signers.items outlet before result }
 {
     let refused = refusal(words, desks.len(), signers.len(), sessions.len());
     let devices = Devices {
         disks: desks,
         signers,
+        outlet,
     };
     match refused {
         Some(fault) => run_end(Some(fault), devices, sessions),
-        None => run_one(alloc, devices, sessions),
+        None => run_one(alloc, random, devices, sessions),
     }
 }

@@ -8,6 +8,7 @@ ghost use Rattle.krill_top.specs.Sessions.{Served};
 use crate::handler::Handler;
 use disk_api::Disk;
 use line_loop::{Clock, SessionEnd, Sink, Source, serve_lines};
+use outlet_api::Outlet;
 use signer_api::Signer;
 use std::alloc::Global;
 
@@ -30,13 +31,13 @@ impl Session {
     /// clock.
     ///
     /// Before it waits for more input it has given the replies to all lines that have come.
-    pub fn serve<D: Disk, G: Signer, S: Source, K: Sink, C: Clock>(
+    pub fn serve<D: Disk, G: Signer, S: Source, K: Sink, O: Outlet, C: Clock>(
         alloc: Global,
-        handler: &mut Handler<D, G, C>,
+        handler: &mut Handler<D, G, O, C>,
         source: &mut S,
         sink: &mut K,
     ) -> SessionEnd
-        ensures session { Served D.Disk S.Source K.Sink (record { source = source.old; sink = sink.old })
+        ensures session { Served D.Disk O.Outlet S.Source K.Sink (record { source = source.old; sink = sink.old })
             (record { source = source.new; sink = sink.new }) (timed C.Clock handler.old) (timed C.Clock handler.new) result }
         ensures source_fault { result ≡ SessionEnd.SourceFault →
             HasRisen (S.fault_count source.old) (S.fault_count source.new) }

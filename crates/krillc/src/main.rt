@@ -1,7 +1,8 @@
 //! `krillc`: the daemon over standard input and output, and the files of a folder.
 //!
-//! The folder `krill-data` of the working directory has a file for each desk, `desk-00` to `desk-63`, and
-//! the pipes of the signers, `signer-0.in` and `signer-0.out` to `signer-7.in` and `signer-7.out`.
+//! The folder `krill-data` of the working directory has a file for each desk, `desk-00` to `desk-63`, the
+//! pipes of the signers, `signer-0.in` and `signer-0.out` to `signer-7.in` and `signer-7.out`, and `repo`,
+//! the folder of the files that are exported.
 #![tactic(auto)]
 
 mod signers;
@@ -10,16 +11,21 @@ use disk_api::{DiskStop, FileDisk};
 use krill_top::{
     DESKS, RunFault, SessionEnds, StreamSink, StreamSource, SystemClock, fault_text, run_krill,
 };
+use outlet_api::FolderOutlet;
 use signer_api::Signer;
 use signers::{PipedSigner, open_signers, rehearsal};
 use std::io::{ErrorKind, Write};
 use std::os::fd::{AsRawFd, IntoRawFd};
 use std::process::ExitCode;
+use std::random::RandomSource;
 use std::thread::Threads;
 use std::{env, fs, io};
 
 /// The folder of the desks' files, in the working directory.
 pub(crate) const FOLDER: &str = "krill-data";
+
+/// The folder of the files that are exported.
+const REPOSITORY: &str = "krill-data/repo";
 
 /// The standard streams have the descriptors below this one.
 const STANDARD_STREAMS: i32 = 3;
@@ -35,19 +41,22 @@ announce a prefix:
 
     echo '{\"command\":\"roas update\",\"ca\":\"ta\",\"add\":[\"10.0.0.0/16-24 => 64496\"]}' | krillc run
 
-The line {\"command\":\"publish\"} publishes what was accepted. Nothing that is published is kept when the
-program ends. Keys and signatures are those of the signers whose pipes stand in that folder, signer-0.in
+The line {\"command\":\"publish\"} publishes what was accepted, and puts the RRDP files, the trust anchor's
+certificate and its locator into krill-data/repo. The editions are not kept when the program ends: the
+next run begins a new session. Keys and signatures are those of the signers whose pipes stand in that folder, signer-0.in
 and signer-0.out to signer-7.in and signer-7.out; where there are none, they are a rehearsal's, which
 no relying party accepts, and standard error says so.
 
 statuses:
-    0  standard input was read to its end, and every line has its reply
+    0  standard input was read to its end, every line has its reply, and krill-data/repo has what was
+       published last
     2  the words are none of those above
     3  the store is damaged or holds what is no accepted command, or it uses more signers than there
        are: standard error says where, or how many
     4  a device failed: standard input or output failed or is closed, a file of the store or a pipe of a
        signer can't be opened, read or written at the start, signers are numbered with a gap, one gives
-       no answer to `hello`, or another krillc has the store
+       no answer to `hello`, another krillc has the store, or what was published last couldn't be put
+       into krill-data/repo
     5  standard input brought 2^40 bytes, the most that a session may
     6  out of memory
 ";
@@ -216,11 +225,23 @@ fn run<G: Signer>(
     let Ok(sessions) = vec![in rt.alloc(); session] else {
         return refused(rt, RunFault::Memory);
     };
-    let end = run_krill(rt.alloc(), words, desks, signers, sessions);
+    let (random, outlet) = match open_repository(rt) {
+        Ok(opened) => opened,
+        Err(stop) => return refused(rt, fault_of(stop)),
+    };
+    let end = run_krill(rt.alloc(), words, random, desks, signers, outlet, sessions);
     match end.fault {
         None => ExitCode::from(end.status),
         Some(fault) => refused(rt, fault),
     }
+}
+
+/// The random bytes of the session of RRDP files, and the folder of these.
+fn open_repository(rt: &HostRuntime) -> Result<([u8; 32], FolderOutlet), DiskStop> {
+    let mut random = [0; 32];
+    rt.fill_bytes(&mut random).map_err(stop_of)?;
+    let folder = String::from_str(rt.alloc(), REPOSITORY)?;
+    Ok((random, FolderOutlet::new(*rt, folder)))
 }
 
 /// Writes the fault to standard error, and gives its status.

@@ -5,12 +5,14 @@ use disk_api::{Disk, MemoryDisk};
 use krill_top::{
     ListClock, MemorySink, MemorySource, RunEnd, RunFault, SessionEnds, fault_text, run_krill,
 };
+use outlet_api::MemoryOutlet;
+use sha2::{Digest, Sha256};
 use signer_api::{MemorySigner, Rehearsal, Signer};
 use std::alloc::Global;
 
 type Ends = SessionEnds<MemorySource, MemorySink, ListClock>;
 
-type End<G> = RunEnd<MemoryDisk, G, MemorySource, MemorySink, ListClock>;
+type End<G> = RunEnd<MemoryDisk, G, MemorySource, MemorySink, MemoryOutlet, ListClock>;
 
 /// The ends of the runs to come, and what is told of those that were.
 #[derive(Drop)]
@@ -19,6 +21,8 @@ pub struct Bench {
     disks: Vec<MemoryDisk>,
     rehearsals: Vec<Rehearsal>,
     memory_signers: Vec<MemorySigner>,
+    outlet: MemoryOutlet,
+    random: [u8; 32],
     clock: Vec<u64>,
     sessions: u32,
     input: Vec<u8>,
@@ -37,6 +41,8 @@ impl Bench {
             disks: Vec::new(alloc),
             rehearsals: Vec::new(alloc),
             memory_signers: Vec::new(alloc),
+            outlet: MemoryOutlet::new(alloc, Vec::new(alloc)),
+            random: [0; 32],
             clock: Vec::new(alloc),
             sessions: 1,
             input: Vec::new(alloc),
@@ -91,6 +97,16 @@ impl Bench {
     ) -> Result<()> {
         let signer = MemorySigner::new(alloc, start, fails);
         Ok(self.memory_signers.push(signer)?)
+    }
+
+    /// An empty outlet that fails at these of its calls.
+    pub fn set_outlet(&mut self, alloc: Global, fails: Vec<u64>) {
+        self.outlet = MemoryOutlet::new(alloc, fails);
+    }
+
+    /// The session of RRDP files is drawn from this.
+    pub fn set_random(&mut self, random: [u8; 32]) {
+        self.random = random;
     }
 
     /// The clocks give these moments from now on, and then the last one again and again.
@@ -180,21 +196,32 @@ impl Bench {
         let sessions = self.all_sessions(alloc)?;
         self.input.clear();
         let disks = std::mem::replace(&mut self.disks, Vec::new(alloc));
-        let end = run_krill(alloc, self.words.as_slice(), disks, signers, sessions);
+        let outlet = std::mem::replace(&mut self.outlet, MemoryOutlet::new(alloc, Vec::new(alloc)));
+        let end = run_krill(
+            alloc,
+            self.words.as_slice(),
+            self.random,
+            disks,
+            signers,
+            outlet,
+            sessions,
+        );
         self.keep(alloc, end)
     }
 
-    // Tells the status and the fault's text, keeps the replies of all sessions and the disks, and hands
-    // back the signers.
+    // Tells the status and the fault's text, keeps the replies of all sessions, the disks and the outlet,
+    // and hands back the signers.
     fn keep<G: Signer>(&mut self, alloc: Global, end: End<G>) -> Result<Vec<G>> {
         let RunEnd {
             status,
             fault,
             desks,
             signers,
+            outlet,
             sessions,
         } = end;
         self.disks = desks;
+        self.outlet = outlet;
         self.replies.clear();
         for ends in sessions.as_slice() {
             self.replies.extend_from_slice(ends.sink.bytes())?;
@@ -233,6 +260,17 @@ impl Bench {
             Ok(text) => Ok(text.replace(alloc, "\n", "␊")?),
             Err(_) => bail!("replies that are no text"),
         }
+    }
+
+    /// Tells how many bytes the outlet's file at that path has, and their SHA-256, or that there is none.
+    pub fn tell_file(&mut self, alloc: Global, path: &str) -> Result<()> {
+        let Some(bytes) = self.outlet.file(path) else {
+            write!(self.told, "\tnone")?;
+            return Ok(());
+        };
+        let hash = hex::encode(alloc, Sha256::digest(bytes))?;
+        write!(self.told, "\t{} {hash}", bytes.len())?;
+        Ok(())
     }
 
     /// Tells how many disks there are, the first one's faults and bytes, and how many of the others have

@@ -39,6 +39,8 @@ fn take_signer_step(alloc: Global, bench: &mut Bench, word: &str, text: &str) ->
 
 fn take_session_step(alloc: Global, bench: &mut Bench, word: &str, text: &str) -> Result<()> {
     match word {
+        "outlet" => bench.set_outlet(alloc, numbers_of(alloc, text, ' ')?),
+        "random" => bench.set_random(fixed_of(alloc, text)?),
         "sessions" => bench.set_sessions(text.parse::<u32>()?),
         "pieces" => bench.set_piece(text.parse::<usize>()?),
         "source" => bench.set_source_fails(numbers_of(alloc, text, ' ')?),
@@ -59,6 +61,7 @@ fn take_run_step(alloc: Global, bench: &mut Bench, word: &str, text: &str) -> Re
         "replies" => bench.tell_replies(alloc),
         "among" => bench.tell_whether_replies(alloc, text),
         "left" => bench.tell_disks(alloc),
+        "file" => bench.tell_file(alloc, text),
         "fault" => bench.tell_fault(alloc, fault_of(text)?),
         _ => bail!("an unknown step"),
     }

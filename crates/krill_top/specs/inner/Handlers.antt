@@ -4,6 +4,6 @@ use Rattle.krill_top.specs.declared.handler.Handler.{Handler}
 use Rattle.krill_top.specs.inner.Instances.{TimedInstance}
 
 -- its instance, and what its clock tells
-abbrev pub timed : {D G C : Type 0} → ClockGhosts C → Handler D G C → TimedInstance D
+abbrev pub timed : {D G O C : Type 0} → ClockGhosts C → Handler D G O C → TimedInstance D O
 timed clock_of handler =
     record { instance = handler.instance; clock = clock_of.readings handler.clock }

@@ -1,6 +1,7 @@
 -- The instance as the program has it and as replies see it.
 use Rattle.std.specs.Prelude.{◌≡◌, ◌≢◌, ◌<◌, ℕ, Bool, List, [], Option, All, length}
 use Rattle.disk_api.specs.declared.disk.Disk.{Ghosts as DiskGhosts}
+use Rattle.outlet_api.specs.declared.outlet.Outlet.{Ghosts as OutletGhosts}
 use Rattle.authority_book.specs.declared.rows.NameRow.{NameRow}
 use Rattle.desk_core.specs.View.{View}
 use Rattle.signer_ring.specs.Ring.{Keeps}
@@ -12,28 +13,40 @@ use Rattle.press_core.specs.Press.{PressValue}
 use Rattle.press_core.specs.Stands.{IsLeftBy, StandsFor}
 use Rattle.krill_top.specs.DeskStates.{most_desks, names_in}
 use Rattle.krill_top.specs.InstanceState.{InstanceState, TimedInstanceState, at_clock}
-use Rattle.krill_top.specs.InstanceState.{lists_of, premises_of, AreVouchedIn, VouchForCalls}
+use Rattle.krill_top.specs.InstanceState.{outlet_state, lists_of, premises_of, AreVouchedIn}
+use Rattle.krill_top.specs.InstanceState.{VouchForCalls, IsCoherentIn}
+use Rattle.press_core.specs.Files.{HasFilesOf}
+use Rattle.press_core.specs.Exports.{ShowsEdition, ShowsLast}
 use Rattle.krill_top.specs.DesksInStates.{AreIn, DesksGoOn}
 use Rattle.krill_top.specs.Replies.{IsReply, IsText}
 
--- The desks by their numbers, the press, what readers are shown of the last edition, and how many
--- signers there are.
-pub record InstanceValue (D : Type 0) : Type 0 where
+-- The desks by their numbers, the press, what readers are shown of the last edition, how many signers
+-- there are, and the outlet.
+pub record InstanceValue (D O : Type 0) : Type 0 where
   pub desks : List (View D)
   pub press : PressValue
   pub sheet : Sheet
   pub signers : ℕ
+  pub outlet : O
 
 -- The instance is in this state: its desks are in their states, its press has what the editions
--- left, and stands for them whatever is vouched, if their signatures are; and the signers of all names
--- and keys are there.
-pub record IsInState {D : Type 0} (instance : InstanceValue D) (state : InstanceState)
-    : Type 0 where
+-- left, with their files, and stands for them whatever is vouched, if their signatures are; the
+-- signers of all names and keys are there; and the outlet shows what was exported last, if that ended
+-- Ok.
+pub record IsInState {D O : Type 0} (outlet_of : OutletGhosts O) (instance : InstanceValue D O)
+    (state : InstanceState) : Type 0 where
   pub desks : AreIn instance.desks state.desk_states
   pub left : IsLeftBy (lists_of state.desk_states) state.editions instance.press.at
   pub stands : (vouched : Vouched) → AreVouchedIn vouched state
       → StandsFor (premises_of vouched state) state.editions instance.press.at
+  pub serial : instance.press.at.serial ≡ length state.editions
+  pub files : HasFilesOf state.editions instance.press
   pub site : instance.press.site ≡ state.site
+  pub session : instance.press.rrdp.session ≡ state.session
+  pub exported : instance.press.last_export ≡ state.exported
+  pub outlet : outlet_state outlet_of instance.outlet ≡ state.outlet
+  pub shows : ShowsLast (ShowsEdition state.session state.site) state.editions state.exported
+      state.outlet.files
   pub ring : instance.press.ring ≡ state.signers
   pub kept : state.editions ≢ [] → IsConsistentState instance.press.at
   pub one_each : length instance.press.at.cut ≡ most_desks
@@ -44,49 +57,52 @@ pub record IsInState {D : Type 0} (instance : InstanceValue D) (state : Instance
       (names_in state.desk_states)
 
 -- It is in some state.
-pub record IsInstance {D : Type 0} (instance : InstanceValue D) : Type 0 where
+pub record IsInstance {D O : Type 0} (outlet_of : OutletGhosts O) (instance : InstanceValue D O)
+    : Type 0 where
   pub state : InstanceState
-  pub stands : IsInState instance state
+  pub stands : IsInState outlet_of instance state
 
 -- From the instance in one state, P leads to a state in which the other instance is.
-pub record Arrives {D : Type 0} (disk_of : DiskGhosts D)
-    (P : InstanceState → InstanceState → Type 0) (old new : InstanceValue D)
+pub record Arrives {D O : Type 0} (disk_of : DiskGhosts D) (outlet_of : OutletGhosts O)
+    (P : InstanceState → InstanceState → Type 0) (old new : InstanceValue D O)
     (before : InstanceState) : Type 0 where
   pub after : InstanceState
   pub same_site : after.site ≡ before.site
+  pub same_session : after.session ≡ before.session
   pub step : P before after
-  pub stands : IsInState new after
+  pub stands : IsInState outlet_of new after
   pub disks : DesksGoOn disk_of old.desks new.desks before.desk_states after.desk_states
   pub kept : Keeps before.signers after.signers
   pub vouch : VouchForCalls before after
+  pub coherent : IsCoherentIn before → IsCoherentIn after
 
 -- What a call may do to the instance, as replies see it and as its disks go on.
-abbrev pub Moves : {D : Type 0} → DiskGhosts D → (InstanceState → InstanceState → Type 0)
-    → InstanceValue D → InstanceValue D → Type 0
-Moves disk_of P old new = (before : InstanceState) → IsInState old before
-    → Arrives disk_of P old new before
+abbrev pub Moves : {D O : Type 0} → DiskGhosts D → OutletGhosts O
+    → (InstanceState → InstanceState → Type 0) → InstanceValue D O → InstanceValue D O → Type 0
+Moves disk_of outlet_of P old new = (before : InstanceState) → IsInState outlet_of old before
+    → Arrives disk_of outlet_of P old new before
 
 -- The instance, and what the readings of its session's clock give, where it tells.
-pub record TimedInstance (D : Type 0) : Type 0 where
-  pub instance : InstanceValue D
+pub record TimedInstance (D O : Type 0) : Type 0 where
+  pub instance : InstanceValue D O
   pub clock : Option (ℕ → ℕ)
 
 -- What a line may do to the instance and the clock.
-abbrev pub MovesTimed : {D : Type 0} → DiskGhosts D
+abbrev pub MovesTimed : {D O : Type 0} → DiskGhosts D → OutletGhosts O
     → (TimedInstanceState → TimedInstanceState → Type 0)
-    → TimedInstance D → TimedInstance D → Type 0
-MovesTimed disk_of P old new =
-    Moves disk_of (λ b a. P (at_clock old.clock b) (at_clock new.clock a))
+    → TimedInstance D O → TimedInstance D O → Type 0
+MovesTimed disk_of outlet_of P old new =
+    Moves disk_of outlet_of (λ b a. P (at_clock old.clock b) (at_clock new.clock a))
     old.instance new.instance
 
 -- A line that isn't blank may get this text.
-abbrev pub MayText : {D : Type 0} → DiskGhosts D → TimedInstance D → List ℕ → List ℕ → Bool
-    → TimedInstance D → Type 0
-MayText disk_of old line text changed new =
-    MovesTimed disk_of (λ b a. IsText line b text changed a) old new
+abbrev pub MayText : {D O : Type 0} → DiskGhosts D → OutletGhosts O → TimedInstance D O → List ℕ
+    → List ℕ → Bool → TimedInstance D O → Type 0
+MayText disk_of outlet_of old line text changed new =
+    MovesTimed disk_of outlet_of (λ b a. IsText line b text changed a) old new
 
 -- A line may get this reply.
-abbrev pub MayReply : {D : Type 0} → DiskGhosts D → TimedInstance D → List ℕ → List ℕ → Bool
-    → TimedInstance D → Type 0
-MayReply disk_of old line reply changed new =
-    MovesTimed disk_of (λ b a. IsReply b line reply changed a) old new
+abbrev pub MayReply : {D O : Type 0} → DiskGhosts D → OutletGhosts O → TimedInstance D O → List ℕ
+    → List ℕ → Bool → TimedInstance D O → Type 0
+MayReply disk_of outlet_of old line reply changed new =
+    MovesTimed disk_of outlet_of (λ b a. IsReply b line reply changed a) old new

@@ -1,5 +1,5 @@
 -- What a press makes of the desks' commands, before the instance takes it in.
-use Rattle.std.specs.Prelude.{◌≡◌, ◌⊎◌, ℕ, List}
+use Rattle.std.specs.Prelude.{◌≡◌, ◌⊎◌, ℕ, List, [], ◌∷◌, ◌++◌}
 use Rattle.desk_core.specs.View.{View}
 use Rattle.signer_api.specs.State.{SignerState}
 use Rattle.signer_ring.specs.Ring.{Keeps}
@@ -14,7 +14,11 @@ use Rattle.press_core.specs.Press.{PressValue, DropsEach}
 use Rattle.press_core.specs.Signers.{HoldKeys}
 use Rattle.press_core.specs.PrepareInput.{start_of}
 use Rattle.press_core.specs.Next.{NextValue}
-use Rattle.press_core.specs.Follows.{IsNextEdition}
+use Rattle.press_core.specs.Files.{HasFilesOf}
+use Rattle.press_core.specs.Follows.{edition_of, IsNextEdition}
+use Rattle.press_core.specs.Stands.{IsLeftBy}
+use Rattle.authority_book.specs.declared.commands.Command.{Command}
+use Rattle.editions.specs.Edition.{Edition}
 use Rattle.press_core.specs.Faults.{IsPressFault}
 use Rattle.krill_top.specs.inner.Gathered.{AreSince}
 
@@ -30,6 +34,11 @@ pub record IsPressed {D : Type 0} (clock : ℕ) (desks : List (View D)) (old new
   pub held : HoldKeys old.ring made
   pub at : new.at ≡ prepared.next
   pub site : new.site ≡ old.site
+  pub session : new.rrdp.session ≡ old.rrdp.session
+  pub last_export : new.last_export ≡ old.last_export
+  pub files : (lists : List (List Command)) (editions : List Edition)
+      → IsLeftBy lists editions old.at → HasFilesOf editions old
+      → HasFilesOf (editions ++ edition_of prepared ∷ []) new
   pub dropped : DropsEach prepared.ended made new.ring
   pub still : Keeps made new.ring
   pub told_is : told ≡ published_of prepared.next

@@ -28,6 +28,9 @@ pub fn answer(alloc: Global, call: &str, arguments: &str) -> Result<String> {
         "key clash" => Refused::KeyClash {
             id: key_of(arguments)?,
         },
+        "outlet fault" => Refused::OutletFault {
+            serial: arguments.parse::<u64>()?,
+        },
         _ => return shown::answer(alloc, call, arguments),
     };
     refused(alloc, &reason)

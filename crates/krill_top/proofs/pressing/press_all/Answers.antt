@@ -1,5 +1,8 @@
-use Rattle.std.proofs.Common.{ℕ, List, inr, subst}
+use Rattle.std.proofs.Common.{ℕ, List, inr, sym, ◌∙◌, ap, subst}
 use Rattle.std.proofs.lemmas.Result.{err_from_is_err_and}
+use Rattle.press_core.specs.Press.{PressValue}
+use Rattle.press_core.specs.Files.{files_of}
+use Rattle.krill_top.proofs.Pressed.{pressed_by}
 use Rattle.krill_top.specs.inner.Gathered.{AreSince}
 use Rattle.krill_top.proofs.pressing.press_all.Goals as goal
 
@@ -18,3 +21,29 @@ returns-in_err-sheet-clause-refused g c =
         met = inr (record { work = is.made.work; planned = is.made.planned; out = inr (is.made.made, is.made.is_made) });
       });
     })
+
+pub commit-published-requires-clause-files : goal.commit-published-requires-clause-files
+commit-published-requires-clause-files g c =
+    c.in_ok-prepared.ensures.files ∙ ap (λ (p : PressValue). files_of p.rrdp.session c.in_ok-prepared.prepared.edition) (sym c.in_ok-prepared.ensures.kept)
+
+pub returns-clause-pressed : goal.returns-clause-pressed
+returns-clause-pressed g c =
+    let prepared = c.in_ok-prepared.prepared.edition in
+    let made = c.in_ok-prepared.ensures in
+    let committed = c.commit-published.ensures in
+    pressed_by c.args.now c.args.desks.now c.in_ok-gathered.gathered.items prepared c.commit-published.result c.in_ok-sheet.sheet
+    c.args.press.now c.prepare.new.self c.commit-published.new.self c.retire_keys.new.self
+    (subst (λ (cut : List ℕ). AreSince 0 c.args.desks.now cut c.in_ok-gathered.gathered.items) c.cut.ensures c.in_ok-gathered.ensures) made.prepared
+    (record { same = made.kept; kept = made.signers; held = made.keys })
+    (record {
+      at = committed.at;
+      ended = committed.ended;
+      site = committed.site;
+      ring = committed.ring;
+      files = committed.files;
+      session = committed.session;
+      last_export = committed.last_export;
+      told_is = committed.result;
+    })
+    (record { dropped = c.retire_keys.ensures.dropped; others = c.retire_keys.ensures.others; kept = c.retire_keys.ensures.kept })
+    c.in_ok-sheet.ensures

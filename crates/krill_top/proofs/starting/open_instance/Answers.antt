@@ -4,7 +4,7 @@ use Rattle.desk_core.specs.View.{View}
 use Rattle.signer_api.specs.State.{SignerState}
 use Rattle.krill_top.specs.declared.faults.OpenFault.TheVariants.{WrongCount}
 use Rattle.krill_top.specs.DeskStates.{names_in}
-use Rattle.krill_top.specs.InstanceState.{first_state}
+use Rattle.krill_top.specs.InstanceState.{outlet_state, first_state}
 use Rattle.krill_top.specs.DesksInStates.{AreIn}
 use Rattle.krill_top.specs.inner.Instances.{IsInState}
 use Rattle.krill_top.specs.inner.Opened.{AreOpened, AreClosed}
@@ -33,12 +33,11 @@ returns-in-Ok-clause-started g c disks opened =
     let ring : length c.new-ring.result ≡ length c.args.signers.items = ap length c.new-ring.ensures ∙ mapped in
     record {
       opened = subst (λ (l : List (View D)). AreOpened g.D.Disk 0 disks l) (sym (is.desks ∙ c.new-desks.ensures)) opened;
-      ring = is.ring ∙ c.new-ring.ensures;
       stands = λ desk_states all.
           let here : AreIn c.new-desks.result desk_states = subst (λ (l : List (View D)). AreIn l desk_states) is.desks all in
           let needed = c.signers_needed-needed.ensures desk_states here in
           let enough : signers_needed (names_in desk_states) ≤ length c.new-ring.result = omega (arith, needed, long, ring, c.if-found-needed.false, c.len.ensures) in
-          subst (λ (s : List SignerState). IsInState instance (first_state desk_states s)) c.new-ring.ensures
+          subst (λ (s : List SignerState). IsInState g.O.Outlet instance (first_state c.args.session desk_states s (outlet_state g.O.Outlet c.args.outlet))) c.new-ring.ensures
           (is.opened desk_states here enough);
       there = λ desk_states all.
           let here : AreIn c.new-desks.result desk_states = subst (λ (l : List (View D)). AreIn l desk_states) is.desks all in

@@ -1,4 +1,5 @@
 use Rattle.std.proofs.Common.{◌∙◌, ap, [], ◌∷◌, ◌++◌, List, ℕ, refl}
+use Rattle.krill_top.specs.Publishing.{outcome_of}
 use Rattle.krill_top.specs.Replies.{publish_text}
 use Rattle.krill_top.specs.inner.Handlers.{timed}
 use Rattle.krill_top.proofs.Answering.{publish_told}
@@ -6,10 +7,10 @@ use Rattle.krill_top.proofs.handler.Handler.answer_publish.Goals as goal
 
 pub returns-clause-ok : goal.returns-clause-ok
 returns-clause-ok g c =
-    let text = publish_text c.publish-publication.result in (
+    let text = publish_text (outcome_of c.publish-publication.result) in (
       text,
       c.append_publication.ensures ∙ ap (λ (l : List ℕ). l ++ text ++ 10 ∷ []) c.in_ok-reserve.ensures.items,
-      publish_told g.D.Disk c.now-now.result c.publish-publication.result text c.has_published-changed.result (timed g.C.Clock c.args.self.now)
+      publish_told g.D.Disk g.O.Outlet c.now-now.result (outcome_of c.publish-publication.result) text c.has_changed-changed.result (timed g.C.Clock c.args.self.now)
           (record { instance = c.publish-publication.new.self; clock = g.C.Clock.readings c.now-now.new.self }) c.now-now.ensures
-          refl c.has_published-changed.ensures c.publish-publication.ensures,
+          refl c.has_changed-changed.ensures c.publish-publication.ensures,
     )

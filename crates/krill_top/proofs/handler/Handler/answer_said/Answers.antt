@@ -12,7 +12,7 @@ returns-in-Command-clause-ok g c = if_ok_so c.answer_command.result _ _ c.answer
     (λ changed t. (
       t.0,
       t.1,
-      kind_said g.D.Disk (CommandText c.in-Command.name c.in-Command.command) c.args.said (line.Command c.in-Command.name c.in-Command.command) _ _ t.0 changed changed
+      kind_said g.D.Disk g.O.Outlet (CommandText c.in-Command.name c.in-Command.command) c.args.said (line.Command c.in-Command.name c.in-Command.command) _ _ t.0 changed changed
           c.in-Command.is refl (λ before after is. is) t.2,
     ))
 
@@ -21,8 +21,8 @@ returns-in-Publish-clause-ok g c = if_ok_so c.answer_publish.result _ _ c.answer
     (λ changed t. (
       t.0,
       t.1,
-      kind_said g.D.Disk PublishText c.args.said line.Publish _ _ t.0 changed changed
-          c.in-Publish.is refl (λ before after is. is) (surely g.D.Disk PublishText _ _ t.0 changed t.2),
+      kind_said g.D.Disk g.O.Outlet PublishText c.args.said line.Publish _ _ t.0 changed changed
+          c.in-Publish.is refl (λ before after is. is) (surely g.D.Disk g.O.Outlet PublishText _ _ t.0 changed t.2),
     ))
 
 pub returns-in-Serial-clause-ok : goal.returns-in-Serial-clause-ok
@@ -30,9 +30,9 @@ returns-in-Serial-clause-ok g c = if_ok_so c.answer_serial.result _ _ c.answer_s
     (λ changed t. (
       t.0,
       t.1,
-      kind_said g.D.Disk (λ b text changed a. IsTold (serial_text b.state) b text changed a) c.args.said line.Serial _ _ t.0 changed changed
+      kind_said g.D.Disk g.O.Outlet (λ b text changed a. IsTold (serial_text b.state) b text changed a) c.args.said line.Serial _ _ t.0 changed changed
           c.in-Serial.is refl (λ before after is. is)
-          (surely g.D.Disk (λ b text changed a. IsTold (serial_text b.state) b text changed a) _ _ t.0 changed t.2),
+          (surely g.D.Disk g.O.Outlet (λ b text changed a. IsTold (serial_text b.state) b text changed a) _ _ t.0 changed t.2),
     ))
 
 pub returns-in-List-clause-ok : goal.returns-in-List-clause-ok
@@ -40,7 +40,7 @@ returns-in-List-clause-ok g c = if_ok_so c.append_told.result _ _ c.append_told.
     (λ changed t. (
       t.1.0,
       t.1.1,
-      read_said g.D.Disk c.args.said line.List (λ state text. text ≡ list_reply state.desk_states) (timed g.C.Clock c.args.self.now) c.list.result t.1.0 changed
+      read_said g.D.Disk g.O.Outlet c.args.said line.List (λ state text. text ≡ list_reply state.desk_states) (timed g.C.Clock c.args.self.now) c.list.result t.1.0 changed
           c.in-List.is t.0 (λ before after is. is) c.list.ensures t.1.2,
     ))
 
@@ -49,7 +49,7 @@ returns-in-Show-clause-ok g c = if_ok_so c.append_told-in-Show.result _ _ c.appe
     (λ changed t. (
       t.1.0,
       t.1.1,
-      read_said g.D.Disk c.args.said (line.Show c.in-Show.name) (λ state. IsShowText state c.in-Show.name) (timed g.C.Clock c.args.self.now) c.show.result t.1.0 changed
+      read_said g.D.Disk g.O.Outlet c.args.said (line.Show c.in-Show.name) (λ state. IsShowText state c.in-Show.name) (timed g.C.Clock c.args.self.now) c.show.result t.1.0 changed
           c.in-Show.is t.0 (λ before after is. is) c.show.ensures t.1.2,
     ))
 
@@ -58,7 +58,7 @@ returns-in-Roas-clause-ok g c = if_ok_so c.append_told-in-Roas.result _ _ c.appe
     (λ changed t. (
       t.1.0,
       t.1.1,
-      read_said g.D.Disk c.args.said (line.Roas c.in-Roas.name) (λ state. IsRoasText state c.in-Roas.name) (timed g.C.Clock c.args.self.now) c.roas.result t.1.0 changed
+      read_said g.D.Disk g.O.Outlet c.args.said (line.Roas c.in-Roas.name) (λ state. IsRoasText state c.in-Roas.name) (timed g.C.Clock c.args.self.now) c.roas.result t.1.0 changed
           c.in-Roas.is t.0 (λ before after is. is) c.roas.ensures t.1.2,
     ))
 
@@ -67,6 +67,6 @@ returns-in-History-clause-ok g c = if_ok_so c.append_told-in-History.result _ _ 
     (λ changed t. (
       t.1.0,
       t.1.1,
-      read_said g.D.Disk c.args.said (line.History c.in-History.name) (λ state text. text ≡ history_reply state.desk_states c.in-History.name) (timed g.C.Clock c.args.self.now) c.history.result t.1.0 changed
+      read_said g.D.Disk g.O.Outlet c.args.said (line.History c.in-History.name) (λ state text. text ≡ history_reply state.desk_states c.in-History.name) (timed g.C.Clock c.args.self.now) c.history.result t.1.0 changed
           c.in-History.is t.0 (λ before after is. is) c.history.ensures t.1.2,
     ))

@@ -10,6 +10,6 @@ returns-clause-ok g c =
     let text = serial_spelling c.serial.result in (
       text,
       c.append_serial.ensures ∙ ap (λ (l : List ℕ). l ++ text ++ 10 ∷ []) c.in_ok-reserve.ensures.items,
-      stay_timed g.D.Disk (λ b a. IsTold (serial_text b.state) b text false a) (timed g.C.Clock c.args.self.now)
+      stay_timed g.D.Disk g.O.Outlet (λ b a. IsTold (serial_text b.state) b text false a) (timed g.C.Clock c.args.self.now)
           (λ before stands. record { text_is = ap serial_spelling (c.serial.ensures before stands); unchanged = refl; same = refl }),
     )

@@ -4,12 +4,12 @@ use Rattle.krill_top.proofs.handler.Handler.answer_text.Goals as goal
 
 pub returns-in-Ok-clause-ok : goal.returns-in-Ok-clause-ok
 returns-in-Ok-clause-ok g c = if_ok_so c.answer_said.result _ _ c.answer_said.ensures.ok
-    (λ accepted t. (t.0, t.1, said_text g.D.Disk _ _ _ _ t.0 accepted (c.in-Ok.ensures (λ e. cc)) t.2))
+    (λ accepted t. (t.0, t.1, said_text g.D.Disk g.O.Outlet _ _ _ _ t.0 accepted (c.in-Ok.ensures (λ e. cc)) t.2))
 
 pub returns-in_ok-reserve-in-Err-clause-ok : goal.returns-in_ok-reserve-in-Err-clause-ok
 returns-in_ok-reserve-in-Err-clause-ok g c =
     let said = c.append_line_fault.ensures in (
       said.0,
       said.1 ∙ ap (λ (l : List ℕ). l ++ said.0 ++ 10 ∷ []) c.in_ok-reserve-in-Err.ensures.items,
-      line_fault_text g.D.Disk _ c.args.line.now c.in-Err.fault said.0 c.in-Err.ensures said.2,
+      line_fault_text g.D.Disk g.O.Outlet _ c.args.line.now c.in-Err.fault said.0 c.in-Err.ensures said.2,
     )

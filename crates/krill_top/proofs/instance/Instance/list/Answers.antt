@@ -5,5 +5,5 @@ use Rattle.krill_top.proofs.instance.Instance.list.Goals as goal
 
 pub returns : goal.returns
 returns g c = if_ok_so c.list.result _ _ c.list.ensures (λ text is state stands.
-    let s = subst (λ (o : InstanceValue g.row.D.Denot). IsInState o state) (sym c.self.view_is) stands in
+    let s = subst (λ (o : InstanceValue g.row.D.Denot g.row.O.Denot). IsInState g.O.Outlet o state) (sym c.self.view_is) stands in
     is state.desk_states s.desks)

@@ -5,4 +5,4 @@ use Rattle.krill_top.proofs.serving.Session.serve.Goals as goal
 pub returns-clause-session : goal.returns-clause-session
 returns-clause-session g c =
     let s = c.serve_lines.ensures.session in
-    converses_over g.D.Disk (timed g.C.Clock) g.S.Source g.K.Sink _ _ c.serve_lines.result s.0 s.1 c.args.handler.now c.serve_lines.new.handler s.2 s.3 s.4
+    converses_over g.D.Disk g.O.Outlet (timed g.C.Clock) g.S.Source g.K.Sink _ _ c.serve_lines.result s.0 s.1 c.args.handler.now c.serve_lines.new.handler s.2 s.3 s.4

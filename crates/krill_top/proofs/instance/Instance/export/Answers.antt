@@ -1,0 +1,30 @@
+use Rattle.std.proofs.Common.{sym, subst}
+use Rattle.press_core.specs.Press.{PressValue}
+use Rattle.press_core.specs.Exports.{ended_by}
+use Rattle.krill_top.specs.InstanceState.{outlet_state}
+use Rattle.krill_top.specs.Exports.{ExportsOrStops}
+use Rattle.krill_top.specs.inner.Instances.{InstanceValue, IsInstance, Moves}
+use Rattle.krill_top.proofs.Exporting.{IsExportOf, exported_moves}
+use Rattle.krill_top.proofs.Publishing.{instance_on}
+use Rattle.krill_top.proofs.instance.Instance.export.Goals as goal
+
+pub invariant_of-self : goal.invariant_of-self
+invariant_of-self g c =
+    let old : InstanceValue g.row.D.Denot g.row.O.Denot = record { desks = c.self.inside.desks; press = c.self.inside.press; sheet = c.self.inside.sheet; signers = c.self.inside.signers; outlet = c.self.inside.outlet } in
+    let outlet = c.export_to.new.outlet in
+    let e = c.export_to.ensures in
+    let is : IsExportOf c.export_to.result old.press (outlet_state g.O.Outlet old.outlet) (outlet_state g.O.Outlet outlet) = record { done = e.done; front = e.front; coherent = e.coherent; shown = e.shown; counts = e.counts; cause = e.cause } in
+    let moves = exported_moves g.D.Disk g.O.Outlet c.more_editions_stay_shown.ensures.files old c.export_to.result outlet is in
+    subst (λ (p : PressValue). IsInstance g.O.Outlet (record old { press = p; outlet = outlet })) (sym e.kept)
+    (instance_on g.O.Outlet g.D.Disk (ExportsOrStops c.export_to.result) old (record old { press = record old.press { last_export = ended_by c.export_to.result old.press.at.serial }; outlet = outlet }) moves c.self.invariant)
+
+pub returns : goal.returns
+returns g c =
+    let D : Type 0 = g.row.D.Denot in
+    let old : InstanceValue D g.row.O.Denot = record { desks = c.self.inside.desks; press = c.self.inside.press; sheet = c.self.inside.sheet; signers = c.self.inside.signers; outlet = c.self.inside.outlet } in
+    let outlet = c.export_to.new.outlet in
+    let e = c.export_to.ensures in
+    let is : IsExportOf c.export_to.result old.press (outlet_state g.O.Outlet old.outlet) (outlet_state g.O.Outlet outlet) = record { done = e.done; front = e.front; coherent = e.coherent; shown = e.shown; counts = e.counts; cause = e.cause } in
+    let moves = exported_moves g.D.Disk g.O.Outlet c.more_editions_stay_shown.ensures.files old c.export_to.result outlet is in
+    subst (λ (o : InstanceValue D g.row.O.Denot). Moves g.D.Disk g.O.Outlet (ExportsOrStops c.export_to.result) o (record old { press = c.export_to.new.self; outlet = outlet })) c.self.view_is
+    (subst (λ (p : PressValue). Moves g.D.Disk g.O.Outlet (ExportsOrStops c.export_to.result) old (record old { press = p; outlet = outlet })) (sym e.kept) moves)
