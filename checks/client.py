@@ -1,0 +1,172 @@
+#!/usr/bin/env python3
+"""client.py KRILL KRILLC: runs the command line over the daemon in a scratch store, and compares what it prints."""
+import json
+import os
+import re
+import subprocess
+import sys
+import tempfile
+
+REHEARSAL = "krillc: no signer's pipes stand in krill-data: signatures are a rehearsal's, which no relying party accepts\n"
+TREE = """Authority: isp
+Parent:    ta
+Keys:      steady
+Certified: AS64496; IPv4 192.0.2.0/24; IPv6 2001:db8::/32
+Edition:   1
+Children:  none
+"""
+ANCHOR = """Authority: ta
+Parent:    none
+Keys:      steady
+Certified: AS0-AS4294967295; IPv4 0.0.0.0/0; IPv6 ::/0
+Edition:   1
+
+CHILD  STATE   RESOURCES
+isp    active  AS64496; IPv4 192.0.2.0/24; IPv6 2001:db8::/32
+"""
+HISTORY = """COUNT  COMMAND
+1      parents add --ca isp --parent ta
+2      roas update --add '192.0.2.0/24 => 64496' --add '198.51.100.0/24 => 64497' --ca isp
+"""
+ORIGINS = """ORIGIN                    STATE
+192.0.2.0/24 => 64496     published
+198.51.100.0/24 => 64497  held
+"""
+CSV = "prefix,length,asn\n192.0.2.0/24,24,AS64496\n198.51.100.0/24,24,AS64497\n"
+MORE = "prefix, max, as\n# kept\n192.0.2.0/24, , 64496\n2001:db8::/32,48,as64496\n"
+
+# words, status, standard output, standard error: texts that are compared whole, patterns that have to match whole,
+# or None for whatever it is
+CASES = [
+    (["list"], 3, "", re.compile(r"krill: no store in .*: 'krill init' makes one\n")),
+    (["init"], 0, "", ""),
+    (["list"], 0, "NAME  STATE\nta    active\n", ""),
+    (["add", "--ca", "isp"], 0, "Accepted: command 1 of ta.\n", ""),
+    (["add", "--ca", "isp"], 1, "", "krill: NameTaken: an authority has that name\n"
+     "Names are never free again, those of deleted authorities neither.\n"),
+    (["--format", "json", "add", "--ca", "isp"], 1, '{"code": 2, "detail": "", "refused": "NameTaken"}\n', ""),
+    (["children", "add", "--ca", "ta", "--child", "isp", "--asn", "AS64496", "--ipv4", "192.0.2.0/24", "--ipv6", "2001:db8::/32"],
+     0, "Accepted: command 2 of ta.\n", ""),
+    (["parents", "add", "--ca", "isp", "--parent", "ta"], 0, "Accepted: command 1 of isp.\n", ""),
+    (["roas", "update", "--ca", "isp", "--add", "192.0.2.0/24 => 64496", "--add", "198.51.100.0/24 => 64497"],
+     0, "Accepted: command 2 of isp.\n", ""),
+    (["roas", "update", "--ca", "isp", "--add", "192.0.2.0/24 => 64496"], 1, "",
+     "krill: OriginThere: the origin is configured (192.0.2.0/24 => 64496)\nLeave it out, or remove it in the same update.\n"),
+    (["roas", "update", "--ca", "isp"], 2, "", "krill: neither --add nor --remove is given\n"),
+    (["serial"], 0, "0\n", ""),
+    (["publish"], 0, re.compile(r"Edition 1 of \d{4}-\d\d-\d\d \d\d:\d\d:\d\d UTC: 7 objects, 1 origin\.\n"), REHEARSAL),
+    (["history", "commands", "--ca", "isp"], 0, HISTORY, ""),
+    (["history", "--ca", "isp"], 0, HISTORY, ""),
+    (["roas", "export", "--ca", "isp", "--as", "csv"], 0, CSV, ""),
+    (["roas", "import", "--ca", "isp", "--dry-run", "more.csv"], 0, "",
+     "+ 2001:db8::/32-48 => 64496\n1 to add, 0 to remove, 2 stay.\n"),
+    (["roas", "import", "--ca", "isp", "more.csv"], 2, "",
+     "+ 2001:db8::/32-48 => 64496\n1 to add, 0 to remove, 2 stay.\n"
+     "krill: not confirmed: nothing was sent; --yes sends without asking\n"),
+    (["roas", "import", "--ca", "isp", "--replace", "--yes", "more.csv"], 0, "Accepted: command 3 of isp.\n",
+     "- 198.51.100.0/24 => 64497\n+ 2001:db8::/32-48 => 64496\n1 to add, 1 to remove, 1 stay.\n"),
+    (["roas", "import", "--ca", "isp", "--replace", "--yes", "more.csv"], 0, "", "0 to add, 0 to remove, 2 stay.\n"),
+    (["roas", "import", "--ca", "isp", "faulty.csv"], 2, "", "krill: faulty.csv:2: 192.0.2.1/24 has host bits set\n"),
+    (["roas", "import", "--ca", "isp", "faulty.json"], 2, "", "krill: faulty.json: origin 1: length 33 isn't from 24 to 32\n"),
+    (["roas", "import", "--ca", "isp", "absent"], 2, "", "krill: absent: No such file or directory\n"),
+    (["roas", "export", "--ca", "none"], 1, "", "krill: NoSuchAuthority: no authority has that name (none)\n"
+     "'krill list' shows the names.\n"),
+    (["watch", "--looks", "1"], 0, re.compile(r"\d\d:\d\d:\d\d  edition none yet\nAUTHORITY +PUBLISHED +PENDING +HELD\n"
+                                               r"ta +0 +0 +0\nisp +0 +0 +2\n\n"), ""),
+    (["--krillc", "/bin/false", "list"], 4, "", re.compile(r"krill: krillc ended with status 1\n(.*\n)?")),
+    (["--krillc", "./absent", "list"], 4, "", "krill: ./absent: No such file or directory\n"),
+    (["shew"], 2, "", None),
+]
+
+
+def check(failed, what, got, want):
+    if isinstance(want, re.Pattern):
+        is_well = want.fullmatch(got) is not None
+    else:
+        is_well = want is None or got == want
+    if not is_well:
+        failed.append(what)
+        print(f"checks/client: {what}\n  got  {got!r}\n  want {want!r}")
+
+
+def main():
+    krill, krillc = (os.path.realpath(it) for it in sys.argv[1:])
+    failed = []
+    with tempfile.TemporaryDirectory() as scratch:
+        def run(*words):
+            environment = {**os.environ, "KRILL_PROGRAM": krillc, "KRILL_STORE": ""}
+            environment.pop("KRILL_STORE")
+            return subprocess.run([sys.executable, krill, *words], cwd=scratch, env=environment, stdin=subprocess.DEVNULL,
+                                  capture_output=True, text=True, check=False)
+
+        for name, text in (("more.csv", MORE), ("faulty.csv", "192.0.2.0/24,24,1\n192.0.2.1/24,24,1\n"),
+                           ("faulty.json", '[{"asn": 1, "prefix": "192.0.2.0/24", "max_length": 33}]')):
+            with open(os.path.join(scratch, name), "w", encoding="utf-8") as file:
+                file.write(text)
+        for words, status, output, error in CASES:
+            ran = run(*words)
+            name = " ".join(words)
+            check(failed, f"{name}: status", ran.returncode, status)
+            check(failed, f"{name}: standard output", ran.stdout, output)
+            check(failed, f"{name}: standard error", ran.stderr, error)
+        round_trip(failed, run, scratch)
+        health(failed, run)
+        completes(failed, run)
+        busy(failed, run, scratch, krillc)
+    if failed:
+        sys.exit(1)
+    print(f"checks/client: ok, {len(CASES)} commands")
+
+
+def round_trip(failed, run, scratch):
+    """What is exported in either form is taken over as what stands."""
+    for form in ("json", "csv"):
+        with open(os.path.join(scratch, "exported"), "w", encoding="utf-8") as file:
+            file.write(run("roas", "export", "--ca", "isp", "--as", form).stdout)
+        ran = run("roas", "import", "--ca", "isp", "--replace", "--yes", "exported")
+        check(failed, f"export and import as {form}", ran.stderr, "0 to add, 0 to remove, 2 stay.\n")
+
+
+def health(failed, run):
+    """The gauges are those of the edition that was published, and are read back as Prometheus does."""
+    text = run("status", "--prometheus").stdout
+    line = re.compile(r'# (HELP|TYPE) \w+ .+|(\w+)(\{\w+="[^"]*"(,\w+="[^"]*")*\})? (-?\d+)')
+    for each in text.splitlines():
+        check(failed, "status --prometheus", each, line)
+    values = dict(re.findall(r"^(\w+(?:\{[^}]*\})?) (-?\d+)$", text, re.M))
+    check(failed, "krill_serial", values.get("krill_serial"), "1")
+    check(failed, "krill_authorities", values.get("krill_authorities"), "2")
+    age = int(values.get("krill_edition_age_seconds", -1))
+    check(failed, "the age and what is left are a day", age + int(values.get("krill_edition_left_seconds", 0)), 86400)
+    check(failed, "the age", 0 <= age < 600, True)
+    check(failed, "the journals", sorted(it for it in values if it.startswith("krill_journal_bytes")),
+          ['krill_journal_bytes{journal="desk-00"}', 'krill_journal_bytes{journal="desk-01"}'])
+    check(failed, "status --format json", json.loads(run("--format", "json", "status").stdout)["serial"], 1)
+
+
+def completes(failed, run):
+    """bash takes the completion, and completes by it."""
+    script = run("completion").stdout + 'COMP_WORDS=(krill roas up) COMP_CWORD=2; _krill; echo "${COMPREPLY[*]}"\n'
+    script += 'COMP_WORDS=(krill --format json children "") COMP_CWORD=4; _krill; echo "${COMPREPLY[*]}"\n'
+    ran = subprocess.run(["bash", "-c", script], capture_output=True, text=True, check=False)
+    check(failed, "completion", ran.stdout, "update\nadd update remove suspend unsuspend -h --help\n")
+    check(failed, "completion says nothing", ran.stderr, "")
+
+
+def busy(failed, run, scratch, krillc):
+    """A store that another krillc has is told as that, and its status still tells what its files have."""
+    with subprocess.Popen([krillc, "run"], cwd=scratch, stdin=subprocess.PIPE, stdout=subprocess.PIPE,
+                          stderr=subprocess.DEVNULL) as other:
+        other.stdin.write(b'{"command":"serial"}\n')
+        other.stdin.flush()
+        other.stdout.readline()
+        ran = run("list")
+        check(failed, "a store in use: status", ran.returncode, 4)
+        check(failed, "a store in use", ran.stderr.startswith("krill: krillc: device failed\nIs another krillc running"), True)
+        ran = run("status")
+        check(failed, "status of a store in use", (ran.returncode, ran.stdout.startswith("Edition:     1, of ")), (0, True))
+        other.stdin.close()
+
+
+if __name__ == "__main__":
+    main()

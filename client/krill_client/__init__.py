@@ -1,0 +1,1 @@
+"""What `krill` is made of: words (the command line), store (krillc over a store), commands, origins, explain, tables, status."""
