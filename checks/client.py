@@ -26,7 +26,7 @@ isp    active  AS64496; IPv4 192.0.2.0/24; IPv6 2001:db8::/32
 """
 HISTORY = """COUNT  COMMAND
 1      parents add --ca isp --parent ta
-2      roas update --add '192.0.2.0/24 => 64496' --add '198.51.100.0/24 => 64497' --ca isp
+2      roas update --ca isp --add '192.0.2.0/24 => 64496' --add '198.51.100.0/24 => 64497'
 """
 ORIGINS = """ORIGIN                    STATE
 192.0.2.0/24 => 64496     published

@@ -47,9 +47,9 @@ def history(reply):
 
 
 def words_of(line):
-    """The words of krill that send the line."""
+    """The words of krill that send the line, the authority's name first."""
     words = line["command"].split()
-    for field, value in line.items():
+    for field, value in sorted(line.items(), key=lambda it: it[0] != "ca"):
         if field == "command" or value in ("", [], 0):
             continue
         if field == "resources":
