@@ -75,6 +75,24 @@ expect 2 '' "$usage"
 expect 2 '' "$usage" runs
 expect 2 '' "$usage" run run
 expect 2 '' "$usage" run --
+# Its clock may be let run behind, by 0 to 3600 seconds.
+for KRILL_CLOCK_BEHIND in 3601 -1 soon ''; do
+    export KRILL_CLOCK_BEHIND
+    expect 2 '' "krillc: KRILL_CLOCK_BEHIND isn't a number of seconds from 0 to 3600
+$usage" run
+done
+printf '{"command":"publish"}' >input
+began=$(date +%s)
+for KRILL_CLOCK_BEHIND in 0 3600; do
+    "$krillc" run <input >output 2>error || failed=1
+    moment=$(sed 's/^{"moment":\([0-9]*\),.*/\1/' output)
+    ended=$(date +%s)
+    if [ "$moment" -lt $((began - KRILL_CLOCK_BEHIND)) ] || [ "$moment" -gt $((ended - KRILL_CLOCK_BEHIND)) ]; then
+        echo "checks/program: a clock that is $KRILL_CLOCK_BEHIND seconds behind gives the moment $moment"
+        failed=1
+    fi
+done
+unset KRILL_CLOCK_BEHIND
 printf '{"command":"roas update","ca":"ta","add":["10.0.0.0/16-24 => 64496"]}' >input
 expect 0 '{"authority":"ta","count":1,"reply":"accepted"}
 ' '' run

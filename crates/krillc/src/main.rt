@@ -5,8 +5,10 @@
 //! the folder of the files that are exported.
 #![tactic(auto)]
 
+mod clock;
 mod signers;
 
+use clock::{ClockBehind, ClockFault, VARIABLE, seconds_behind};
 use disk_api::{DiskStop, FileDisk};
 use krill_top::{
     DESKS, RunFault, SessionEnds, StreamSink, StreamSource, SystemClock, fault_text, run_krill,
@@ -47,10 +49,13 @@ next run begins a new session. Keys and signatures are those of the signers whos
 and signer-0.out to signer-7.in and signer-7.out; where there are none, they are a rehearsal's, which
 no relying party accepts, and standard error says so.
 
+KRILL_CLOCK_BEHIND=SECONDS lets its clock run behind by so many, 0 to 3600, so that relying parties whose
+clock is behind find each new edition, too.
+
 statuses:
     0  standard input was read to its end, every line has its reply, and krill-data/repo has what was
        published last
-    2  the words are none of those above
+    2  the words are none of those above, or KRILL_CLOCK_BEHIND is no such number
     3  the store is damaged or holds what is no accepted command, or it uses more signers than there
        are: standard error says where, or how many
     4  a device failed: standard input or output failed or is closed, a file of the store or a pipe of a
@@ -217,10 +222,15 @@ fn run<G: Signer>(
     desks: Vec<FileDisk>,
     signers: Vec<G>,
 ) -> ExitCode {
+    let behind = match seconds_behind(rt) {
+        Ok(seconds) => seconds,
+        Err(ClockFault::Value) => return refused_clock(rt),
+        Err(ClockFault::Memory) => return refused(rt, RunFault::Memory),
+    };
     let session = SessionEnds {
         source: StreamSource::new(rt.stdin()),
         sink: StreamSink::new(rt.stdout()),
-        clock: SystemClock::new(*rt),
+        clock: ClockBehind::new(SystemClock::new(*rt), behind),
     };
     let Ok(sessions) = vec![in rt.alloc(); session] else {
         return refused(rt, RunFault::Memory);
@@ -242,6 +252,12 @@ fn open_repository(rt: &HostRuntime) -> Result<([u8; 32], FolderOutlet), DiskSto
     rt.fill_bytes(&mut random).map_err(stop_of)?;
     let folder = String::from_str(rt.alloc(), REPOSITORY)?;
     Ok((random, FolderOutlet::new(*rt, folder)))
+}
+
+/// Says what is wrong with the clock's variable, and then the usage, as for other faulty words.
+fn refused_clock(rt: &HostRuntime) -> ExitCode {
+    let _told = eprintln!(rt; "krillc: {VARIABLE} isn't a number of seconds from 0 to 3600");
+    refused(rt, RunFault::Words)
 }
 
 /// Writes the fault to standard error, and gives its status.
