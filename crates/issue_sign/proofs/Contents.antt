@@ -1,9 +1,10 @@
 -- Manifests: their contents, one more at a time, and what becomes of them.
 use Rattle.std.proofs.Common.{◌≡◌, ℕ, ◌+◌, ◌<◌, ◌≤◌, List, [], ◌∷◌, ◌++◌, length, get_or, map, refl, sym, ap, subst, ◌∙◌, arith}
-use Rattle.std.specs.Prelude.{Some, Result, Ok, Err, IfOk, IfErr}
+use Rattle.std.specs.Prelude.{Some, Result, Ok, Err, IfOk}
 use Rattle.std.proofs.lemmas.List.{map-append, length-map, get_or-map}
 use Rattle.signer_api.specs.State.{SignerState}
 use Rattle.signer_ring.specs.Calls.{Call}
+use Rattle.signer_ring.specs.declared.call_fault.CallFault.{CallFault}
 use Rattle.cert_obj.specs.declared.values.Cert.{Cert}
 use Rattle.cert_obj.specs.Values.{CertValue, cert_value}
 use Rattle.cert_obj.specs.Formats as certificates
@@ -13,10 +14,11 @@ use Rattle.payloads.specs.ManifestFormats.{file_view}
 use Rattle.issue_values.specs.declared.publishers.Publisher.{Publisher}
 use Rattle.issue_values.specs.Publishers.{Publishing, publishing}
 use Rattle.issue_values.specs.Certificates as values
-use Rattle.issue_sign.specs.Signed.{object_bytes, IsObject}
+use Rattle.issue_sign.specs.Signed.{object_bytes, IsEnd, IsObject}
 use Rattle.key_roll.specs.declared.rows.KeyRow.{KeyRow}
 use Rattle.issue_keys.specs.declared.fault.MakeFault.{MakeFault}
 use Rattle.issue_keys.specs.declared.fault.MakeFault.TheVariants.{Memory}
+use Rattle.issue_keys.specs.Faults.{fault_of}
 use Rattle.issue_drafts.specs.Certificates.{IssueInput, input_of, publishing_of}
 use Rattle.issue_drafts.specs.Drafts.{Draft, serial_behind}
 use Rattle.issue_drafts.specs.Drafts.Kind.{Manifest}
@@ -34,7 +36,7 @@ use Rattle.issue_sign.specs.inner.Steps.{IsCalled, AreCalled, IsHalt, IsObjectOf
 use Rattle.issue_sign.specs.inner.Steps.{manifest_text, IsContent, AreContents, last_call, IsManifestOf}
 use Rattle.issue_sign.proofs.Lists.{with_answers, pairs-nil, pairs-push}
 use Rattle.issue_sign.proofs.Going.{Stays, IsSpread, with_last, called-one, first-called-more, first-none, first-short, first-stop}
-use Rattle.issue_sign.proofs.Halts.{halt-as}
+use Rattle.issue_sign.proofs.Halts.{halt-as, halt-of-end}
 use Rattle.issue_sign.proofs.Places.{mapped-at, all-at, IsTurn}
 use Rattle.issue_sign.proofs.Said.{publishes}
 use Rattle.issue_sign.proofs.Routes.{answers-of-once}
@@ -163,7 +165,7 @@ certificate-made sign_input draft key given by (Ok cert) lt is made = λ b basis
     (publishing_of (input_of sign_input.input.now) b.keys draft.issuer.row.now) key n) serial)
 certificate-made sign_input draft key given by (Err e) lt is made = tt
 
-manifest-done : (s : IssueInput) (b : SignInputValue) (draft : ManifestDraft) (c : SignedContent) (o : Object) (cert : CertValue) (old new : List SignerState)
+pub manifest-done : (s : IssueInput) (b : SignInputValue) (draft : ManifestDraft) (c : SignedContent) (o : Object) (cert : CertValue) (old new : List SignerState)
     → IsContent s draft.issuer.row.now (b.files draft.issuer.row.now) c
     → cert ≡ manifest_certificate s b.keys b.all (manifest_of draft) c.once.key.bytes → o.once ≡ Some c.once
     → IsObjectOf (object_bytes ObjectKinds.Manifest c.content.items cert o.signature.bytes c.once.key.bytes c.once.signature.bytes)
@@ -190,30 +192,15 @@ manifest-done s b draft c o cert old new content value once object called =
           (sym (answers-of-once o c once)) at;
     }
 
-pub manifest-finished : {E : Type 0} (sign_input : SignInput) (draft : ManifestDraft) (given : ℕ) (c : SignedContent) (cert : Cert)
-    (old new : List SignerState) (r : Result Object E) → IsManifestCert sign_input draft given c.once.key.bytes cert
-    → IfOk r (λ o. IsObjectOf (object_bytes ObjectKinds.Manifest c.content.items
-    (cert_value cert) o.signature.bytes c.once.key.bytes c.once.signature.bytes)
-    (IsObject ObjectKinds.Manifest c.content.items (cert_value cert) o.signature.bytes c.once.key.bytes c.once.signature.bytes) o)
-    → IfOk r (λ o. o.once ≡ Some c.once) → IfOk r
-    (λ o. IsCalled old new (by_issuer draft.issuer.row.now (certificates.signed_bytes (cert_value cert)) o.signature.bytes))
-    → IfOk r (λ o. (b : SignInputValue) → IsSignInput sign_input b → IsPlaced b.rows draft.issuer → given ≡ serial_behind b.all draft.issuer.row.now
-    → IsContent (input_of sign_input.input.now) draft.issuer.row.now (b.files draft.issuer.row.now) c
-    → IsManifestOf (input_of sign_input.input.now) b (manifest_of draft) c o old new)
-manifest-finished sign_input draft given c cert old new (Ok o) value object once called = λ b basis placed serial content.
-    manifest-done (input_of sign_input.input.now) b draft c o (cert_value cert) old new content (value b basis placed serial) once object called
-manifest-finished sign_input draft given c cert old new (Err e) value object once called = tt
-
-pub manifest-stopped : {T : Type 0} (sign_input : SignInput) (draft : ManifestDraft) (given : ℕ) (c : SignedContent) (cert : Cert)
-    (old new : List SignerState) (r : Result T MakeFault) → IsManifestCert sign_input draft given c.once.key.bytes cert
-    → IfErr r (IsHalt (λ a. by_issuer draft.issuer.row.now (certificates.signed_bytes (cert_value cert)) a.last) old new)
-    → IfErr r (λ fault. (b : SignInputValue) → IsSignInput sign_input b → IsPlaced b.rows draft.issuer → given ≡ serial_behind b.all draft.issuer.row.now
-    → IsHalt (λ a. last_call (input_of sign_input.input.now) b (manifest_of draft) c.once.key.bytes a.last) old new fault)
-manifest-stopped sign_input draft given c cert old new (Ok x) value halt = tt
-manifest-stopped sign_input draft given c cert old new (Err fault) value halt = λ b basis placed serial.
-    halt-as (λ a. by_issuer draft.issuer.row.now (certificates.signed_bytes (cert_value cert)) a.last)
-    (λ a. last_call (input_of sign_input.input.now) b (manifest_of draft) c.once.key.bytes a.last) old new fault
-    (λ a. ap (λ (v : CertValue). by_issuer draft.issuer.row.now (certificates.signed_bytes v) a.last) (value b basis placed serial)) halt
+pub manifest-halt : (s : IssueInput) (b : SignInputValue) (draft : ManifestDraft) (once : List ℕ) (cert : CertValue) (old new : List SignerState)
+    (fault : CallFault) → cert ≡ manifest_certificate s b.keys b.all (manifest_of draft) once
+    → IsEnd draft.issuer.row.now.signer draft.issuer.row.now.key.bytes (certificates.signed_bytes cert) old new fault
+    → IsHalt (λ a. last_call s b (manifest_of draft) once a.last) old new (fault_of fault)
+manifest-halt s b draft once cert old new fault value end =
+    let key = draft.issuer.row.now in
+    halt-as (λ a. by_issuer key (certificates.signed_bytes cert) a.last) (λ a. last_call s b (manifest_of draft) once a.last) old new (fault_of fault)
+    (λ a. ap (λ (v : CertValue). by_issuer key (certificates.signed_bytes v) a.last) value)
+    (halt-of-end fault key (certificates.signed_bytes cert) old new end)
 
 -- ---- all manifests
 

@@ -6,7 +6,7 @@ use Rattle.signer_ring.specs.Calls.{Call, signer_of, after_call, IsStopped}
 use Rattle.signer_ring.specs.declared.call_fault.CallFault.{CallFault}
 use Rattle.signer_ring.specs.declared.call_fault.CallFault.TheVariants.{SignerFault, Memory}
 use Rattle.key_roll.specs.declared.rows.KeyRow.{KeyRow}
-use Rattle.issue_sign.specs.Signed.{IsSigned, IsEnd}
+use Rattle.issue_sign.specs.Signed.{IsSigned, IsSignedOnce, IsEnd}
 use Rattle.issue_keys.specs.declared.fault.MakeFault.{MakeFault}
 use Rattle.issue_keys.specs.declared.fault.MakeFault.TheVariants as faults
 use Rattle.issue_keys.specs.Faults.{fault_of}
@@ -43,6 +43,11 @@ halt-as call other old new faults.Memory e (inl same) = inl same
 halt-as call other old new faults.Memory e (inr (a, call-a)) = inr (a, call-a ∙ ap (after_call old) (e a))
 
 -- What one signature was, as a call.
-pub called-of : (key : KeyRow) (bytes signature : List ℕ) (old new : List SignerState) → IsSigned key.signer key.key.bytes bytes old new signature
-    → IsCalled old new (by_issuer key bytes signature)
-called-of key bytes signature old new h = record { signers = h.call; vouched = h.vouched }
+pub called-of : (key : KeyRow) (bytes signature other : List ℕ) (old new : List SignerState) → signature ≡ other
+    → IsSigned key.signer key.key.bytes bytes old new signature → IsCalled old new (by_issuer key bytes other)
+called-of key bytes signature other old new e h =
+    subst (λ (l : List ℕ). IsCalled old new (by_issuer key bytes l)) e (record { signers = h.call; vouched = h.vouched })
+
+pub called-once : (key : KeyRow) (bytes : List ℕ) (a : Answers) (old new : List SignerState) → IsSignedOnce key.signer a.once bytes old new a.content
+    → IsCalled old new (by_once key bytes a)
+called-once key bytes a old new h = record { signers = h.call; vouched = h.vouched }

@@ -1,9 +1,10 @@
 -- What a draft is after its first signature.
-use Rattle.std.proofs.Common.{◌≡◌, ℕ, ◌+◌, ◌<◌, ◌≤◌, List, [], ◌∷◌, ◌++◌, length, get_or, map, refl, sym, ap, subst, ◌∙◌, inl, inr, arith}
-use Rattle.std.specs.Prelude.{Result, Ok, Err, IfOk, IfErr}
+use Rattle.std.proofs.Common.{◌≡◌, ℕ, ◌+◌, ◌<◌, ◌≤◌, List, [], ◌∷◌, ◌++◌, length, get_or, map, refl, sym, ap, subst, ◌∙◌, arith, Bor}
 use Rattle.std.proofs.lemmas.List.{map-append, length-map, length-append}
 use Rattle.signer_api.specs.State.{SignerState}
-use Rattle.signer_ring.specs.Calls.{Call, after_call, after_calls}
+use Rattle.signer_ring.specs.Calls.{Call, after_call, after_calls, IsStopped}
+use Rattle.signer_ring.specs.declared.call_fault.CallFault.{CallFault}
+use Rattle.res_sets.specs.declared.holdings.Resources.{Resources}
 use Rattle.cert_obj.specs.Values.{CertValue}
 use Rattle.cert_obj.specs.Formats as certificates
 use Rattle.crl_obj.specs.Values.{CrlValue}
@@ -13,120 +14,112 @@ use Rattle.cms_obj.specs.Formats.{signed_attributes}
 use Rattle.origins.specs.declared.Origin.{Origin}
 use Rattle.payloads.specs.RoaFormats.{IsRoa}
 use Rattle.issue_values.specs.Bodies.{roa_of}
-use Rattle.issue_sign.specs.Signed.{framed, IsCertificate, IsCrlOf}
+use Rattle.issue_sign.specs.Signed.{framed, IsEnd, IsCertificate, IsCrlOf}
 use Rattle.issue_keys.specs.declared.fault.MakeFault.{MakeFault}
-use Rattle.issue_drafts.specs.Certificates.{IssueInput, input_of}
-use Rattle.issue_drafts.specs.Drafts.{Draft, Kind}
-use Rattle.issue_drafts.specs.Drafts.Kind.{Certificate, Roa, Crl, Manifest}
+use Rattle.issue_keys.specs.Faults.{fault_of}
+use Rattle.issue_drafts.specs.Certificates.{IssueInput}
 use Rattle.issue_drafts.specs.Views.{draft_of, kind_of}
+use Rattle.issue_drafts.specs.declared.draft.KeyAt.{KeyAt}
 use Rattle.issue_drafts.specs.declared.draft.Draft as code
 use Rattle.issue_drafts.specs.declared.draft.DraftKind.{DraftKind}
 use Rattle.issue_drafts.specs.declared.draft.DraftKind.TheVariants as kinds
-use Rattle.issue_sign.specs.declared.sign_input.SignInput.{SignInput}
-use Rattle.issue_sign.specs.declared.values.Unsigned.{Unsigned}
-use Rattle.issue_sign.specs.declared.values.Unsigned.TheVariants as unsigned
+use Rattle.issue_sign.specs.declared.object.Object.{Object}
+use Rattle.issue_sign.specs.declared.object.SignedContent.{SignedContent}
 use Rattle.issue_sign.specs.declared.firsts.Half.{Half}
 use Rattle.issue_sign.specs.declared.firsts.Half.TheVariants.{Made, Begun}
-use Rattle.issue_sign.specs.Objects.{Answers, Signed, roa_content}
+use Rattle.issue_sign.specs.Objects.{Answers, Signed, certificate_with, roa_content, crl_of}
 use Rattle.issue_sign.specs.Calls.{by_issuer, by_once, first_call, first_calls, second_calls}
-use Rattle.issue_sign.specs.SignInput.{SignInputValue, IsSignInput, AreDrafts}
+use Rattle.issue_sign.specs.SignInput.{SignInputValue}
 use Rattle.issue_sign.specs.Made.{signed, of_drafts, IsShort, IsStop}
-use Rattle.issue_sign.specs.inner.Steps.{IsCalled, AreCalled, IsHalt, IsObjectOf, IsWhole, IsOfKind, IsValueOf, call_of}
-use Rattle.issue_sign.specs.inner.Steps.{half_answers, IsHalfOf, IsHalfOfKind, IsHalf, IsDraft, Pairs, AreHalves}
+use Rattle.issue_sign.specs.inner.Steps.{IsCalled, AreCalled, IsHalt, IsObjectOf, content_answers}
+use Rattle.issue_sign.specs.inner.Steps.{half_answers, IsHalf, IsFirst, IsDraft, Pairs, AreHalves}
 use Rattle.issue_sign.proofs.Lists.{pairs-nil, pairs-push}
 use Rattle.issue_sign.proofs.Going.{Stays, first-called-more, first-none, first-short, first-stop}
-use Rattle.issue_sign.proofs.Halts.{halt-as}
+use Rattle.issue_sign.proofs.Halts.{halt-as, halt-of-end, halt-of-stop}
 use Rattle.issue_sign.proofs.Places.{draft-here}
+use Rattle.issue_sign.proofs.Said.{certificate-is}
 
 -- ---- one draft
 
-pub half-is : (s : IssueInput) (b : SignInputValue) (d : Draft) (kind : Kind) (u : Unsigned) (h : Half) → IsValueOf s b d kind u → IsWhole u → IsHalfOf u h → IsHalf s b d kind h
-half-is s b d (Certificate subject held) (unsigned.Certificate cert) (Made o) value whole half =
-    (refl, subst (λ (v : CertValue). IsObjectOf (framed (certificates.signed_bytes v) o.signature.bytes) (IsCertificate v o.signature.bytes) o) value half.object)
-half-is s b d (Certificate subject held) (unsigned.Certificate cert) (Begun origin content) value whole half = absurd half
-half-is s b d (Certificate subject held) (unsigned.Crl crl) h value whole half = absurd value
-half-is s b d (Certificate subject held) (unsigned.Roa origin content) h value whole half = absurd value
-half-is s b d (Roa origin) (unsigned.Certificate cert) h value whole half = absurd value
-half-is s b d (Roa origin) (unsigned.Crl crl) h value whole half = absurd value
-half-is s b d (Roa origin) (unsigned.Roa other content) (Made o) value whole half = absurd half
-half-is s b d (Roa origin) (unsigned.Roa other content) (Begun third signed) value whole half = (
-  ap Roa (sym (half.0 ∙ value)),
-  subst (λ (o : Origin). IsRoa (roa_of o)) (sym half.0) whole.0,
-  ap (λ v. v.items) half.1 ∙ (whole.1 ∙ ap roa_content (sym half.0)),
-)
-half-is s b d Crl (unsigned.Certificate cert) h value whole half = absurd value
-half-is s b d Crl (unsigned.Crl crl) (Made o) value whole half =
-    (refl, subst (λ (v : CrlValue). IsObjectOf (framed (crls.signed_bytes v) o.signature.bytes) (IsCrlOf v o.signature.bytes) o) value half.object)
-half-is s b d Crl (unsigned.Crl crl) (Begun origin content) value whole half = absurd half
-half-is s b d Crl (unsigned.Roa origin content) h value whole half = absurd value
-half-is s b d Manifest u h value whole half = absurd value
+pub certificate-first : (s : IssueInput) (b : SignInputValue) (d : code.Draft) (given : ℕ) (subject : KeyAt) (held : Bor Resources) (cert : CertValue)
+    (o : Object) (old new : List SignerState) → d.kind ≡ kinds.Authority subject held → IsDraft b d given
+    → cert ≡ certificate_with s b.keys d.issuer.row.now subject.row.now held.now given
+    → IsObjectOf (framed (certificates.signed_bytes cert) o.signature.bytes) (IsCertificate cert o.signature.bytes) o
+    → IsCalled old new (by_issuer d.issuer.row.now (certificates.signed_bytes cert) o.signature.bytes)
+    → IsFirst s b (draft_of d) (kind_of d.kind) (Made o) old new
+certificate-first s b d given subject held cert o old new e is made object called =
+    let at = certificate-is s b d subject held given cert e is made in
+    subst (λ (k : DraftKind). IsFirst s b (draft_of d) (kind_of k) (Made o) old new) (sym e)
+    (record {
+      half = (
+        refl,
+        subst (λ (v : CertValue). IsObjectOf (framed (certificates.signed_bytes v) o.signature.bytes) (IsCertificate v o.signature.bytes) o) at object,
+      );
+      called = subst (λ (v : CertValue). IsCalled old new (by_issuer d.issuer.row.now (certificates.signed_bytes v) o.signature.bytes)) at called;
+    })
 
-pub call-is : (s : IssueInput) (b : SignInputValue) (d : Draft) (kind : Kind) (u : Unsigned) (a : Answers) → IsValueOf s b d kind u → IsWhole u
-    → call_of s.work.moment d.issuer u a ≡ first_call s b.keys b.all b.entries d kind a
-call-is s b d (Certificate subject held) (unsigned.Certificate cert) a value whole =
-    ap (λ (v : CertValue). by_issuer d.issuer (certificates.signed_bytes v) a.last) value
-call-is s b d (Certificate subject held) (unsigned.Crl crl) a value whole = absurd value
-call-is s b d (Certificate subject held) (unsigned.Roa origin content) a value whole = absurd value
-call-is s b d (Roa origin) (unsigned.Certificate cert) a value whole = absurd value
-call-is s b d (Roa origin) (unsigned.Crl crl) a value whole = absurd value
-call-is s b d (Roa origin) (unsigned.Roa other content) a value whole =
-    ap (λ (bytes : List ℕ). by_once d.issuer (signed_attributes ObjectKinds.Roa bytes s.work.moment) a) (whole.1 ∙ ap roa_content value)
-call-is s b d Crl (unsigned.Certificate cert) a value whole = absurd value
-call-is s b d Crl (unsigned.Crl crl) a value whole =
-    ap (λ (v : CrlValue). by_issuer d.issuer (crls.signed_bytes v) a.last) value
-call-is s b d Crl (unsigned.Roa origin content) a value whole = absurd value
-call-is s b d Manifest u a value whole = absurd value
+pub crl-first : (s : IssueInput) (b : SignInputValue) (d : code.Draft) (crl : CrlValue) (o : Object) (old new : List SignerState) → d.kind ≡ kinds.Crl
+    → crl ≡ crl_of s b.entries d.issuer.row.now → IsObjectOf (framed (crls.signed_bytes crl) o.signature.bytes) (IsCrlOf crl o.signature.bytes) o
+    → IsCalled old new (by_issuer d.issuer.row.now (crls.signed_bytes crl) o.signature.bytes)
+    → IsFirst s b (draft_of d) (kind_of d.kind) (Made o) old new
+crl-first s b d crl o old new e made object called =
+    subst (λ (k : DraftKind). IsFirst s b (draft_of d) (kind_of k) (Made o) old new) (sym e)
+    (record {
+      half = (refl, subst (λ (v : CrlValue). IsObjectOf (framed (crls.signed_bytes v) o.signature.bytes) (IsCrlOf v o.signature.bytes) o) made object);
+      called = subst (λ (v : CrlValue). IsCalled old new (by_issuer d.issuer.row.now (crls.signed_bytes v) o.signature.bytes)) made called;
+    })
 
-kind-is : (k : DraftKind) (u : Unsigned) (h : Half) → IsOfKind k u → IsHalfOf u h → IsHalfOfKind k h
-kind-is (kinds.Authority subject held) (unsigned.Certificate cert) (Made o) of half = tt
-kind-is (kinds.Authority subject held) (unsigned.Certificate cert) (Begun origin content) of half = absurd half
-kind-is (kinds.Authority subject held) (unsigned.Crl crl) h of half = absurd of
-kind-is (kinds.Authority subject held) (unsigned.Roa origin content) h of half = absurd of
-kind-is (kinds.Route origin) (unsigned.Certificate cert) h of half = absurd of
-kind-is (kinds.Route origin) (unsigned.Crl crl) h of half = absurd of
-kind-is (kinds.Route origin) (unsigned.Roa other content) (Made o) of half = absurd half
-kind-is (kinds.Route origin) (unsigned.Roa other content) (Begun third signed) of half = half.0 ∙ of
-kind-is kinds.Crl (unsigned.Certificate cert) h of half = absurd of
-kind-is kinds.Crl (unsigned.Crl crl) (Made o) of half = tt
-kind-is kinds.Crl (unsigned.Crl crl) (Begun origin content) of half = absurd half
-kind-is kinds.Crl (unsigned.Roa origin content) h of half = absurd of
+pub roa-first : (s : IssueInput) (b : SignInputValue) (d : code.Draft) (origin : Origin) (c : SignedContent) (old new : List SignerState)
+    → d.kind ≡ kinds.Route origin → IsRoa (roa_of origin) → c.content.items ≡ roa_content origin
+    → IsCalled old new (by_once d.issuer.row.now (signed_attributes ObjectKinds.Roa c.content.items s.work.moment) (content_answers c))
+    → IsFirst s b (draft_of d) (kind_of d.kind) (Begun origin c) old new
+roa-first s b d origin c old new e roa content called =
+    subst (λ (k : DraftKind). IsFirst s b (draft_of d) (kind_of k) (Begun origin c) old new) (sym e)
+    (record {
+      half = (refl, roa, content);
+      called = subst
+          (λ (l : List ℕ). IsCalled old new (by_once d.issuer.row.now (signed_attributes ObjectKinds.Roa l s.work.moment) (content_answers c)))
+          content called;
+    })
 
--- What is known of the value of a draft, whichever basis it is of.
-abbrev pub IsValue : SignInput → code.Draft → ℕ → Unsigned → Type 0
-IsValue sign_input draft given u = (b : SignInputValue) → IsSignInput sign_input b → IsDraft b draft given
-    → IsValueOf (input_of sign_input.input.now) b (draft_of draft) (kind_of draft.kind) u
+-- The call of another kind's spelling.
+halt-at : (s : IssueInput) (b : SignInputValue) (d : code.Draft) (k : DraftKind) (call : Answers → Call) (old new : List SignerState) (fault : MakeFault)
+    → d.kind ≡ k → ((a : Answers) → call a ≡ first_call s b.keys b.all b.entries (draft_of d) (kind_of k) a) → IsHalt call old new fault
+    → IsHalt (first_call s b.keys b.all b.entries (draft_of d) (kind_of d.kind)) old new fault
+halt-at s b d k call old new fault e is halt =
+    subst (λ (l : DraftKind). IsHalt (first_call s b.keys b.all b.entries (draft_of d) (kind_of l)) old new fault) (sym e)
+    (halt-as call (first_call s b.keys b.all b.entries (draft_of d) (kind_of k)) old new fault is halt)
 
-pub first-kind : {E : Type 0} (k : DraftKind) (u : Unsigned) (r : Result Half E) → IsOfKind k u → IfOk r (IsHalfOf u) → IfOk r (IsHalfOfKind k)
-first-kind k u (Ok h) of half = kind-is k u h of half
-first-kind k u (Err e) of half = tt
+pub certificate-halt : (s : IssueInput) (b : SignInputValue) (d : code.Draft) (given : ℕ) (subject : KeyAt) (held : Bor Resources) (cert : CertValue)
+    (old new : List SignerState) (fault : CallFault) → d.kind ≡ kinds.Authority subject held → IsDraft b d given
+    → cert ≡ certificate_with s b.keys d.issuer.row.now subject.row.now held.now given
+    → IsEnd d.issuer.row.now.signer d.issuer.row.now.key.bytes (certificates.signed_bytes cert) old new fault
+    → IsHalt (first_call s b.keys b.all b.entries (draft_of d) (kind_of d.kind)) old new (fault_of fault)
+certificate-halt s b d given subject held cert old new fault e is made end =
+    let key = d.issuer.row.now in
+    let at = certificate-is s b d subject held given cert e is made in
+    halt-at s b d (kinds.Authority subject held) (λ a. by_issuer key (certificates.signed_bytes cert) a.last) old new (fault_of fault) e
+    (λ a. ap (λ (v : CertValue). by_issuer key (certificates.signed_bytes v) a.last) at)
+    (halt-of-end fault key (certificates.signed_bytes cert) old new end)
 
-pub first-half : {E : Type 0} (sign_input : SignInput) (draft : code.Draft) (given : ℕ) (u : Unsigned) (r : Result Half E) → IsValue sign_input draft given u
-    → IsWhole u → IfOk r (IsHalfOf u) → IfOk r (λ half. (b : SignInputValue) → IsSignInput sign_input b → IsDraft b draft given
-    → IsHalf (input_of sign_input.input.now) b (draft_of draft) (kind_of draft.kind) half)
-first-half sign_input draft given u (Ok h) value whole half = λ b basis is.
-    half-is (input_of sign_input.input.now) b (draft_of draft) (kind_of draft.kind) u h (value b basis is) whole half
-first-half sign_input draft given u (Err e) value whole half = tt
+pub crl-halt : (s : IssueInput) (b : SignInputValue) (d : code.Draft) (crl : CrlValue) (old new : List SignerState) (fault : CallFault)
+    → d.kind ≡ kinds.Crl → crl ≡ crl_of s b.entries d.issuer.row.now
+    → IsEnd d.issuer.row.now.signer d.issuer.row.now.key.bytes (crls.signed_bytes crl) old new fault
+    → IsHalt (first_call s b.keys b.all b.entries (draft_of d) (kind_of d.kind)) old new (fault_of fault)
+crl-halt s b d crl old new fault e made end =
+    let key = d.issuer.row.now in
+    halt-at s b d kinds.Crl (λ a. by_issuer key (crls.signed_bytes crl) a.last) old new (fault_of fault) e
+    (λ a. ap (λ (v : CrlValue). by_issuer key (crls.signed_bytes v) a.last) made)
+    (halt-of-end fault key (crls.signed_bytes crl) old new end)
 
-pub first-called : {E : Type 0} (sign_input : SignInput) (draft : code.Draft) (given : ℕ) (u : Unsigned) (old new : List SignerState) (r : Result Half E)
-    → IsValue sign_input draft given u → IsWhole u
-    → IfOk r (λ half. IsCalled old new (call_of sign_input.input.now.work.now.moment draft.issuer.row.now u (half_answers half)))
-    → IfOk r (λ half. (b : SignInputValue) → IsSignInput sign_input b → IsDraft b draft given
-    → IsCalled old new (first_call (input_of sign_input.input.now) b.keys b.all b.entries (draft_of draft) (kind_of draft.kind) (half_answers half)))
-first-called sign_input draft given u old new (Ok h) value whole called = λ b basis is.
-    subst (λ (c : Call). IsCalled old new c)
-    (call-is (input_of sign_input.input.now) b (draft_of draft) (kind_of draft.kind) u (half_answers h) (value b basis is) whole) called
-first-called sign_input draft given u old new (Err e) value whole called = tt
-
-pub first-stopped : {T : Type 0} (sign_input : SignInput) (draft : code.Draft) (given : ℕ) (u : Unsigned) (old new : List SignerState)
-    (r : Result T MakeFault) → IsValue sign_input draft given u → IsWhole u
-    → IfErr r (IsHalt (call_of sign_input.input.now.work.now.moment draft.issuer.row.now u) old new)
-    → IfErr r (λ fault. (b : SignInputValue) → IsSignInput sign_input b → IsDraft b draft given
-    → IsHalt (first_call (input_of sign_input.input.now) b.keys b.all b.entries (draft_of draft) (kind_of draft.kind)) old new fault)
-first-stopped sign_input draft given u old new (Ok h) value whole halt = tt
-first-stopped sign_input draft given u old new (Err fault) value whole halt = λ b basis is.
-    halt-as (call_of sign_input.input.now.work.now.moment draft.issuer.row.now u)
-    (first_call (input_of sign_input.input.now) b.keys b.all b.entries (draft_of draft) (kind_of draft.kind)) old new fault
-    (λ a. call-is (input_of sign_input.input.now) b (draft_of draft) (kind_of draft.kind) u a (value b basis is) whole) halt
+pub roa-halt : (s : IssueInput) (b : SignInputValue) (d : code.Draft) (origin : Origin) (content : List ℕ) (old new : List SignerState) (fault : CallFault)
+    → d.kind ≡ kinds.Route origin → content ≡ roa_content origin → IsStopped d.issuer.row.now.signer old new fault
+    → IsHalt (first_call s b.keys b.all b.entries (draft_of d) (kind_of d.kind)) old new (fault_of fault)
+roa-halt s b d origin content old new fault e made stopped =
+    let key = d.issuer.row.now in
+    halt-at s b d (kinds.Route origin) (λ a. by_once key (signed_attributes ObjectKinds.Roa content s.work.moment) a) old new (fault_of fault) e
+    (λ a. ap (λ (l : List ℕ). by_once key (signed_attributes ObjectKinds.Roa l s.work.moment) a) made)
+    (halt-of-stop fault key (signed_attributes ObjectKinds.Roa content s.work.moment) old new stopped)
 
 -- ---- one draft more
 
@@ -163,16 +156,14 @@ at-next R drafts halves draft half n pairs r =
 
 pub halves-more : Stays → (s : IssueInput) (b : SignInputValue) (drafts : List code.Draft) (halves : List Half) (draft : code.Draft) (half : Half)
     (old now after : List SignerState) → IsNext drafts halves draft → AreHalves s b drafts halves old now
-    → IsHalf s b (draft_of draft) (kind_of draft.kind) half
-    → IsCalled now after (first_call s b.keys b.all b.entries (draft_of draft) (kind_of draft.kind) (half_answers half))
-    → AreHalves s b drafts (halves ++ half ∷ []) old after
-halves-more stays s b drafts halves draft half old now after n was is called =
+    → IsFirst s b (draft_of draft) (kind_of draft.kind) half now after → AreHalves s b drafts (halves ++ half ∷ []) old after
+halves-more stays s b drafts halves draft half old now after n was is =
     let ds = map draft_of drafts in
     let f : Signed → Call = first_of s b in
     record {
       calls = subst (λ (l : List Answers). AreCalled old after (map f (signed ds l))) (sym (map-append half_answers halves (half ∷ [])))
-          (first-called-more stays f ds old now after (map half_answers halves) (half_answers half) (draft_of draft) n.short n.here was.calls called);
-      pairs = at-next (λ d h. IsHalf s b (draft_of d) (kind_of d.kind) h) drafts halves draft half n was.pairs is;
+          (first-called-more stays f ds old now after (map half_answers halves) (half_answers half) (draft_of draft) n.short n.here was.calls is.called);
+      pairs = at-next (λ d h. IsHalf s b (draft_of d) (kind_of d.kind) h) drafts halves draft half n was.pairs is.half;
     }
 
 pub halves-none : (s : IssueInput) (b : SignInputValue) (drafts : List code.Draft) (halves : List Half) (old : List SignerState) → halves ≡ []

@@ -1,6 +1,6 @@
 -- What becomes of a draft that was signed once.
 use Rattle.std.proofs.Common.{◌≡◌, ℕ, suc, ◌+◌, ◌<◌, ◌≤◌, List, [], ◌∷◌, ◌++◌, length, get_or, map, drop, refl, sym, ap, subst, ◌∙◌, inl, inr, arith}
-use Rattle.std.specs.Prelude.{Option, Some, None, Result, Ok, Err, IfOk, IfErr}
+use Rattle.std.specs.Prelude.{Option, Some, None}
 use Rattle.std.specs.List.{cons_option}
 use Rattle.std.specs.Option.{option_to_list, option_map_or}
 use Rattle.std.proofs.lemmas.List.{length-map}
@@ -8,6 +8,7 @@ use Rattle.std.proofs.lemmas.List.Elements.{filter_map-append}
 use Rattle.signer_api.specs.State.{SignerState}
 use Rattle.signer_api.specs.declared.values.OneUse.{OneUse}
 use Rattle.signer_ring.specs.Calls.{Call, after_calls}
+use Rattle.signer_ring.specs.declared.call_fault.CallFault.{CallFault}
 use Rattle.origins.specs.declared.Origin.{Origin}
 use Rattle.cert_obj.specs.declared.values.Cert.{Cert}
 use Rattle.cert_obj.specs.Values.{CertValue, cert_value}
@@ -15,9 +16,10 @@ use Rattle.cert_obj.specs.Formats as certificates
 use Rattle.cms_obj.specs.declared.values.ObjectKind.TheVariants as ObjectKinds
 use Rattle.payloads.specs.RoaFormats.{IsRoa}
 use Rattle.issue_values.specs.Bodies.{roa_of}
-use Rattle.issue_sign.specs.Signed.{object_bytes, IsObject}
+use Rattle.issue_sign.specs.Signed.{object_bytes, IsEnd, IsObject}
 use Rattle.issue_keys.specs.declared.fault.MakeFault.{MakeFault}
 use Rattle.issue_keys.specs.declared.fault.MakeFault.TheVariants.{Memory}
+use Rattle.issue_keys.specs.Faults.{fault_of}
 use Rattle.issue_drafts.specs.Certificates.{IssueInput, input_of}
 use Rattle.issue_drafts.specs.Drafts.{Draft, Kind}
 use Rattle.issue_drafts.specs.Drafts.Kind.{Roa}
@@ -37,7 +39,7 @@ use Rattle.issue_sign.specs.inner.Steps.{IsCalled, AreCalled, IsHalt, IsObjectOf
 use Rattle.issue_sign.specs.inner.Steps.{Pairs, AreHalves, IsFinished, IsFinishHalt}
 use Rattle.issue_sign.proofs.Lists.{with_answers}
 use Rattle.issue_sign.proofs.Going.{Stays, IsSpread, with_last, none-called, called-one, called-as}
-use Rattle.issue_sign.proofs.Halts.{halt-as}
+use Rattle.issue_sign.proofs.Halts.{halt-as, halt-of-end}
 use Rattle.issue_sign.proofs.Places.{draft-here, IsTurn}
 use Rattle.issue_sign.proofs.Halves.{first_of, seconds_of}
 use Rattle.issue_sign.proofs.Finishing.{Finishing, IsFor, IsPlace, place, finishing-start, finishing-more, finishing-short, finishing-stop, finishing-end, known_of}
@@ -90,33 +92,41 @@ abbrev pub IsRoaCert : SignInput → code.Draft → ℕ → Origin → List ℕ 
 IsRoaCert sign_input draft given origin key cert = (b : SignInputValue) → IsSignInput sign_input b → IsDraft b draft given → kind_of draft.kind ≡ Roa origin
     → cert_value cert ≡ roa_certificate (input_of sign_input.input.now) b.keys b.all (draft_of draft) origin key
 
-pub roa-finished : {E : Type 0} (sign_input : SignInput) (draft : code.Draft) (given : ℕ) (origin : Origin) (c : SignedContent) (cert : Cert)
-    (old new : List SignerState) (r : Result Object E) → IsRoaCert sign_input draft given origin c.once.key.bytes cert
-    → IfOk r (λ o. IsObjectOf (object_bytes ObjectKinds.Roa c.content.items
-    (cert_value cert) o.signature.bytes c.once.key.bytes c.once.signature.bytes)
-    (IsObject ObjectKinds.Roa c.content.items (cert_value cert) o.signature.bytes c.once.key.bytes c.once.signature.bytes) o)
-    → IfOk r (λ o. o.once ≡ Some c.once) → IfOk r
-    (λ o. IsCalled old new (by_issuer draft.issuer.row.now (certificates.signed_bytes (cert_value cert)) o.signature.bytes))
-    → IfOk r (λ o. (b : SignInputValue) → IsSignInput sign_input b → IsDraft b draft given → IsHalf (input_of sign_input.input.now) b (draft_of draft)
-    (kind_of draft.kind) (Begun origin c) → IsFinished (input_of sign_input.input.now) b (draft_of draft) (kind_of draft.kind)
-    (Begun origin c) o old new)
-roa-finished sign_input draft given origin c cert old new (Ok o) value object once called = λ b basis is half.
-    roa-done (input_of sign_input.input.now) b (draft_of draft) (kind_of draft.kind) origin c o (cert_value cert) old new half.0 half.1 half.2
-    (value b basis is half.0) once object called
-roa-finished sign_input draft given origin c cert old new (Err e) value object once called = tt
+pub roa-finished : (sign_input : SignInput) (draft : code.Draft) (given : ℕ) (half : Half) (origin : Origin) (c : SignedContent) (cert : Cert) (o : Object)
+    (old new : List SignerState) → half ≡ Begun origin c → IsRoaCert sign_input draft given origin c.once.key.bytes cert
+    → IsObjectOf (object_bytes ObjectKinds.Roa c.content.items (cert_value cert) o.signature.bytes c.once.key.bytes c.once.signature.bytes)
+    (IsObject ObjectKinds.Roa c.content.items (cert_value cert) o.signature.bytes c.once.key.bytes c.once.signature.bytes) o → o.once ≡ Some c.once
+    → IsCalled old new (by_issuer draft.issuer.row.now (certificates.signed_bytes (cert_value cert)) o.signature.bytes) → (b : SignInputValue)
+    → IsSignInput sign_input b → IsDraft b draft given → IsHalf (input_of sign_input.input.now) b (draft_of draft) (kind_of draft.kind) half
+    → IsFinished (input_of sign_input.input.now) b (draft_of draft) (kind_of draft.kind) half o old new
+roa-finished sign_input draft given half origin c cert o old new e value object once called = λ b basis is was.
+    let s = input_of sign_input.input.now in
+    let begun = subst (λ (h : Half). IsHalf s b (draft_of draft) (kind_of draft.kind) h) e was in
+    subst (λ (h : Half). IsFinished s b (draft_of draft) (kind_of draft.kind) h o old new) (sym e)
+    (roa-done s b (draft_of draft) (kind_of draft.kind) origin c o (cert_value cert) old new begun.0 begun.1 begun.2 (value b basis is begun.0) once object
+    called)
 
-pub roa-stopped : {T : Type 0} (sign_input : SignInput) (draft : code.Draft) (given : ℕ) (origin : Origin) (c : SignedContent) (cert : Cert)
-    (old new : List SignerState) (r : Result T MakeFault) → IsRoaCert sign_input draft given origin c.once.key.bytes cert
-    → IfErr r (IsHalt (λ a. by_issuer draft.issuer.row.now (certificates.signed_bytes (cert_value cert)) a.last) old new)
-    → IfErr r (λ fault. (b : SignInputValue) → IsSignInput sign_input b → IsDraft b draft given → IsHalf (input_of sign_input.input.now) b (draft_of draft)
-    (kind_of draft.kind) (Begun origin c) → IsFinishHalt (input_of sign_input.input.now) b (draft_of draft) (Begun origin c) old new fault)
-roa-stopped sign_input draft given origin c cert old new (Ok x) value halt = tt
-roa-stopped sign_input draft given origin c cert old new (Err fault) value halt = λ b basis is half.
-    halt-as (λ a. by_issuer draft.issuer.row.now (certificates.signed_bytes (cert_value cert)) a.last)
-    (λ a. by_issuer draft.issuer.row.now (certificates.signed_bytes
-    (roa_certificate (input_of sign_input.input.now) b.keys b.all (draft_of draft) origin c.once.key.bytes)) a.last)
-    old new fault
-    (λ a. ap (λ (v : CertValue). by_issuer draft.issuer.row.now (certificates.signed_bytes v) a.last) (value b basis is half.0)) halt
+pub roa-stopped : (sign_input : SignInput) (draft : code.Draft) (given : ℕ) (half : Half) (origin : Origin) (c : SignedContent) (cert : Cert)
+    (old new : List SignerState) (fault : CallFault) → half ≡ Begun origin c → IsRoaCert sign_input draft given origin c.once.key.bytes cert
+    → IsEnd draft.issuer.row.now.signer draft.issuer.row.now.key.bytes (certificates.signed_bytes (cert_value cert)) old new fault
+    → (b : SignInputValue) → IsSignInput sign_input b → IsDraft b draft given
+    → IsHalf (input_of sign_input.input.now) b (draft_of draft) (kind_of draft.kind) half
+    → IsFinishHalt (input_of sign_input.input.now) b (draft_of draft) half old new (fault_of fault)
+roa-stopped sign_input draft given half origin c cert old new fault e value end = λ b basis is was.
+    let s = input_of sign_input.input.now in
+    let key = draft.issuer.row.now in
+    let begun = subst (λ (h : Half). IsHalf s b (draft_of draft) (kind_of draft.kind) h) e was in
+    subst (λ (h : Half). IsFinishHalt s b (draft_of draft) h old new (fault_of fault)) (sym e)
+    (halt-as (λ a. by_issuer key (certificates.signed_bytes (cert_value cert)) a.last)
+    (λ a. by_issuer key (certificates.signed_bytes (roa_certificate s b.keys b.all (draft_of draft) origin c.once.key.bytes)) a.last)
+    old new (fault_of fault)
+    (λ a. ap (λ (v : CertValue). by_issuer key (certificates.signed_bytes v) a.last) (value b basis is begun.0))
+    (halt-of-end fault key (certificates.signed_bytes (cert_value cert)) old new end))
+
+-- Memory ran out before the second call.
+pub roa-short : (s : IssueInput) (b : SignInputValue) (d : Draft) (half : Half) (origin : Origin) (c : SignedContent) (old : List SignerState)
+    → half ≡ Begun origin c → IsFinishHalt s b d half old old Memory
+roa-short s b d half origin c old e = subst (λ (h : Half). IsFinishHalt s b d h old old Memory) (sym e) (inl refl)
 
 -- ---- any draft
 

@@ -28,10 +28,9 @@ use Rattle.issue_drafts.specs.declared.draft.Draft as code
 use Rattle.issue_drafts.specs.declared.draft.DraftKind.{DraftKind}
 use Rattle.issue_drafts.specs.declared.draft.DraftKind.TheVariants as kinds
 use Rattle.issue_sign.specs.declared.sign_input.SignInput.{SignInput}
-use Rattle.issue_sign.specs.declared.values.Unsigned.TheVariants as unsigned
-use Rattle.issue_sign.specs.Objects.{certificate_with, crl_of, number_of, roa_certificate}
+use Rattle.issue_sign.specs.Objects.{certificate, certificate_with, crl_of, number_of, roa_certificate}
 use Rattle.issue_sign.specs.SignInput.{SignInputValue, IsSignInput}
-use Rattle.issue_sign.specs.inner.Steps.{IsValueOf, IsDraft}
+use Rattle.issue_sign.specs.inner.Steps.{IsDraft}
 use Rattle.issue_sign.proofs.Places.{mapped-at}
 
 -- A key's publishing, as it was read.
@@ -136,14 +135,13 @@ numbered b d given is e =
 
 -- ---- what is signed first
 
-pub certificate-value : (s : IssueInput) (b : SignInputValue) (d : code.Draft) (subject : KeyAt) (held : Bor Resources) (given : ℕ) (cert : Cert)
-    → d.kind ≡ kinds.Authority subject held → IsDraft b d given
-    → cert_value cert ≡ certificate_with s b.keys d.issuer.row.now subject.row.now held.now given
-    → IsValueOf s b (draft_of d) (kind_of d.kind) (unsigned.Certificate cert)
-certificate-value s b d subject held given cert e is made =
-    let at = numbered b d given is (ap (λ (k : DraftKind). has_serial (kind_of k)) e) in
-    subst (λ (k : DraftKind). IsValueOf s b (draft_of d) (kind_of k) (unsigned.Certificate cert)) (sym e)
-    (made ∙ ap (λ (n : ℕ). certificate_with s b.keys d.issuer.row.now subject.row.now held.now n) at)
+pub certificate-is : (s : IssueInput) (b : SignInputValue) (d : code.Draft) (subject : KeyAt) (held : Bor Resources) (given : ℕ) (cert : CertValue)
+    → d.kind ≡ kinds.Authority subject held → IsDraft b d given → cert ≡ certificate_with s b.keys d.issuer.row.now subject.row.now held.now given
+    → cert ≡ certificate s b.keys b.all (draft_of d) subject.row.now held.now
+certificate-is s b d subject held given cert e is made =
+    made
+    ∙ ap (λ (n : ℕ). certificate_with s b.keys d.issuer.row.now subject.row.now held.now n)
+    (numbered b d given is (ap (λ (k : DraftKind). has_serial (kind_of k)) e))
 
 pub subject-placed : (b : SignInputValue) (d : code.Draft) (subject : KeyAt) (held : Bor Resources) (given : ℕ) → d.kind ≡ kinds.Authority subject held
     → IsDraft b d given → IsPlaced b.rows subject

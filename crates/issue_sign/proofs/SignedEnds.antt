@@ -4,7 +4,8 @@ use Rattle.sha1.specs.Sha1.{sha1}
 use Rattle.sha2.specs.Sha256.{sha256}
 use Rattle.der.specs.Object.{Spells}
 use Rattle.signer_api.specs.State.{SignerState}
-use Rattle.signer_ring.specs.Calls.{IsStopped}
+use Rattle.signer_api.specs.declared.values.Signature.{Signature}
+use Rattle.signer_ring.specs.Calls.{after_call, IsStopped, IsVouched}
 use Rattle.signer_ring.specs.declared.call_fault.CallFault.{CallFault}
 use Rattle.signer_ring.specs.declared.call_fault.CallFault.TheVariants.{SignerFault, Memory}
 use Rattle.cert_obj.specs.Values.{CertValue}
@@ -13,16 +14,21 @@ use Rattle.crl_obj.specs.Values.{CrlValue}
 use Rattle.crl_obj.specs.Formats as crls
 use Rattle.cms_obj.specs.declared.values.ObjectKind.{ObjectKind}
 use Rattle.cms_obj.specs.Formats.{signed_object, object_of}
-use Rattle.issue_sign.specs.Signed.{framed, object_bytes, IsSigned, IsSignedOnce, IsEnd, IsCertificate, IsCrlOf}
+use Rattle.issue_sign.specs.Signed.{by_key, framed, object_bytes, IsSigned, IsSignedOnce, IsEnd, IsCertificate, IsCrlOf}
+use Rattle.issue_sign.specs.declared.object.Object.{Object}
+use Rattle.issue_sign.specs.declared.signed_bytes.SignedBytes.{SignedBytes}
+use Rattle.issue_sign.specs.inner.Steps.{IsObjectOf}
 
 pub end-of : (e : CallFault) (signer : ℕ) (key bytes : List ℕ) (old new : List SignerState) → IsStopped signer old new e → IsEnd signer key bytes old new e
 end-of (SignerFault n) signer key bytes old new h = h
 end-of Memory signer key bytes old new h = inl h
 
--- The same of bytes that are those ones.
-pub signed-as : (signer : ℕ) (key bytes other : List ℕ) (old new : List SignerState) (signature : List ℕ) → bytes ≡ other → IsSigned signer key bytes old new signature → IsSigned signer key other old new signature
-signed-as signer key bytes other old new signature e h =
-    subst (λ (b : List ℕ). IsSigned signer key b old new signature) e h
+-- A call that signed bytes which are those ones.
+pub signed-as : (signer : ℕ) (key bytes other : List ℕ) (old new : List SignerState) (signature : List ℕ) → bytes ≡ other
+    → new ≡ after_call old (by_key signer key bytes signature) → IsVouched new (by_key signer key bytes signature) → length signature ≡ 256
+    → IsSigned signer key other old new signature
+signed-as signer key bytes other old new signature e call vouched whole =
+    subst (λ (b : List ℕ). IsSigned signer key b old new signature) e (record { call = call; vouched = vouched; whole = whole })
 
 pub signed-once-as : (signer : ℕ) (key bytes other : List ℕ) (old new : List SignerState) (signature : List ℕ) → bytes ≡ other → IsSignedOnce signer key bytes old new signature → IsSignedOnce signer key other old new signature
 signed-once-as signer key bytes other old new signature e h =
@@ -47,6 +53,14 @@ crl-read crl tbs out signature is e h short =
     (subst (λ (b : List ℕ). Spells crls.signed_crl (record { crl = crl; digest = sha256 b; signature = signature }) out) e (h few))
 
 -- ---- objects
+
+-- An object made of what was signed: its spelling and what is known of it, by the signature.
+pub object-of : (signed : SignedBytes) (o : Object) (spelling : List ℕ → List ℕ) (Known : List ℕ → Type 0) → o.bytes ≡ signed.bytes.items
+    → o.hash ≡ sha256 signed.bytes.items → o.signature ≡ signed.signature → signed.bytes.items ≡ spelling signed.signature.bytes
+    → Known signed.signature.bytes → IsObjectOf (spelling o.signature.bytes) (Known o.signature.bytes) o
+object-of signed o spelling Known bytes hash signature made known =
+    subst (λ (g : Signature). IsObjectOf (spelling g.bytes) (Known g.bytes) o) (sym signature)
+    (record { bytes = bytes ∙ made; hash = hash ∙ ap sha256 made; known = known })
 
 pub object-as : (kind : ObjectKind) (content : List ℕ) (cert : CertValue) (certificate id last once signature out : List ℕ) (moment : ℕ) → out ≡ signed_object.spelling (object_of kind content certificate id moment signature) → certificate ≡ framed (certificates.signed_bytes cert) last → id ≡ sha1 once → moment ≡ cert.not_before → out ≡ object_bytes kind content cert last once signature
 object-as kind content cert certificate id last once signature out moment is made named at =

@@ -2,23 +2,22 @@
 //! sections 4.1.1.3 and 5.1.1.3, RFC 6488 section 2.1.6).
 
 ghost use Rattle.std.specs.Prelude.{◌≡◌, ◌<◌, map, length, All, IfOk, IfErr};
-ghost use Rattle.moments.specs.Civil.{IsMoment};
 ghost use Rattle.signer_ring.specs.Ring.{Keeps};
 ghost use Rattle.issue_drafts.specs.Certificates.{input_of};
 ghost use Rattle.issue_drafts.specs.Views.{draft_of, kind_of};
 ghost use Rattle.issue_sign.specs.Calls.{first_call};
 ghost use Rattle.issue_sign.specs.SignInput.{SignInputValue, IsSignInput, AreDrafts, CanSign, CanBeMade};
 ghost use Rattle.issue_sign.specs.Made.{of_drafts, IsStop};
-ghost use Rattle.issue_sign.specs.inner.Steps.{IsCalled, IsHalt, IsWhole, call_of, half_answers, IsHalfOf, IsHalfOfKind, IsHalf, IsDraft, Pairs, AreHalves};
+ghost use Rattle.issue_sign.specs.inner.Steps.{IsHalt, IsHalfOfKind, IsFirst, IsDraft, Pairs, AreHalves};
 
 use crate::object::{Object, SignedContent};
 use crate::sign_input::SignInput;
-use crate::steps::{sign_certificate, sign_content, sign_crl};
-use crate::values::{Unsigned, unsigned_object};
+use crate::signed_bytes::sign_certificate;
+use crate::signed_objects::{sign_content, sign_crl};
+use crate::values;
 use cms_obj::ObjectKind;
-use issue_drafts::Draft;
+use issue_drafts::{Draft, DraftKind};
 use issue_keys::MakeFault;
-use key_roll::KeyRow;
 use origins::Origin;
 use signer_api::Signer;
 use signer_ring::{Ring, vouched_stays};
@@ -36,37 +35,6 @@ pub enum Half {
     },
 }
 
-/// Signs what is signed first for an object.
-fn sign_value<S: Signer>(
-    alloc: Global,
-    value: Unsigned,
-    moment: u64,
-    issuer: &KeyRow,
-    ring: &mut Ring<S>,
-) -> Result<Half, MakeFault>
-    requires signer { issuer.now.signer < length ring.old }
-    requires moment { IsMoment moment }
-    requires value { IsWhole value }
-    ensures half { IfOk result (IsHalfOf value) }
-    ensures called { IfOk result (λ half. IsCalled ring.old ring.new
-        (call_of moment issuer.now value (half_answers half))) }
-    ensures stopped { IfErr result (IsHalt (call_of moment issuer.now value) ring.old ring.new) }
-    ensures kept { Keeps ring.old ring.new }
-{
-    match value {
-        Unsigned::Certificate { cert } => Ok(Half::Made {
-            object: sign_certificate(alloc, &cert, issuer, ring)?,
-        }),
-        Unsigned::Crl { crl } => Ok(Half::Made {
-            object: sign_crl(alloc, &crl, issuer, ring)?,
-        }),
-        Unsigned::Roa { origin, content } => Ok(Half::Begun {
-            origin,
-            content: sign_content(alloc, ObjectKind::Roa, content, moment, issuer, ring)?,
-        }),
-    }
-}
-
 /// The first signature of a draft.
 fn sign_first<S: Signer>(
     alloc: Global,
@@ -79,19 +47,39 @@ fn sign_first<S: Signer>(
     requires draft { CanBeMade sign_input.now draft.now }
     requires signer { draft.now.issuer.row.now.signer < length ring.old }
     ensures kind { IfOk result (IsHalfOfKind draft.now.kind) }
-    ensures half { IfOk result (λ half. (b : SignInputValue) → IsSignInput sign_input.now b → IsDraft b draft.now serial
-        → IsHalf (input_of sign_input.now.input.now) b (draft_of draft.now) (kind_of draft.now.kind) half) }
-    ensures called { IfOk result (λ half. (b : SignInputValue) → IsSignInput sign_input.now b → IsDraft b draft.now serial
-        → IsCalled ring.old ring.new (first_call (input_of sign_input.now.input.now) b.keys b.all b.entries
-        (draft_of draft.now) (kind_of draft.now.kind) (half_answers half))) }
+    ensures first { IfOk result (λ half. (b : SignInputValue) → IsSignInput sign_input.now b → IsDraft b draft.now serial
+        → IsFirst (input_of sign_input.now.input.now) b (draft_of draft.now) (kind_of draft.now.kind) half
+        ring.old ring.new) }
     ensures stopped { IfErr result (λ fault. (b : SignInputValue) → IsSignInput sign_input.now b → IsDraft b draft.now serial
         → IsHalt (first_call (input_of sign_input.now.input.now) b.keys b.all b.entries
         (draft_of draft.now) (kind_of draft.now.kind)) ring.old ring.new fault) }
     ensures kept { Keeps ring.old ring.new }
 {
-    let value = unsigned_object(alloc, sign_input, draft, serial)?;
-    let moment = sign_input.input.work.moment;
-    sign_value(alloc, value, moment, draft.issuer.row, ring)
+    let (issuer, row) = (&draft.issuer, draft.issuer.row);
+    match draft.kind {
+        DraftKind::Authority { subject, held } => {
+            let cert = values::certificate(alloc, sign_input, issuer, &subject, held, serial)?;
+            let signed = sign_certificate(alloc, &cert, row.signer, &row.key, ring)?;
+            let object = Object::new(signed, None);
+            Ok(Half::Made { object })
+        }
+        DraftKind::Crl => {
+            let crl = values::crl(alloc, sign_input, issuer)?;
+            let signed = sign_crl(alloc, &crl, row.signer, &row.key, ring)?;
+            let object = Object::new(signed, None);
+            Ok(Half::Made { object })
+        }
+        DraftKind::Route { origin } => {
+            let bytes = values::roa_content(alloc, &origin)?;
+            let moment = sign_input.input.work.moment;
+            let once = sign_content(alloc, ObjectKind::Roa, &bytes, moment, row.signer, ring)?;
+            let content = SignedContent {
+                content: bytes,
+                once,
+            };
+            Ok(Half::Begun { origin, content })
+        }
+    }
 }
 
 /// Signs certificates, CRLs and the contents of ROAs, in the drafts' order. `serials` has one for

@@ -10,7 +10,6 @@ mod sign_input;
 mod signed_bytes;
 mod signed_objects;
 mod signing;
-mod steps;
 mod values;
 
 pub use manifests::sign_manifests;

@@ -19,7 +19,7 @@ ghost use Rattle.issue_sign.specs.inner.Steps.{IsCalled, IsHalt, content_answers
 
 use crate::object::{Object, SignedContent};
 use crate::sign_input::SignInput;
-use crate::steps::{sign_content, sign_object};
+use crate::signed_objects::{sign_content, sign_object};
 use cert_obj::Cert;
 use cms_obj::ObjectKind;
 use issue_drafts::ManifestDraft;
@@ -75,9 +75,9 @@ fn sign_first<S: Signer>(
 {
     let content = content(alloc, sign_input, manifest, files)?;
     let moment = sign_input.input.work.moment;
-    let issuer = manifest.issuer.row;
-    let signed = sign_content(alloc, ObjectKind::Manifest, content, moment, issuer, ring)?;
-    Ok(signed)
+    let signer = manifest.issuer.row.signer;
+    let once = sign_content(alloc, ObjectKind::Manifest, &content, moment, signer, ring)?;
+    Ok(SignedContent { content, once })
 }
 
 /// Signs the contents of the manifests, in their order.
@@ -164,15 +164,20 @@ fn finish_manifest<S: Signer>(
         content.once.key.bytes a.last) ring.old ring.new fault) }
     ensures kept { Keeps ring.old ring.new }
 {
-    let cert = certificate(alloc, sign_input, manifest, &content.once.key, serial)?;
-    sign_object(
+    let SignedContent { content, once } = content;
+    let cert = certificate(alloc, sign_input, manifest, &once.key, serial)?;
+    let by = manifest.issuer.row;
+    let signed = sign_object(
         alloc,
         ObjectKind::Manifest,
-        content,
+        &content,
         &cert,
-        manifest.issuer.row,
+        &once,
+        by.signer,
+        &by.key,
         ring,
-    )
+    )?;
+    Ok(Object::new(signed, Some(once)))
 }
 
 /// Signs the certificates of the manifests, in their order. Each takes the next serial of its key.

@@ -16,7 +16,7 @@ ghost use Rattle.issue_sign.specs.inner.Steps.{IsHalfOfKind, IsHalf, IsDraft, Is
 use crate::firsts::Half;
 use crate::object::{Object, SignedContent};
 use crate::sign_input::SignInput;
-use crate::steps::sign_object;
+use crate::signed_objects::sign_object;
 use cert_obj::Cert;
 use cms_obj::ObjectKind;
 use issue_drafts::Draft;
@@ -57,43 +57,6 @@ fn certificate(
     )
 }
 
-/// The ROA of a content that was signed.
-fn finish_roa<S: Signer>(
-    alloc: Global,
-    sign_input: &SignInput<'_>,
-    draft: &Draft<'_>,
-    serial: u64,
-    origin: Origin,
-    content: SignedContent,
-    ring: &mut Ring<S>,
-) -> Result<Object, MakeFault>
-    requires sign { CanSign sign_input.now }
-    requires issuer { CanIssue sign_input.now draft.now.issuer }
-    requires uri { is_uri draft.now.uri ≡ true }
-    requires signer { draft.now.issuer.row.now.signer < length ring.old }
-    ensures finished { IfOk result (λ object. (b : SignInputValue) → IsSignInput sign_input.now b → IsDraft b draft.now serial
-        → IsHalf (input_of sign_input.now.input.now) b (draft_of draft.now) (kind_of draft.now.kind)
-        (Half.Begun origin content)
-        → IsFinished (input_of sign_input.now.input.now) b (draft_of draft.now) (kind_of draft.now.kind)
-        (Half.Begun origin content) object ring.old ring.new) }
-    ensures stopped { IfErr result (λ fault. (b : SignInputValue) → IsSignInput sign_input.now b → IsDraft b draft.now serial
-        → IsHalf (input_of sign_input.now.input.now) b (draft_of draft.now) (kind_of draft.now.kind)
-        (Half.Begun origin content)
-        → IsFinishHalt (input_of sign_input.now.input.now) b (draft_of draft.now) (Half.Begun origin content)
-        ring.old ring.new fault) }
-    ensures kept { Keeps ring.old ring.new }
-{
-    let cert = certificate(alloc, sign_input, draft, &origin, &content.once.key, serial)?;
-    sign_object(
-        alloc,
-        ObjectKind::Roa,
-        content,
-        &cert,
-        draft.issuer.row,
-        ring,
-    )
-}
-
 /// The object of a draft that was signed once.
 fn finish_draft<S: Signer>(
     alloc: Global,
@@ -119,7 +82,20 @@ fn finish_draft<S: Signer>(
     match half {
         Half::Made { object } => Ok(object),
         Half::Begun { origin, content } => {
-            finish_roa(alloc, sign_input, draft, serial, origin, content, ring)
+            let SignedContent { content, once } = content;
+            let cert = certificate(alloc, sign_input, draft, &origin, &once.key, serial)?;
+            let by = draft.issuer.row;
+            let signed = sign_object(
+                alloc,
+                ObjectKind::Roa,
+                &content,
+                &cert,
+                &once,
+                by.signer,
+                &by.key,
+                ring,
+            )?;
+            Ok(Object::new(signed, Some(once)))
         }
     }
 }

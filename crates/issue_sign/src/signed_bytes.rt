@@ -2,7 +2,6 @@
 
 ghost use Rattle.std.specs.Prelude.{◌≡◌, ◌<◌, length, IfOk, IfErr};
 ghost use Rattle.signer_ring.specs.Ring.{Keeps};
-ghost use Rattle.signer_ring.specs.Calls.{IsStopped};
 ghost use Rattle.cert_obj.specs.Values.{IsCert, cert_value};
 ghost use Rattle.cert_obj.specs.Formats as certificates;
 ghost use Rattle.issue_sign.specs.Signed.{framed, IsSigned, IsEnd, IsCertificate};
@@ -23,26 +22,6 @@ pub struct SignedBytes {
 pub fn is_whole(bytes: &[u8; 256])
     ensures { length bytes.now ≡ 256 }
 {}
-
-/// A key's signature of bytes. The signer of that number, from 0, signs their SHA-256 (RFC 7935
-/// section 2).
-pub fn sign<S: Signer>(
-    alloc: Global,
-    signer: u32,
-    key: &PublicKey,
-    bytes: &[u8],
-    ring: &mut Ring<S>,
-) -> Result<Signature, CallFault>
-    requires { signer < length ring.old }
-    ensures signed { IfOk result (λ signature.
-        IsSigned signer key.now.bytes bytes.now ring.old ring.new signature.bytes) }
-    ensures stopped { IfErr result (IsStopped signer ring.old ring.new) }
-    ensures kept { Keeps ring.old ring.new }
-{
-    let signature = signer_ring::sign(alloc, ring, signer, key, bytes)?;
-    is_whole(&signature.bytes);
-    Ok(signature)
-}
 
 /// A certificate that a key signs (RFC 5280 section 4.1).
 pub fn sign_certificate<S: Signer>(
@@ -68,7 +47,8 @@ pub fn sign_certificate<S: Signer>(
 {
     let tbs = cert.tbs(alloc)?;
     let signed = tbs.as_slice();
-    let signature = sign(alloc, signer, key, signed, ring)?;
+    let signature = signer_ring::sign(alloc, ring, signer, key, signed)?;
+    is_whole(&signature.bytes);
     let bytes = cert_obj::write(alloc, signed, &signature)?;
     Ok(SignedBytes { bytes, signature })
 }

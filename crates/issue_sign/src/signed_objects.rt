@@ -12,7 +12,7 @@ ghost use Rattle.crl_obj.specs.Formats as crls;
 ghost use Rattle.cms_obj.specs.Formats.{signed_attributes};
 ghost use Rattle.issue_sign.specs.Signed.{framed, object_bytes, IsSigned, IsSignedOnce, IsEnd, IsCertificate, IsCrlOf, IsObject};
 
-use crate::signed_bytes::{SignedBytes, is_whole, sign, sign_certificate};
+use crate::signed_bytes::{SignedBytes, is_whole, sign_certificate};
 use cert_obj::Cert;
 use cms_obj::ObjectKind;
 use crl_obj::Crl;
@@ -45,7 +45,8 @@ pub fn sign_crl<S: Signer>(
 {
     let tbs = crl.tbs(alloc)?;
     let signed = tbs.as_slice();
-    let signature = sign(alloc, signer, key, signed, ring)?;
+    let signature = signer_ring::sign(alloc, ring, signer, key, signed)?;
+    is_whole(&signature.bytes);
     let bytes = crl_obj::write(alloc, signed, &signature)?;
     Ok(SignedBytes { bytes, signature })
 }

@@ -1,38 +1,28 @@
 //! What is signed first for the objects of an edition (RFC 5280 sections 4.1.2 and 5.1.2, RFC 6488
 //! section 2.1.3).
 
-ghost use Rattle.std.specs.Prelude.{◌≡◌, ◌<◌, ◌^◌, true, length, IfOk};
-ghost use Rattle.std.specs.List.{HoldsAt};
-ghost use Rattle.cert_obj.specs.Values.{IsCert, cert_value, is_uri};
+ghost use Rattle.std.specs.Prelude.{◌≡◌, ◌<◌, length, IfOk};
+ghost use Rattle.cert_obj.specs.Values.{IsCert, cert_value};
 ghost use Rattle.crl_obj.specs.Values.{IsCrl, crl_value};
 ghost use Rattle.payloads.specs.RoaFormats.{IsRoa};
 ghost use Rattle.issue_values.specs.Certificates.{IsEditionMoment};
 ghost use Rattle.issue_values.specs.Bodies.{roa_of};
 ghost use Rattle.issue_drafts.specs.Certificates.{input_of};
-ghost use Rattle.issue_drafts.specs.Views.{draft_of, kind_of, IsPlaced};
+ghost use Rattle.issue_drafts.specs.Views.{IsPlaced};
 ghost use Rattle.issue_sign.specs.Objects.{certificate_with, roa_content, crl_of};
-ghost use Rattle.issue_sign.specs.SignInput.{SignInputValue, IsSignInput, CanSign, CanIssue, CanBeMade};
-ghost use Rattle.issue_sign.specs.inner.Steps.{IsWhole, IsOfKind, IsValueOf, IsDraft};
+ghost use Rattle.issue_sign.specs.SignInput.{SignInputValue, IsSignInput, CanSign, CanIssue};
 
 use crate::sign_input::SignInput;
 use cert_obj::Cert;
 use crl_obj::Crl;
-use issue_drafts::{Draft, DraftKind, KeyAt};
+use issue_drafts::KeyAt;
 use issue_values::{anchor_certificate, authority_certificate, key_crl, roa_body};
 use origins::Origin;
 use res_sets::Resources;
 use std::alloc::{AllocError, Global};
 
-/// What is signed first for an object: a certificate or a CRL, or the content of a ROA.
-#[derive(Drop)]
-pub enum Unsigned {
-    Certificate { cert: Cert },
-    Crl { crl: Crl },
-    Roa { origin: Origin, content: Vec<u8> },
-}
-
 /// The certificate of an authority's key.
-fn certificate(
+pub fn certificate(
     alloc: Global,
     sign_input: &SignInput<'_>,
     issuer: &KeyAt<'_>,
@@ -60,7 +50,7 @@ fn certificate(
 }
 
 /// The CRL of a key.
-fn crl(alloc: Global, sign_input: &SignInput<'_>, issuer: &KeyAt<'_>) -> Result<Crl, AllocError>
+pub fn crl(alloc: Global, sign_input: &SignInput<'_>, issuer: &KeyAt<'_>) -> Result<Crl, AllocError>
     requires sign { CanSign sign_input.now }
     requires issuer { CanIssue sign_input.now issuer.now }
     requires entries { issuer.now.place < length sign_input.now.revoked.now }
@@ -75,40 +65,10 @@ fn crl(alloc: Global, sign_input: &SignInput<'_>, issuer: &KeyAt<'_>) -> Result<
 }
 
 /// The content of a ROA.
-fn roa_content(alloc: Global, origin: &Origin) -> Result<Vec<u8>, AllocError>
+pub fn roa_content(alloc: Global, origin: &Origin) -> Result<Vec<u8>, AllocError>
     ensures spelled { IfOk result (λ content. IsRoa (roa_of origin.now)) }
     ensures content { IfOk result (λ content. content.items ≡ roa_content origin.now) }
 {
     let body = roa_body(alloc, origin)?;
     body.write(alloc)
-}
-
-/// What is signed first for a draft. Only a certificate has `serial` in it.
-pub fn unsigned_object(
-    alloc: Global,
-    sign_input: &SignInput<'_>,
-    draft: &Draft<'_>,
-    serial: u64,
-) -> Result<Unsigned, AllocError>
-    requires sign { CanSign sign_input.now }
-    requires draft { CanBeMade sign_input.now draft.now }
-    ensures whole { IfOk result IsWhole }
-    ensures kind { IfOk result (IsOfKind draft.now.kind) }
-    ensures value { IfOk result (λ u. (b : SignInputValue) → IsSignInput sign_input.now b → IsDraft b draft.now serial
-        → IsValueOf (input_of sign_input.now.input.now) b (draft_of draft.now) (kind_of draft.now.kind) u) }
-{
-    match draft.kind {
-        DraftKind::Authority { subject, held } => {
-            let cert = certificate(alloc, sign_input, &draft.issuer, &subject, held, serial)?;
-            Ok(Unsigned::Certificate { cert })
-        }
-        DraftKind::Route { origin } => {
-            let content = roa_content(alloc, &origin)?;
-            Ok(Unsigned::Roa { origin, content })
-        }
-        DraftKind::Crl => {
-            let crl = crl(alloc, sign_input, &draft.issuer)?;
-            Ok(Unsigned::Crl { crl })
-        }
-    }
 }

@@ -5,22 +5,16 @@ use Rattle.sha2.specs.Sha256.{sha256}
 use Rattle.signer_api.specs.State.{SignerState, CountsFault}
 use Rattle.signer_ring.specs.Ring.{ChangesOne}
 use Rattle.signer_ring.specs.Calls.{Call, signer_of, after_call, after_calls, IsVouched}
-use Rattle.cert_obj.specs.Values.{IsCert, cert_value}
 use Rattle.cert_obj.specs.Formats as certificates
-use Rattle.crl_obj.specs.Values.{IsCrl, crl_value}
-use Rattle.crl_obj.specs.Formats as crls
-use Rattle.cms_obj.specs.declared.values.ObjectKind.TheVariants as ObjectKinds
-use Rattle.cms_obj.specs.Formats.{signed_attributes}
 use Rattle.payloads.specs.RoaFormats.{IsRoa}
 use Rattle.payloads.specs.ManifestFormats.{manifest, IsManifest}
 use Rattle.key_roll.specs.declared.rows.KeyRow.{KeyRow}
 use Rattle.issue_values.specs.Bodies.{roa_of, manifest_value_of}
-use Rattle.issue_sign.specs.Signed.{framed, IsCertificate, IsCrlOf}
 use Rattle.issue_keys.specs.declared.fault.MakeFault.{MakeFault}
 use Rattle.issue_keys.specs.declared.fault.MakeFault.TheVariants.{SignerFault, KeyClash, Memory}
 use Rattle.issue_drafts.specs.Certificates.{IssueInput}
 use Rattle.issue_drafts.specs.Drafts.{Draft, Kind}
-use Rattle.issue_drafts.specs.Drafts.Kind.{Certificate, Roa, Crl, Manifest}
+use Rattle.issue_drafts.specs.Drafts.Kind.{Roa, Manifest}
 use Rattle.issue_drafts.specs.Views.{draft_of, manifest_of, kind_of, IsPlaced, IsSubjectPlaced}
 use Rattle.issue_drafts.specs.Serials.{given_serial}
 use Rattle.issue_drafts.specs.declared.draft.Draft as code
@@ -29,14 +23,11 @@ use Rattle.issue_drafts.specs.declared.draft.DraftKind.{DraftKind}
 use Rattle.issue_drafts.specs.declared.draft.DraftKind.TheVariants as kinds
 use Rattle.issue_sign.specs.declared.object.Object.{Object}
 use Rattle.issue_sign.specs.declared.object.SignedContent.{SignedContent}
-use Rattle.issue_sign.specs.declared.values.Unsigned.{Unsigned}
-use Rattle.issue_sign.specs.declared.values.Unsigned.TheVariants as unsigned
 use Rattle.issue_sign.specs.declared.firsts.Half.{Half}
 use Rattle.issue_sign.specs.declared.firsts.Half.TheVariants.{Made, Begun}
-use Rattle.issue_sign.specs.Objects.{Answers, Signed, bytes_by, certificate, roa_certificate}
-use Rattle.issue_sign.specs.Objects.{roa_content, crl_of, number_of, manifest_certificate}
-use Rattle.issue_sign.specs.Objects.{manifest_bytes}
-use Rattle.issue_sign.specs.Calls.{by_issuer, by_once, first_call, second_call, first_calls}
+use Rattle.issue_sign.specs.Objects.{Answers, Signed, bytes_by, roa_certificate, roa_content}
+use Rattle.issue_sign.specs.Objects.{number_of, manifest_certificate, manifest_bytes}
+use Rattle.issue_sign.specs.Calls.{by_issuer, first_call, second_call, first_calls}
 use Rattle.issue_sign.specs.Calls.{content_calls}
 use Rattle.issue_sign.specs.SignInput.{SignInputValue}
 use Rattle.issue_sign.specs.Spelled.{IsSpelled}
@@ -76,71 +67,11 @@ content_answers c = record {
   last = [];
 }
 
--- ---- what is signed first for a draft
-
--- It has a spelling.
-abbrev pub IsWhole : Unsigned → Type 0
-IsWhole (unsigned.Certificate cert) = IsCert (cert_value cert)
-IsWhole (unsigned.Crl crl) = IsCrl (crl_value crl)
-IsWhole (unsigned.Roa origin content) =
-    IsRoa (roa_of origin) × (content.items ≡ roa_content origin)
-
--- It is of the draft's kind.
-abbrev pub IsOfKind : DraftKind → Unsigned → Type 0
-IsOfKind (kinds.Authority subject held) (unsigned.Certificate cert) = Unit {0}
-IsOfKind (kinds.Authority subject held) (unsigned.Crl crl) = ⊥
-IsOfKind (kinds.Authority subject held) (unsigned.Roa origin content) = ⊥
-IsOfKind (kinds.Route origin) (unsigned.Certificate cert) = ⊥
-IsOfKind (kinds.Route origin) (unsigned.Crl crl) = ⊥
-IsOfKind (kinds.Route origin) (unsigned.Roa other content) = other ≡ origin
-IsOfKind kinds.Crl (unsigned.Certificate cert) = ⊥
-IsOfKind kinds.Crl (unsigned.Crl crl) = Unit {0}
-IsOfKind kinds.Crl (unsigned.Roa origin content) = ⊥
-
--- It is what the draft says.
-abbrev pub IsValueOf : IssueInput → SignInputValue → Draft → Kind → Unsigned → Type 0
-IsValueOf s b d (Certificate subject held) (unsigned.Certificate cert) =
-    cert_value cert ≡ certificate s b.keys b.all d subject held
-IsValueOf s b d (Certificate subject held) (unsigned.Crl crl) = ⊥
-IsValueOf s b d (Certificate subject held) (unsigned.Roa origin content) = ⊥
-IsValueOf s b d (Roa origin) (unsigned.Certificate cert) = ⊥
-IsValueOf s b d (Roa origin) (unsigned.Crl crl) = ⊥
-IsValueOf s b d (Roa origin) (unsigned.Roa other content) = other ≡ origin
-IsValueOf s b d Crl (unsigned.Certificate cert) = ⊥
-IsValueOf s b d Crl (unsigned.Crl crl) = crl_value crl ≡ crl_of s b.entries d.issuer
-IsValueOf s b d Crl (unsigned.Roa origin content) = ⊥
-IsValueOf s b d Manifest u = ⊥
-
--- The call for it.
-abbrev pub call_of : ℕ → KeyRow → Unsigned → Answers → Call
-call_of moment key (unsigned.Certificate cert) a =
-    by_issuer key (certificates.signed_bytes (cert_value cert)) a.last
-call_of moment key (unsigned.Crl crl) a =
-    by_issuer key (crls.signed_bytes (crl_value crl)) a.last
-call_of moment key (unsigned.Roa origin content) a =
-    by_once key (signed_attributes ObjectKinds.Roa content.items moment) a
-
--- ---- what comes of it
+-- ---- the first signature
 
 abbrev pub half_answers : Half → Answers
 half_answers (Made object) = answers_of object
 half_answers (Begun origin content) = content_answers content
-
--- A certificate or a CRL with one signature.
-pub record IsFramed (tbs : List ℕ) (Known : List ℕ → Type 0) (o : Object) : Type 0 where
-  pub object : IsObjectOf (framed tbs o.signature.bytes) (Known o.signature.bytes) o
-  pub once : o.once ≡ None
-
-abbrev pub IsHalfOf : Unsigned → Half → Type 0
-IsHalfOf (unsigned.Certificate cert) (Made object) =
-    IsFramed (certificates.signed_bytes (cert_value cert)) (IsCertificate (cert_value cert)) object
-IsHalfOf (unsigned.Certificate cert) (Begun origin content) = ⊥
-IsHalfOf (unsigned.Crl crl) (Made object) =
-    IsFramed (crls.signed_bytes (crl_value crl)) (IsCrlOf (crl_value crl)) object
-IsHalfOf (unsigned.Crl crl) (Begun origin content) = ⊥
-IsHalfOf (unsigned.Roa origin content) (Made object) = ⊥
-IsHalfOf (unsigned.Roa origin content) (Begun other signed) =
-    (other ≡ origin) × (signed.content ≡ content)
 
 -- A ROA alone is signed twice.
 abbrev pub IsHalfOfKind : DraftKind → Half → Type 0
@@ -159,6 +90,13 @@ IsHalf s b d kind (Made o) =
     (IsSpelled s b d kind (answers_of o)) o
 IsHalf s b d kind (Begun origin content) =
     (kind ≡ Roa origin) × IsRoa (roa_of origin) × (content.content.items ≡ roa_content origin)
+
+-- It is that, by the draft's first call.
+pub record IsFirst
+    (s : IssueInput) (b : SignInputValue) (d : Draft) (kind : Kind) (h : Half)
+    (old new : List SignerState) : Type 0 where
+  pub half : IsHalf s b d kind h
+  pub called : IsCalled old new (first_call s b.keys b.all b.entries d kind (half_answers h))
 
 -- ---- lists side by side
 

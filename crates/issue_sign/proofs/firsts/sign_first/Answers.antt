@@ -1,17 +1,28 @@
-use Rattle.issue_sign.proofs.Halves.{first-half, first-called, first-stopped}
+use Rattle.std.proofs.lemmas.Result.{err_from_is_err_and}
+use Rattle.cert_obj.specs.Values.{cert_value}
+use Rattle.crl_obj.specs.Values.{crl_value}
+use Rattle.issue_drafts.specs.Certificates.{input_of}
+use Rattle.issue_sign.proofs.Said.{subject-placed}
+use Rattle.issue_sign.proofs.Halves.{certificate-halt, crl-halt}
 use Rattle.issue_sign.proofs.firsts.sign_first.Goals as goal
 
-pub returns-clause-half : goal.returns-clause-half
-returns-clause-half g c =
-    first-half c.args.sign_input.now c.args.draft.now c.args.serial c.in_ok-value.value c.sign_value.result
-    c.in_ok-value.ensures.value c.in_ok-value.ensures.whole c.sign_value.ensures.half
+pub returns-in_err-signed-in-Authority-clause-stopped : goal.returns-in_err-signed-in-Authority-clause-stopped
+returns-in_err-signed-in-Authority-clause-stopped g c =
+    let p = err_from_is_err_and c.from_residual-in_err-signed-in-Authority.result c.from_residual-in_err-signed-in-Authority.ensures.1 in
+    let draft = c.args.draft.now in
+    let to = c.in-Authority in
+    rw (p.1, p.2)
+    (λ b basis is.
+    certificate-halt (input_of c.args.sign_input.now.input.now) b draft c.args.serial to.subject to.held (cert_value c.in_ok-cert-in-Authority.cert)
+    c.args.ring.now c.sign_certificate.new.ring c.in_err-signed-in-Authority.field-0.0 to.is is
+    (c.in_ok-cert-in-Authority.ensures.value b basis is.issuer (subject-placed b draft to.subject to.held c.args.serial to.is is))
+    c.in_err-signed-in-Authority.ensures.stopped)
 
-pub returns-clause-called : goal.returns-clause-called
-returns-clause-called g c =
-    first-called c.args.sign_input.now c.args.draft.now c.args.serial c.in_ok-value.value c.args.ring.now c.sign_value.new.ring c.sign_value.result
-    c.in_ok-value.ensures.value c.in_ok-value.ensures.whole c.sign_value.ensures.called
-
-pub returns-clause-stopped : goal.returns-clause-stopped
-returns-clause-stopped g c =
-    first-stopped c.args.sign_input.now c.args.draft.now c.args.serial c.in_ok-value.value c.args.ring.now c.sign_value.new.ring c.sign_value.result
-    c.in_ok-value.ensures.value c.in_ok-value.ensures.whole c.sign_value.ensures.stopped
+pub returns-in_err-signed-in-Crl-clause-stopped : goal.returns-in_err-signed-in-Crl-clause-stopped
+returns-in_err-signed-in-Crl-clause-stopped g c =
+    let p = err_from_is_err_and c.from_residual-in_err-signed-in-Crl.result c.from_residual-in_err-signed-in-Crl.ensures.1 in
+    rw (p.1, p.2)
+    (λ b basis is.
+    crl-halt (input_of c.args.sign_input.now.input.now) b c.args.draft.now (crl_value c.in_ok-crl-in-Crl.crl)
+    c.args.ring.now c.sign_crl.new.ring c.in_err-signed-in-Crl.field-0.0 c.in-Crl.is
+    (c.in_ok-crl-in-Crl.ensures.value b basis is.issuer) c.in_err-signed-in-Crl.ensures.stopped)

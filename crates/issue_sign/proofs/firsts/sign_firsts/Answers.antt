@@ -64,7 +64,7 @@ returns-in_err-push-clause-stopped g c =
     let d = read-draft b drafts c.args.serials.now c.loop-draft.draft-index c.len-place.result draft same are c.loop-draft-test.true c.draft-item.is in
     halves-short s b drafts (halves ++ half ∷ []) c.args.ring.now c.sign_first.new.ring le
     (halves-more c.vouched_stays.ensures s b drafts halves draft half c.args.ring.now c.loop-draft.ring c.sign_first.new.ring n
-    (c.loop-draft.invariant.halves b basis are) (c.in_ok-half.ensures.half b basis d) (c.in_ok-half.ensures.called b basis d)))
+    (c.loop-draft.invariant.halves b basis are) (c.in_ok-half.ensures.first b basis d)))
 
 pub returns-in_err-push-clause-kept : goal.returns-in_err-push-clause-kept
 returns-in_err-push-clause-kept g c =
@@ -89,5 +89,5 @@ loop-draft-preserved g c =
           let d = read-draft b drafts c.args.serials.now c.loop-draft.draft-index c.len-place.result draft same are c.loop-draft-test.true c.draft-item.is in
           subst (λ (l : List Half). AreHalves s b drafts l c.args.ring.now c.sign_first.new.ring) (sym items)
           (halves-more c.vouched_stays.ensures s b drafts halves draft half c.args.ring.now c.loop-draft.ring c.sign_first.new.ring n
-          (c.loop-draft.invariant.halves b basis are) (c.in_ok-half.ensures.half b basis d) (c.in_ok-half.ensures.called b basis d));
+          (c.loop-draft.invariant.halves b basis are) (c.in_ok-half.ensures.first b basis d));
     }

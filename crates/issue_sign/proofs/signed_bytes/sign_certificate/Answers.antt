@@ -29,7 +29,8 @@ returns-in_err-bytes-clause-stopped g c =
     (inr (
       c.in_ok-signature.signature.bytes,
       (signed-as c.args.signer c.args.key.now.bytes c.as_slice-signed.result.now (signed_bytes (cert_value c.args.cert.now))
-          c.args.ring.now c.sign.new.ring c.in_ok-signature.signature.bytes same c.in_ok-signature.ensures.signed).call,
+          c.args.ring.now c.sign.new.ring c.in_ok-signature.signature.bytes same c.in_ok-signature.ensures.signed
+          c.in_ok-signature.ensures.vouched c.is_whole.ensures).call,
     ))
 
 pub returns-clause-bytes : goal.returns-clause-bytes
@@ -50,3 +51,4 @@ returns-clause-signed g c =
     signed-as c.args.signer c.args.key.now.bytes c.as_slice-signed.result.now (signed_bytes (cert_value c.args.cert.now))
     c.args.ring.now c.sign.new.ring c.in_ok-signature.signature.bytes
     (c.as_slice-signed.ensures.value ∙ c.in_ok-tbs.ensures) c.in_ok-signature.ensures.signed
+    c.in_ok-signature.ensures.vouched c.is_whole.ensures
