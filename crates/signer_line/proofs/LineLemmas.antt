@@ -1,9 +1,9 @@
 -- Bytes that are read one after another, and what a line spells.
-use Rattle.std.proofs.Common.{Bool, cond, ◌≡◌, ◌≢◌, ◌<◌, ◌≤◌, ◌+◌, ◌-◌, ◌*◌, ◌/◌, ◌%◌, ℕ, List, [], ◌∷◌, ◌++◌, length, take, drop, set, get_or, true, false, nat_eq, refl, sym, ◌∙◌, ap, subst, Option, Some, None, append_assoc, arith, length-append, length-take-le}
-use Rattle.std.specs.Prelude.{IfSome, All, Result, Ok, Err, codes}
+use Rattle.std.proofs.Common.{Bool, cond, ◌≡◌, ◌≢◌, ◌<◌, ◌≤◌, ◌+◌, ◌-◌, ◌*◌, ℕ, List, [], ◌∷◌, ◌++◌, length, take, drop, set, true, false, nat_eq, refl, sym, ◌∙◌, ap, subst, Option, Some, None, append_assoc, arith, length-append, length-take-le}
+use Rattle.std.specs.Prelude.{IfSome, Result, Ok, Err, codes}
 use Rattle.std.specs.Result.{result_unwrap_or}
 use Rattle.hex.specs.declared.error.FromHexError.{FromHexError}
-use Rattle.std.specs.Io.KnownBytes.{Appends, Consumes, Keeps, IsAtEnd}
+use Rattle.std.specs.Io.KnownBytes.{Appends, Consumes, Keeps}
 use Rattle.host_calls.specs.Rise.{HasRisen}
 use Rattle.std.proofs.lemmas.List.{take_more_set, take-append-drop, take_at, drop_at, take-take, drop-take}
 use Rattle.std.proofs.lemmas.List.Elements.{All-head, All-tail, All-push, All-append, All-cons, All-nil, All-weaker}
@@ -16,7 +16,7 @@ use Rattle.signer_line.specs.Answers.{Answered, IsAnswer, answer_line, told, hea
 use Rattle.signer_line.specs.declared.answer.Answer as code
 use Rattle.signer_line.specs.Answers.Answered.{Key, Signature, Once, Checked, Dropped}
 use Rattle.signer_line.specs.Meetings.{Comes}
-use Rattle.signer_line.specs.Streams.{NoByte, NoLine, NoHello, RightOr, Breaks}
+use Rattle.signer_line.specs.Streams.{NoByte, NoLine, NoHello, RightOr, Unheard, Breaks}
 use Rattle.signer_line.specs.declared.inbox.Stop.{Stop}
 use Rattle.signer_line.specs.declared.inbox.Stop.TheVariants.{Broken, Ended, TooLong}
 
@@ -265,8 +265,9 @@ pub heard_broken : (E : Type 0) (broken : Type 0) (r : Result code.Answer E) (a 
 heard_broken E broken (Ok x) a right other = cc (other (ap (λ (answer : Answered). Some answer) right))
 heard_broken E broken (Err e) a right other = right
 
-pub breaks_kept : (a b c d e f : ℕ) → e ≡ b → f ≡ d → Breaks a b c d → Breaks a e c f
-breaks_kept a b c d e f from to breaks = rw (from, to) breaks
+pub unheard_kept : (step : Bool) (a b c d e f : ℕ) (old new after : Option (List ℕ)) → e ≡ b → f ≡ d → after ≡ new → Unheard step (Breaks a b c d) old new
+    → Unheard step (Breaks a e c f) old after
+unheard_kept step a b c d e f old new after from to left unheard = rw (from, to, left) unheard
 
 pub key_same : (a b : List ℕ) → Key a ≡ Key b → a ≡ b
 key_same a b h = cc h

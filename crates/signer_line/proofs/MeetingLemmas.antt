@@ -1,5 +1,5 @@
 -- What is passed over up to the end of a line.
-use Rattle.std.proofs.Common.{inl, inr, ◌⊎◌, slice_index, ◌≡◌, ◌<◌, ◌+◌, ℕ, List, [], ◌∷◌, ◌++◌, length, take, get_or, refl, sym, ◌∙◌, ap, subst, Option, Some, None, append_assoc, arith, length-append, take_all}
+use Rattle.std.proofs.Common.{inl, inr, ◌≡◌, ◌<◌, ◌+◌, ℕ, List, [], ◌∷◌, ◌++◌, length, take, get_or, refl, sym, ◌∙◌, ap, subst, Option, Some, None, append_assoc, arith, length-append, take_all}
 use Rattle.std.specs.Io.KnownBytes.{Consumes}
 use Rattle.std.proofs.lemmas.List.{take_more, append-nil}
 use Rattle.signer_line.specs.Meetings.{MatchedAfter}

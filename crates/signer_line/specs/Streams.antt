@@ -1,10 +1,9 @@
 -- A signer over two streams, as the trait sees it, and why one stops.
-use Rattle.std.specs.Prelude.{◌≡◌, ◌⊎◌, ◌<◌, ◌≤◌, ◌+◌, ◌^◌, ℕ, List, [], Bool, Option, None, Result, Ok, Err, length}
+use Rattle.std.specs.Prelude.{◌≡◌, ◌⊎◌, ◌<◌, ◌+◌, ◌^◌, ℕ, List, Bool, true, false, Option, None, Result, Ok, Err, length}
 use Rattle.std.specs.Io.KnownBytes.{Consumes, Keeps, IsAtEnd, prepend_known}
 use Rattle.host_calls.specs.Rise.{HasRisen}
 use Rattle.signer_api.specs.State.{SignerState}
 use Rattle.signer_api.specs.State.Vouching.{NotTold}
-use Rattle.signer_api.specs.declared.signer.SignerStop.{SignerStop}
 use Rattle.signer_line.specs.Lines.{NoFeed}
 use Rattle.signer_line.specs.declared.inbox.Inbox.{Inbox}
 use Rattle.signer_line.specs.declared.inbox.Stop.{Stop}
@@ -79,7 +78,12 @@ NoMeeting Broken broken old new = broken
 NoMeeting Ended broken old new = IsAtEnd new
 NoMeeting TooLong broken old new = (passed : List ℕ) × (length passed ≡ 2 ^ 20) × Consumes old new passed
 
--- An answer is right, or a call of a stream failed.
+-- Why an answer that comes isn't heard: a call of a stream failed, or, out of step, the meeting did.
+abbrev pub Unheard : Bool → Type 0 → Option (List ℕ) → Option (List ℕ) → Type 0
+Unheard true broken old new = broken
+Unheard false broken old new = (stop : Stop) × NoMeeting stop broken old new
+
+-- An answer is right, or there is a cause why it isn't heard.
 abbrev pub RightOr : {T E : Type 0} → Type 0 → (T → Type 0) → Result T E → Type 0
 RightOr broken right (Ok x) = right x
 RightOr broken right (Err e) = broken

@@ -10,8 +10,10 @@ mod calls;
 mod inbox;
 mod line;
 mod meeting;
+mod opening;
 mod request;
 mod signer;
 
 pub use calls::HandsOn;
+pub use opening::Unmet;
 pub use signer::{LineSigner, SignerOver};

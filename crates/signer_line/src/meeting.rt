@@ -1,7 +1,7 @@
 // How both ends come into step.
-ghost use Rattle.std.specs.Prelude.{◌≡◌, ◌<◌, ◌++◌, length, List, ℕ, OnOk, IfErr};
+ghost use Rattle.std.specs.Prelude.{◌≡◌, ◌<◌, ◌≤◌, ◌++◌, length, List, ℕ, OnOk, IfErr};
 ghost use Rattle.std.specs.Io.KnownBytes.{Appends, Consumes};
-ghost use Rattle.signer_line.specs.Meetings.{hello, MatchedAfter};
+ghost use Rattle.signer_line.specs.Meetings.{hello, hello_words, greeting, MatchedAfter};
 ghost use Rattle.signer_line.specs.Streams.{inbox_left, inbox_from, NoHello};
 
 use crate::inbox::{Inbox, Stop};
@@ -11,16 +11,35 @@ use line_loop::RawReader;
 // How many bytes are passed over at most: what a pipe may hold.
 const MOST_PASSED: usize = 1 << 20;
 
-/// The line that opens the meeting of this number, and answers it.
-pub(crate) fn hello_line(number: u128) -> Outgoing
-    ensures { result ≡ hello number }
+/// The line that opens the meeting of this number, and answers it, without its line feed.
+pub(crate) fn hello_text(number: u128) -> Outgoing
+    ensures line { result ≡ hello_words number }
+    ensures long { length result ≡ 38 }
 {
     let word = number.to_be_bytes();
     let mut line = Outgoing::new();
     line.put(b"hello");
     line.put_hex(&word);
+    line
+}
+
+/// The line that opens the meeting of this number, and answers it.
+pub(crate) fn hello_line(number: u128) -> Outgoing
+    ensures line { result ≡ hello number }
+    ensures long { length result ≡ 39 }
+{
+    let mut line = hello_text(number);
     line.put(b"\n");
     line
+}
+
+/// The lines that open the meetings of this number and of the next one.
+pub(crate) fn greeting_lines(number: u128) -> Outgoing
+    ensures { result ≡ greeting number }
+{
+    let mut lines = hello_line(number);
+    lines.put(hello_line(number.wrapping_add(1)).as_bytes());
+    lines
 }
 
 // How much of the line is matched after the next byte, where so much was. The first byte of a hello

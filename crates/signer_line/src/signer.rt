@@ -9,7 +9,8 @@ use crate::answer::{Answer, read_answer};
 use crate::calls::{HandsOn, send};
 use crate::inbox::{Inbox, Stop};
 use crate::line::receive;
-use crate::meeting::{hello_line, pass_to};
+use crate::meeting::{greeting_lines, hello_line, hello_text, pass_to};
+use crate::opening::{Unmet, pass_to_answer};
 use crate::request::{Request, line_of};
 use host_calls::raised;
 use line_loop::{HostReader, HostWriter, RawReader};
@@ -68,9 +69,10 @@ impl<R: RawReader, W: HandsOn> SignerOver<R, W> {
     ghost use Rattle.std.specs.Prelude.{◌≡◌, ◌++◌, true, false, None, ℕ, List, Err, OnOk, OnErr, IfOk, IfErr, option_map};
     ghost use Rattle.std.specs.Io.KnownBytes.{Appends, Consumes};
     ghost use Rattle.signer_line.specs.Answers.{Answered, IsAnswer, answer_line, told};
-    ghost use Rattle.signer_line.specs.Streams.{line_state, line_from, line_to, line_left, in_step, number_of, RightOr, Breaks, NoMeeting};
-    ghost use Rattle.signer_line.specs.Meetings.{hello, next_number, number_after, asking, Hears, Comes};
+    ghost use Rattle.signer_line.specs.Streams.{line_state, line_from, line_to, line_left, in_step, number_of, RightOr, Unheard, Breaks, NoMeeting};
+    ghost use Rattle.signer_line.specs.Meetings.{hello, greeting, next_number, number_after, asking, Hears, Comes, ComesFor};
     ghost use Rattle.signer_line.specs.Lines.{request_line, fed};
+    ghost use Rattle.signer_line.specs.Openings.{NoGreeting};
     ghost use Rattle.signer_api.specs.State.{SignerState, CountsFault, Answers, next_count};
     ghost use Rattle.signer_api.specs.State.Vouching.{NotTold};
     ghost use Rattle.signer_api.specs.declared.signer.SignerStop.TheVariants.{Fault};
@@ -103,6 +105,8 @@ impl<R: RawReader, W: HandsOn> SignerOver<R, W> {
         ensures asked { OnOk result (Appends (W.taken (line_to self.old)) (W.taken (line_to self.new)) (hello (number_of self.old))) }
         ensures heard { OnOk result ((passed : List ℕ)
             × Consumes (line_left R.left self.old) (line_left R.left self.new) (passed ++ hello (number_of self.old))) }
+        ensures from_ok { OnOk result (R.fault_count (line_from self.new) ≡ R.fault_count (line_from self.old)) }
+        ensures to_ok { OnOk result (W.fault_count (line_to self.new) ≡ W.fault_count (line_to self.old)) }
         ensures refused { IfErr result (λ stop. NoMeeting stop
             (Breaks (R.fault_count (line_from self.old)) (R.fault_count (line_from self.new))
             (W.fault_count (line_to self.old)) (W.fault_count (line_to self.new)))
@@ -137,6 +141,59 @@ impl<R: RawReader, W: HandsOn> SignerOver<R, W> {
         match self.join() {
             Ok(()) => Ok(()),
             Err(_) => Err(self.failed()),
+        }
+    }
+
+    // Opens the line, and reads up to the end of the second answer.
+    #[tactic(auto, using(crate::proofs::OpeningLemmas::unmet_breaks))]
+    fn begin(&mut self) -> Result<(), Unmet>
+        ensures state { line_state self.new ≡ line_state self.old }
+        ensures number { number_of self.new ≡ next_number (next_number (number_of self.old)) }
+        ensures met { OnOk result (in_step self.new ≡ true) }
+        ensures asked { OnOk result (Appends (W.taken (line_to self.old)) (W.taken (line_to self.new)) (greeting (number_of self.old))) }
+        ensures heard { OnOk result ((passed : List ℕ)
+            × Consumes (line_left R.left self.old) (line_left R.left self.new) (passed ++ hello (next_number (number_of self.old)))) }
+        ensures refused { IfErr result (λ unmet. NoGreeting unmet
+            (Breaks (R.fault_count (line_from self.old)) (R.fault_count (line_from self.new))
+            (W.fault_count (line_to self.old)) (W.fault_count (line_to self.new)))
+            (line_left R.left self.old) (line_left R.left self.new)) }
+    {
+        let lines = greeting_lines(self.number);
+        let next = self.number.wrapping_add(1);
+        self.number = next.wrapping_add(1);
+        if send(&mut self.to, lines.as_bytes()).is_err() {
+            return Err(Unmet::Gone);
+        }
+        let answer = hello_text(next);
+        pass_to_answer(&mut self.from, answer.as_bytes())?;
+        self.in_step = true;
+        Ok(())
+    }
+
+    /// Meets the other end at the start, where it may be a signer that doesn't know hellos. It is sent two, and
+    /// lines are passed over up to the answer to the second one. An earlier run may have left one line that is
+    /// none of a meeting's, whole or in part: with the second such line, or one longer than any answer, it is
+    /// refused as a stranger.
+    pub fn greet(&mut self) -> Result<(), Unmet>
+        ensures fine { OnOk result (line_state self.new ≡ line_state self.old) }
+        ensures counted { OnErr result (CountsFault (line_state self.old) (line_state self.new)) }
+        ensures number { number_of self.new ≡ next_number (next_number (number_of self.old)) }
+        ensures met { OnOk result (in_step self.new ≡ true) }
+        ensures apart { OnErr result (in_step self.new ≡ false) }
+        ensures asked { OnOk result (Appends (W.taken (line_to self.old)) (W.taken (line_to self.new)) (greeting (number_of self.old))) }
+        ensures heard { OnOk result ((passed : List ℕ)
+            × Consumes (line_left R.left self.old) (line_left R.left self.new) (passed ++ hello (next_number (number_of self.old)))) }
+        ensures refused { IfErr result (λ unmet. NoGreeting unmet
+            (Breaks (R.fault_count (line_from self.old)) (R.fault_count (line_from self.new))
+            (W.fault_count (line_to self.old)) (W.fault_count (line_to self.new)))
+            (line_left R.left self.old) (line_left R.left self.new)) }
+    {
+        match self.begin() {
+            Ok(()) => Ok(()),
+            Err(unmet) => {
+                let _ = self.failed();
+                Err(unmet)
+            }
         }
     }
 
@@ -177,10 +234,11 @@ impl<R: RawReader, W: HandsOn> SignerOver<R, W> {
         ensures handed { OnOk result (W.handed (line_to self.new) ≡ W.taken (line_to self.new)) }
         ensures heard { IfOk result (λ answer. Hears (in_step self.old) (number_of self.old)
             (line_left R.left self.old) (line_left R.left self.new) (answer_line (told answer))) }
-        ensures exact { (answer : Answered) → IsAnswer answer → in_step self.old ≡ true
-            → Comes (line_left R.left self.old) (answer_line answer)
-            → RightOr (Breaks (R.fault_count (line_from self.old)) (R.fault_count (line_from self.new))
+        ensures exact { (answer : Answered) → IsAnswer answer
+            → ComesFor (in_step self.old) (number_of self.old) (line_left R.left self.old) (answer_line answer)
+            → RightOr (Unheard (in_step self.old) (Breaks (R.fault_count (line_from self.old)) (R.fault_count (line_from self.new))
             (W.fault_count (line_to self.old)) (W.fault_count (line_to self.new)))
+            (line_left R.left self.old) (line_left R.left self.new))
             (λ given. told given ≡ answer) result }
     {
         if self.in_step {
@@ -308,8 +366,8 @@ impl<R: RawReader, W: HandsOn> Signer for SignerOver<R, W> {
     ghost use Rattle.hex.specs.Hex.{IsBytes};
     ghost use Rattle.signer_api.specs.PublicKey.{IsPublicKey};
     ghost use Rattle.signer_api.specs.State.{Signed, Answers, DropsKey, Tells, Vouches, with_key, with_signature, with_once};
-    ghost use Rattle.signer_line.specs.Streams.{line_state, line_from, line_to, line_left, in_step, number_of, RightOr, Breaks, Succeeds};
-    ghost use Rattle.signer_line.specs.Meetings.{number_after, asking, Hears, Comes};
+    ghost use Rattle.signer_line.specs.Streams.{line_state, line_from, line_to, line_left, in_step, number_of, RightOr, Unheard, Breaks, Succeeds};
+    ghost use Rattle.signer_line.specs.Meetings.{number_after, asking, Hears, ComesFor};
     ghost use Rattle.signer_line.specs.Lines.{make_request, sign_request, once_request, check_request, drop_request, key_line, signature_line, once_line, check_line, drop_line};
 
     ghost state = { λ signer. line_state signer };
@@ -324,10 +382,11 @@ impl<R: RawReader, W: HandsOn> Signer for SignerOver<R, W> {
         ensures handed { OnOk result (W.handed (line_to self.new) ≡ W.taken (line_to self.new)) }
         ensures heard { IfOk result (λ key. Hears (in_step self.old) (number_of self.old)
             (line_left R.left self.old) (line_left R.left self.new) (key_line key.bytes)) }
-        ensures exact { (key : List ℕ) → IsPublicKey key → IsBytes key → in_step self.old ≡ true
-            → Comes (line_left R.left self.old) (key_line key)
-            → RightOr (Breaks (R.fault_count (line_from self.old)) (R.fault_count (line_from self.new))
+        ensures exact { (key : List ℕ) → IsPublicKey key → IsBytes key
+            → ComesFor (in_step self.old) (number_of self.old) (line_left R.left self.old) (key_line key)
+            → RightOr (Unheard (in_step self.old) (Breaks (R.fault_count (line_from self.old)) (R.fault_count (line_from self.new))
             (W.fault_count (line_to self.old)) (W.fault_count (line_to self.new)))
+            (line_left R.left self.old) (line_left R.left self.new))
             (λ given. given.bytes ≡ key) result }
     {
         let answer = self.ask(&Request::Make);
@@ -356,10 +415,11 @@ impl<R: RawReader, W: HandsOn> Signer for SignerOver<R, W> {
         ensures handed { OnOk result (W.handed (line_to self.new) ≡ W.taken (line_to self.new)) }
         ensures heard { IfOk result (λ s. Hears (in_step self.old) (number_of self.old)
             (line_left R.left self.old) (line_left R.left self.new) (signature_line s.bytes)) }
-        ensures exact { (signature : List ℕ) → length signature ≡ 256 → IsBytes signature → in_step self.old ≡ true
-            → Comes (line_left R.left self.old) (signature_line signature)
-            → RightOr (Breaks (R.fault_count (line_from self.old)) (R.fault_count (line_from self.new))
+        ensures exact { (signature : List ℕ) → length signature ≡ 256 → IsBytes signature
+            → ComesFor (in_step self.old) (number_of self.old) (line_left R.left self.old) (signature_line signature)
+            → RightOr (Unheard (in_step self.old) (Breaks (R.fault_count (line_from self.old)) (R.fault_count (line_from self.new))
             (W.fault_count (line_to self.old)) (W.fault_count (line_to self.new)))
+            (line_left R.left self.old) (line_left R.left self.new))
             (λ given. given.bytes ≡ signature) result }
     {
         let answer = self.ask(&Request::Sign { key, digest });
@@ -387,10 +447,10 @@ impl<R: RawReader, W: HandsOn> Signer for SignerOver<R, W> {
         ensures heard { IfOk result (λ once. Hears (in_step self.old) (number_of self.old)
             (line_left R.left self.old) (line_left R.left self.new) (once_line once.key.bytes once.signature.bytes)) }
         ensures exact { (key signature : List ℕ) → IsPublicKey key → IsBytes key → length signature ≡ 256 → IsBytes signature
-            → in_step self.old ≡ true
-            → Comes (line_left R.left self.old) (once_line key signature)
-            → RightOr (Breaks (R.fault_count (line_from self.old)) (R.fault_count (line_from self.new))
+            → ComesFor (in_step self.old) (number_of self.old) (line_left R.left self.old) (once_line key signature)
+            → RightOr (Unheard (in_step self.old) (Breaks (R.fault_count (line_from self.old)) (R.fault_count (line_from self.new))
             (W.fault_count (line_to self.old)) (W.fault_count (line_to self.new)))
+            (line_left R.left self.old) (line_left R.left self.new))
             (λ given. (given.key.bytes ≡ key) × (given.signature.bytes ≡ signature)) result }
     {
         let answer = self.ask(&Request::Once { digest });
@@ -422,10 +482,11 @@ impl<R: RawReader, W: HandsOn> Signer for SignerOver<R, W> {
         ensures handed { OnOk result (W.handed (line_to self.new) ≡ W.taken (line_to self.new)) }
         ensures heard { IfOk result (λ yes. Hears (in_step self.old) (number_of self.old)
             (line_left R.left self.old) (line_left R.left self.new) (check_line yes)) }
-        ensures exact { (yes : Bool) → in_step self.old ≡ true
-            → Comes (line_left R.left self.old) (check_line yes)
-            → RightOr (Breaks (R.fault_count (line_from self.old)) (R.fault_count (line_from self.new))
+        ensures exact { (yes : Bool)
+            → ComesFor (in_step self.old) (number_of self.old) (line_left R.left self.old) (check_line yes)
+            → RightOr (Unheard (in_step self.old) (Breaks (R.fault_count (line_from self.old)) (R.fault_count (line_from self.new))
             (W.fault_count (line_to self.old)) (W.fault_count (line_to self.new)))
+            (line_left R.left self.old) (line_left R.left self.new))
             (λ given. given ≡ yes) result }
     {
         let answer = self.ask(&Request::Check {
@@ -448,9 +509,11 @@ impl<R: RawReader, W: HandsOn> Signer for SignerOver<R, W> {
         ensures handed { Succeeds self.old.faults self.new.faults → W.handed (line_to self.new) ≡ W.taken (line_to self.new) }
         ensures heard { Succeeds self.old.faults self.new.faults → Hears (in_step self.old) (number_of self.old)
             (line_left R.left self.old) (line_left R.left self.new) drop_line }
-        ensures exact { in_step self.old ≡ true → Comes (line_left R.left self.old) drop_line
-            → (self.new.faults ≡ self.old.faults) ⊎ Breaks (R.fault_count (line_from self.old)) (R.fault_count (line_from self.new))
-            (W.fault_count (line_to self.old)) (W.fault_count (line_to self.new)) }
+        ensures exact { ComesFor (in_step self.old) (number_of self.old) (line_left R.left self.old) drop_line
+            → (self.new.faults ≡ self.old.faults)
+            ⊎ Unheard (in_step self.old) (Breaks (R.fault_count (line_from self.old)) (R.fault_count (line_from self.new))
+            (W.fault_count (line_to self.old)) (W.fault_count (line_to self.new)))
+            (line_left R.left self.old) (line_left R.left self.new) }
     {
         let answer = self.ask(&Request::Discard { key });
         match drop_in(answer) {

@@ -1,4 +1,4 @@
-use Rattle.std.proofs.Common.{◌≡◌, ◌∙◌, sym, subst, List, ℕ}
+use Rattle.std.proofs.Common.{◌∙◌, sym, subst}
 use Rattle.hex.specs.Hex.{encode_lower}
 use Rattle.signer_api.specs.PublicKey.{IsPublicKey}
 use Rattle.signer_line.proofs.LineLemmas.{digits_long, none_some, some_same}

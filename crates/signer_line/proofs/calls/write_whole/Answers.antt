@@ -1,4 +1,4 @@
-use Rattle.std.proofs.Common.{rules, ◌≡◌, ◌∙◌, arith, length-drop}
+use Rattle.std.proofs.Common.{rules, ◌∙◌, arith, length-drop}
 use Rattle.signer_line.proofs.LineLemmas.{sent_part}
 use Rattle.signer_line.proofs.calls.write_whole.Goals as goal
 

@@ -1,4 +1,4 @@
-use Rattle.std.proofs.Common.{◌≡◌, ◌<◌, take, length}
+use Rattle.std.proofs.Common.{◌≡◌, ◌<◌, length}
 use Rattle.signer_line.specs.Streams.{inbox_left, inbox_from}
 use Rattle.signer_line.proofs.MeetingLemmas.{Passes}
 use Rattle.signer_line.proofs.meeting.pass_to.Given as goal

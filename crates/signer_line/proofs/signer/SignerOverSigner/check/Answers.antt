@@ -1,15 +1,16 @@
 use Rattle.std.proofs.Common.{ap}
 use Rattle.signer_line.specs.Answers.Answered.{Checked}
-use Rattle.signer_line.specs.Streams.{inbox_from}
-use Rattle.signer_line.proofs.LineLemmas.{heard_right, heard_broken, breaks_kept, check_same}
+use Rattle.signer_line.specs.Streams.{inbox_from, inbox_left}
+use Rattle.signer_line.proofs.LineLemmas.{heard_right, heard_broken, unheard_kept, check_same}
 use Rattle.signer_line.proofs.signer.SignerOverSigner.check.Goals as goal
 
 pub returns-in-Some-clause-exact : goal.returns-in-Some-clause-exact
-returns-in-Some-clause-exact g c = λ said step comes.
-    check_same _ _ (heard_right _ _ c.ask-answer.result (Checked said) _ (c.ask-answer.ensures.exact (Checked said) tt step comes) c.in-Some.ensures.told)
+returns-in-Some-clause-exact g c = λ said comes.
+    check_same _ _ (heard_right _ _ c.ask-answer.result (Checked said) _ (c.ask-answer.ensures.exact (Checked said) tt comes) c.in-Some.ensures.told)
 
 pub returns-in-None-clause-exact : goal.returns-in-None-clause-exact
-returns-in-None-clause-exact g c = λ said step comes.
-    breaks_kept _ _ _ _ _ _ (ap (λ inbox. g.R.RawReader.fault_count (inbox_from inbox)) c.failed.ensures.inbox)
+returns-in-None-clause-exact g c = λ said comes.
+    unheard_kept _ _ _ _ _ _ _ _ _ _ (ap (λ inbox. g.R.RawReader.fault_count (inbox_from inbox)) c.failed.ensures.inbox)
     (ap (λ to. g.W.RawWriter.fault_count to) c.failed.ensures.to)
-    (heard_broken _ _ c.ask-answer.result (Checked said) (c.ask-answer.ensures.exact (Checked said) tt step comes) (c.in-None.ensures.every said))
+    (ap (λ inbox. inbox_left g.R.RawReader.left inbox) c.failed.ensures.inbox)
+    (heard_broken _ _ c.ask-answer.result (Checked said) (c.ask-answer.ensures.exact (Checked said) tt comes) (c.in-None.ensures.every said))

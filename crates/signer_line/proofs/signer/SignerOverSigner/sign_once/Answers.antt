@@ -1,15 +1,16 @@
 use Rattle.std.proofs.Common.{ap}
 use Rattle.signer_line.specs.Answers.Answered.{Once}
-use Rattle.signer_line.specs.Streams.{inbox_from}
-use Rattle.signer_line.proofs.LineLemmas.{heard_right, heard_broken, breaks_kept, once_same}
+use Rattle.signer_line.specs.Streams.{inbox_from, inbox_left}
+use Rattle.signer_line.proofs.LineLemmas.{heard_right, heard_broken, unheard_kept, once_same}
 use Rattle.signer_line.proofs.signer.SignerOverSigner.sign_once.Goals as goal
 
 pub returns-in-Some-clause-exact : goal.returns-in-Some-clause-exact
-returns-in-Some-clause-exact g c = λ key signature is bytes long bytes_too step comes.
-    once_same _ _ _ _ (heard_right _ _ c.ask-answer.result (Once key signature) _ (c.ask-answer.ensures.exact (Once key signature) (is, bytes, long, bytes_too) step comes) c.in-Some.ensures.told)
+returns-in-Some-clause-exact g c = λ key signature is bytes long bytes_too comes.
+    once_same _ _ _ _ (heard_right _ _ c.ask-answer.result (Once key signature) _ (c.ask-answer.ensures.exact (Once key signature) (is, bytes, long, bytes_too) comes) c.in-Some.ensures.told)
 
 pub returns-in-None-clause-exact : goal.returns-in-None-clause-exact
-returns-in-None-clause-exact g c = λ key signature is bytes long bytes_too step comes.
-    breaks_kept _ _ _ _ _ _ (ap (λ inbox. g.R.RawReader.fault_count (inbox_from inbox)) c.failed.ensures.inbox)
+returns-in-None-clause-exact g c = λ key signature is bytes long bytes_too comes.
+    unheard_kept _ _ _ _ _ _ _ _ _ _ (ap (λ inbox. g.R.RawReader.fault_count (inbox_from inbox)) c.failed.ensures.inbox)
     (ap (λ to. g.W.RawWriter.fault_count to) c.failed.ensures.to)
-    (heard_broken _ _ c.ask-answer.result (Once key signature) (c.ask-answer.ensures.exact (Once key signature) (is, bytes, long, bytes_too) step comes) (c.in-None.ensures.every key signature))
+    (ap (λ inbox. inbox_left g.R.RawReader.left inbox) c.failed.ensures.inbox)
+    (heard_broken _ _ c.ask-answer.result (Once key signature) (c.ask-answer.ensures.exact (Once key signature) (is, bytes, long, bytes_too) comes) (c.in-None.ensures.every key signature))
