@@ -29,3 +29,5 @@ pub mod Apart
 pub mod Everywhere
 pub mod Trees
 pub mod Assembled
+pub mod Drafted
+pub mod Profile

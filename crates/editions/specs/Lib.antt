@@ -1,5 +1,6 @@
 pub mod Calling
 pub mod Clear
+pub mod Drafted
 pub mod Due
 pub mod Edition
 pub mod Ended
@@ -11,6 +12,7 @@ pub mod Moments
 pub mod Names
 pub mod Objects
 pub mod PlannedAndMade
+pub mod Profile
 pub mod Published
 pub mod PublishedState
 pub mod Sheets
@@ -18,6 +20,7 @@ pub mod Standing
 pub mod Step
 pub mod Superseded
 pub mod Table
+pub mod VouchedCalls
 pub mod Wanted
 pub mod inner
 pub mod laws

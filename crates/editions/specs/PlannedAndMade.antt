@@ -21,7 +21,7 @@ use Rattle.editions.specs.Edition.{Edition, state_after, set_after}
 use Rattle.editions.specs.Table.{IsTable}
 use Rattle.editions.specs.Step.{Premises, IsCut, next_moment, plan_input_at}
 use Rattle.editions.specs.inner.PlanAndTable.{made_from}
-use Rattle.editions.specs.inner.Vouched.{IsVouchedBy}
+use Rattle.editions.specs.VouchedCalls.{IsVouchedBy}
 
 -- What a change puts is of bytes, and shorter than 2^32: it can be read.
 abbrev pub CanBeRead : Change → Type 0

@@ -40,7 +40,9 @@ pub use plan_laws::{
     made_keys_are_live, made_keys_have_signers, other_uris_are_clear, planned_work_can_be_made,
     wanted_uris_are_put,
 };
-pub use published_laws::{editions_are_published, keys_are_of_a_tree};
+pub use published_laws::{
+    editions_are_in_profile, editions_are_published, keys_are_of_a_tree, wanted_objects_have_drafts,
+};
 pub use published_state::{Published, PublishedState, StateParts};
 pub use standing::{next_set, next_table};
 pub use state_laws::{

@@ -6,9 +6,11 @@ ghost use Rattle.names.specs.Name.{IsName};
 ghost use Rattle.entitle.specs.Certified.{names_of};
 ghost use Rattle.pub_set.specs.declared.objects.Object.{Object};
 ghost use Rattle.pub_set.specs.Objects.{content_at, IsAscending};
-ghost use Rattle.editions.specs.Edition.{Edition, set_after};
+ghost use Rattle.editions.specs.Drafted.{HaveDrafts};
+ghost use Rattle.editions.specs.Edition.{Edition, state_after, set_after};
+ghost use Rattle.editions.specs.Profile.{IsInProfile};
 ghost use Rattle.editions.specs.Published.{IsPublished};
-ghost use Rattle.editions.specs.Step.{Premises, AreSteps, configs_at};
+ghost use Rattle.editions.specs.Step.{Premises, IsStep, AreSteps, configs_at, plan_input_at};
 ghost use Rattle.editions.specs.Names.{AreTree};
 ghost use Rattle.editions.specs.inner.KeyTree.{AreOfTree};
 
@@ -48,3 +50,24 @@ pub fn editions_are_published()
     sets_are_inside_by_numbers();
     spans_are_had_by_numbers();
 }
+
+/// A law, with nothing to run: an edition leaves out nothing that it wants. Each of its keys wants a certificate and
+/// each owed origin a ROA, and each of these has a draft, as has each key's CRL and manifest.
+pub fn wanted_objects_have_drafts()
+    ensures { (premises : Premises) (clock : ℕ) (editions : List Edition) (edition : Edition)
+        → AreSteps premises (editions ++ edition ∷ [])
+        → AreTree (names_of (configs_at premises.lists edition.cut))
+        → (step : IsStep premises clock editions edition)
+        → HaveDrafts (plan_input_at premises (state_after editions) edition step.sets step.owed step.issued)
+        step.made.keys }
+{}
+
+/// A law, with nothing to run: the set of an edition keeps what the profiles ask beside a walk. CRLs and manifests have
+/// a thisUpdate before their nextUpdate, serials are positive, no certificate is without resources, and no two
+/// authorities have one key (RFC 6487 section 4, RFC 9286 section 4.2.1).
+pub fn editions_are_in_profile()
+    ensures { (premises : Premises) (editions : List Edition) (edition : Edition)
+        → AreSteps premises (editions ++ edition ∷ [])
+        → AreTree (names_of (configs_at premises.lists edition.cut))
+        → IsInProfile (set_after (editions ++ edition ∷ [])) }
+{}

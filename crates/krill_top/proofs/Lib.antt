@@ -10,6 +10,7 @@ pub mod Named
 pub mod Pressed
 pub mod Publishing
 pub mod Exporting
+pub mod Closing
 pub mod Telling
 pub mod FirstInstanceState
 pub mod Reading

@@ -14,7 +14,7 @@ use Rattle.desk_core.specs.View.{View}
 use Rattle.signer_api.specs.State.{SignerState}
 use Rattle.signer_ring.specs.Ring.{Keeps}
 use Rattle.signer_ring.specs.Calls.{Call}
-use Rattle.editions.specs.inner.Vouched.{IsVouchedBy}
+use Rattle.editions.specs.VouchedCalls.{IsVouchedBy}
 use Rattle.rp_rules.specs.Certificates.{Vouched}
 use Rattle.pub_set.specs.Changes.{Contents}
 use Rattle.pub_set.specs.Objects.{content_at}
@@ -336,6 +336,7 @@ module _ {D O : Type 0} (outlet_of : OutletGhosts O) where
             called = follow.called;
             published = subst (λ (s : Contents). IsPublished (premises_of vouched before) edition s) set_is
                 (done.edition.published (premises_of vouched before) before.editions (behind vouched all));
+            profile = follow.profile;
           };
     }
 

@@ -33,6 +33,7 @@ use Rattle.krill_top.specs.Run.{IsNext, IsServed, IsServedAt, IsSignersCause, Is
 use Rattle.krill_top.proofs.Standing.{go_on_same, go_on_then}
 use Rattle.krill_top.proofs.Vouching.{vouch_then}
 use Rattle.krill_top.proofs.Exporting.{NewestLaw, exported_shown}
+use Rattle.krill_top.proofs.Closing.{well_exported}
 use Rattle.krill_top.proofs.InTurn.{opened_stood_for, closed_left}
 
 module _ {D : Type 0} (disk_of : DiskGhosts D) where
@@ -219,6 +220,8 @@ module _ {D G S K O C : Type 0} (disk_of : DiskGhosts D) (state_of : G → Signe
         outlet_ended = ap (outlet_state outlet_of) is.outlet ∙ last.stands.outlet;
         coherent = λ was. last.coherent (done.coherent was);
         shown = λ exported. exported_shown disk_of outlet_of law closed last.after last.stands exported;
+        well = λ zero. exported_shown disk_of outlet_of law closed last.after last.stands
+            (well_exported end closing done.after last.after last.step (sym is.status ∙ zero));
         source_fault = is.source_fault;
         sink_fault = is.sink_fault;
         source_later = is.source_later;

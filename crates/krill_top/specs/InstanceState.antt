@@ -9,7 +9,7 @@ use Rattle.signer_ring.specs.Calls.{Call}
 use Rattle.rp_rules.specs.Certificates.{Vouched}
 use Rattle.editions.specs.Edition.{Edition}
 use Rattle.editions.specs.Step.{Premises}
-use Rattle.editions.specs.inner.Vouched.{IsVouchedBy}
+use Rattle.editions.specs.VouchedCalls.{IsVouchedBy}
 use Rattle.editions.specs.Edition.{state_after}
 use Rattle.outlet_api.specs.Calls.{Files}
 use Rattle.outlet_api.specs.declared.outlet.Outlet.{Ghosts as OutletGhosts}

@@ -10,6 +10,7 @@ use Rattle.rp_rules.specs.Certificates.{Vouched}
 use Rattle.editions.specs.Edition.{Edition, state_after, set_after, cut_at}
 use Rattle.editions.specs.Step.{configs_at, IsStep}
 use Rattle.editions.specs.Due.{IsCalledFor}
+use Rattle.editions.specs.Profile.{IsInProfile}
 use Rattle.editions.specs.Published.{IsPublished}
 use Rattle.editions.specs.declared.gathered.Gathered.{Gathered}
 use Rattle.editions.specs.declared.published_state.Published.{Published as PublishedNumbers}
@@ -71,13 +72,14 @@ pub record AreLeft (old made : List SignerState) (before : List Edition) (editio
   pub dropped : DropsEach (ended_keys (state_after before).rows edition.rows) made new
 
 -- The edition was called for, and follows those before it at that clock. Relying parties find its set
--- sound, and what they get of it are the owed origins.
+-- sound, and what they get of it are the owed origins. It keeps what the profiles ask beside that.
 pub record IsSoundStep (vouched : Vouched) (clock : ℕ) (edition : Edition)
     (before after : InstanceState) : Type 0 where
   pub step : IsStep (premises_of vouched before) clock before.editions edition
   pub called : IsCalledFor (premises_of vouched before) before.editions
       edition.cut edition.moment true
   pub published : IsPublished (premises_of vouched before) edition (set_after after.editions)
+  pub profile : IsInProfile (set_after after.editions)
 
 -- An edition was made by the signers, who were asked for nothing else, over all commands that the
 -- desks have accepted. Where the signatures of the editions are vouched, whatever else is, it follows

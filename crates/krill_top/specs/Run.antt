@@ -153,6 +153,8 @@ pub record ServesOne {D G S K O C : Type 0} (disk_of : DiskGhosts D) (state_of :
   pub coherent : IsCoherentIn begun → IsCoherentIn ended
   -- and where the last edition is exported, it is that one's
   pub shown : is_exported ended ≡ true → (ended.editions ≡ []) ⊎ ShowsLastIn ended
+  -- as it is where the run ended well
+  pub well : run.status ≡ 0 → (ended.editions ≡ []) ⊎ ShowsLastIn ended
   pub source_fault : end ≡ SourceFault → HasRisen (source_of.fault_count before.source) (source_of.fault_count after.source)
   pub sink_fault : end ≡ SinkFault → HasRisen (sink_of.fault_count before.sink) (sink_of.fault_count after.sink)
   pub source_later : source_of.fault_count before.source ≤ source_of.fault_count after.source

@@ -32,9 +32,10 @@ use Rattle.editions.specs.Step.{Premises, IsStep, IsCut, AreSteps, configs_at, b
 use Rattle.editions.specs.Due as due
 use Rattle.editions.specs.Due.{IsCalledFor}
 use Rattle.editions.specs.Held.{HaveOwnSerials}
+use Rattle.editions.specs.Profile.{IsInProfile}
 use Rattle.editions.specs.Published.{IsPublished, ManifestsRise}
 use Rattle.editions.specs.inner.PlanAndTable.{made_from}
-use Rattle.editions.specs.inner.Vouched.{IsVouchedBy}
+use Rattle.editions.specs.VouchedCalls.{IsVouchedBy}
 use Rattle.editions.specs.declared.gathered.Gathered.{Gathered}
 use Rattle.editions.specs.PublishedState.{PublishedStateValue, AreTakenIn, desks}
 use Rattle.editions.specs.Gathering.{configs_with, cut_with, AreNextCommands}
@@ -71,6 +72,8 @@ pub record Laws : Type 0 where
   pub manifests : (premises : Premises) (editions : List Edition) (edition : Edition) → AreSteps premises (editions ++ edition ∷ [])
       → ManifestsRise (set_after editions) (set_after (editions ++ edition ∷ []))
   pub serials : (premises : Premises) (editions : List Edition) (id : List ℕ) → AreSteps premises editions → HaveOwnSerials editions id
+  pub profile : (premises : Premises) (editions : List Edition) (edition : Edition) → AreSteps premises (editions ++ edition ∷ [])
+      → AreTree (names_of (configs_at premises.lists edition.cut)) → IsInProfile (set_after (editions ++ edition ∷ []))
   pub steps : (premises : Premises) (clock : ℕ) (editions : List Edition) (edition : Edition)
       → AreSteps premises editions → IsStep premises clock editions edition → AreSteps premises (editions ++ edition ∷ [])
   pub follows : (premises : Premises) (clock : ℕ) (editions : List Edition) (edition : Edition) (old new : List SignerState)
@@ -331,12 +334,16 @@ prepared-follows laws start ring prepared is premises editions behind =
     laws.follows premises start.clock editions (edition_of prepared) start.ring ring behind.stands.steps (planned-and-made start ring prepared premises editions g) in
     let all = stands-then start ring prepared premises editions g step in
     let edition = edition_of prepared in
+    let tree : AreTree (names_of prepared.next.configs) =
+    tree-of laws.names prepared.next.configs prepared.next.cut is.next.kept.configs is.next.kept.taken in
     record {
       step = step;
       called = called-then start ring prepared premises editions g;
       stands = all;
       manifests = laws.manifests premises editions edition all.steps;
       serials = λ id. laws.serials premises (editions ++ edition ∷ []) id all.steps;
+      profile = laws.profile premises editions edition all.steps
+          (subst (λ (c : List Settings). AreTree (names_of c)) all.left.configs tree);
     }
 
 -- ---- to relying parties

@@ -8,8 +8,9 @@ use Rattle.editions.specs.Edition.{Edition, set_after}
 use Rattle.editions.specs.Held.{HaveOwnSerials}
 use Rattle.editions.specs.Step.{Premises, IsStep}
 use Rattle.editions.specs.Due.{IsCalledFor}
+use Rattle.editions.specs.Profile.{IsInProfile}
 use Rattle.editions.specs.Published.{IsPublished, ManifestsRise}
-use Rattle.editions.specs.inner.Vouched.{IsVouchedBy}
+use Rattle.editions.specs.VouchedCalls.{IsVouchedBy}
 use Rattle.editions.specs.Gathering.{AreNextCommands}
 use Rattle.press_core.specs.PrepareInput.{PrepareInput}
 use Rattle.press_core.specs.Planned.{IsPrepared, calls_for}
@@ -46,6 +47,8 @@ pub record Follows (premises : Premises) (clock : ℕ) (editions : List Edition)
   pub manifests :
       ManifestsRise (set_after editions) (set_after (editions ++ edition_of prepared ∷ []))
   pub serials : (id : List ℕ) → HaveOwnSerials (editions ++ edition_of prepared ∷ []) id
+  -- the set keeps what the profiles ask beside a relying party's walk (RFC 6487 section 4)
+  pub profile : IsInProfile (set_after (editions ++ edition_of prepared ∷ []))
 
 -- What a press prepares. The calls of its signers are the same ones throughout.
 pub record IsNextEdition (start : PrepareInput) (ring : List SignerState)

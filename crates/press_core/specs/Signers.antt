@@ -1,7 +1,6 @@
 -- What the signers of a press vouch for, and the keys that they hold.
 use Rattle.std.specs.Prelude.{◌≡◌, ℕ, true, List, Option, None, Some, slice_get, Contains, Any}
 use Rattle.signer_api.specs.State.{SignerState, Tells, Vouches}
-use Rattle.signer_ring.specs.Calls.{Call, after_calls}
 use Rattle.rp_rules.specs.Certificates.{Vouched}
 
 -- What one of the signers vouches for, as far as it tells, is vouched.
@@ -9,10 +8,6 @@ abbrev pub HasAllVouched : Vouched → List SignerState → Type 0
 HasAllVouched vouched signers = (key digest signature : List ℕ)
     → Any (λ signer. Tells signer → Vouches signer key digest signature) signers
     → vouched key digest signature ≡ true
-
--- The signers answered some calls, and nothing else changed.
-abbrev pub AreCalled : List SignerState → List SignerState → Type 0
-AreCalled old new = (calls : List Call) × (new ≡ after_calls old calls)
 
 -- It is among the keys, where these are told.
 abbrev pub IsAmong : Option (List (List ℕ)) → List ℕ → Type 0

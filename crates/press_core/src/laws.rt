@@ -15,7 +15,7 @@ ghost use Rattle.editions.specs.Edition.{Edition, set_after, cut_at};
 ghost use Rattle.editions.specs.Published.{IsPublished};
 ghost use Rattle.editions.specs.Step.{Premises, AreMore, IsMore};
 ghost use Rattle.authority_book.specs.declared.commands.Command.{Command};
-ghost use Rattle.editions.specs.inner.Vouched.{IsVouchedBy};
+ghost use Rattle.editions.specs.VouchedCalls.{IsVouchedBy};
 ghost use Rattle.editions.specs.Gathering.{AreNextCommands};
 ghost use Rattle.editions.specs.PublishedState.{PublishedStateValue, IsFirst, desks};
 ghost use Rattle.press_core.specs.Signers.{HasAllVouched};
@@ -31,9 +31,9 @@ ghost use Rattle.press_core.specs.declared.last_export.LastExport.TheVariants.{D
 
 use editions::{
     accepted_names_are_apart, called_for_by_what_stands, certificates_have_own_serials,
-    editions_are_published, editions_follow_one_another, gathered_commands_go_on, manifests_rise,
-    same_objects_same_set, steps_come_one_by_one, steps_stay_steps, the_table_goes_on,
-    what_is_planned_and_made_follows,
+    editions_are_in_profile, editions_are_published, editions_follow_one_another,
+    gathered_commands_go_on, manifests_rise, same_objects_same_set, steps_come_one_by_one,
+    steps_stay_steps, the_table_goes_on, what_is_planned_and_made_follows,
 };
 
 /// What stands before the first edition is what no editions leave, over whatever commands.
@@ -99,6 +99,7 @@ pub fn prepared_editions_follow()
     accepted_names_are_apart();
     called_for_by_what_stands();
     certificates_have_own_serials();
+    editions_are_in_profile();
     editions_follow_one_another();
     gathered_commands_go_on();
     manifests_rise();

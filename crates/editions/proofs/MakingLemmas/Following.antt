@@ -29,7 +29,8 @@ use Rattle.editions.specs.Step.{Premises, IsStep, AreSteps, AreCounted, plan_inp
 use Rattle.editions.specs.Wanted.{there, whole, all_certificates, all_roas, all_points, all_objects}
 use Rattle.editions.specs.inner.ByRows.{IsStepByRows}
 use Rattle.editions.specs.inner.PlanAndTable.{made_from, AreOfPlan}
-use Rattle.editions.specs.inner.Vouched.{IsVouchedBy, AreVouched}
+use Rattle.editions.specs.VouchedCalls.{IsVouchedBy}
+use Rattle.editions.specs.inner.Vouched.{AreVouched}
 use Rattle.editions.specs.PlannedAndMade.{IsMadeByPlan, IsPlannedAndMade}
 use Rattle.editions.proofs.MakingLemmas.Known.{Laws}
 use Rattle.items.specs.laws.ElementLaws.{into-map, into-filter_map, all-from, all-front, all-behind}

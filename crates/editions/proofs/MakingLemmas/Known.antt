@@ -28,7 +28,8 @@ use Rattle.editions.specs.Objects.{Issuance, moment_of, IsObject}
 use Rattle.editions.specs.Step.{Premises, IsStep, AreSteps, counted}
 use Rattle.editions.specs.inner.ByRows.{IsStepByRows, AreListed}
 use Rattle.editions.specs.inner.PlanAndTable.{made_from, AreOfPlan}
-use Rattle.editions.specs.inner.Vouched.{IsVouchedBy, AreVouched}
+use Rattle.editions.specs.VouchedCalls.{IsVouchedBy}
+use Rattle.editions.specs.inner.Vouched.{AreVouched}
 
 pub record Laws : Type 0 where
   pub after : (before later : List Edition)

@@ -31,7 +31,8 @@ use Rattle.issue_make.specs.Trace.{IssuingTrace, IsIssuingTrace, all_of, made_of
 use Rattle.editions.specs.Wanted.{there, whole, new_objects}
 use Rattle.editions.specs.Objects.{Issuance, IsObject, AreFiles, file_of}
 use Rattle.editions.specs.inner.PlanAndTable.{made_from, AreOfPlan}
-use Rattle.editions.specs.inner.Vouched.{IsVouchedBy, AreVouched}
+use Rattle.editions.specs.VouchedCalls.{IsVouchedBy}
+use Rattle.editions.specs.inner.Vouched.{AreVouched}
 use Rattle.items.specs.laws.ElementLaws.{here, into-map, from-filter_map}
 use Rattle.items.specs.laws.ElementLaws.{there as there-of}
 use Rattle.editions.proofs.ObjectLemmas.Reading.{manifest-back}

@@ -28,7 +28,8 @@ use Rattle.issue_make.specs.Trace.{IssuingTrace, all_of, final_bytes, IsSpelled}
 use Rattle.editions.specs.Wanted.{there, whole, new_objects}
 use Rattle.editions.specs.Objects.{Issuance, moment_of, IsObject}
 use Rattle.editions.specs.inner.PlanAndTable.{made_from, AreOfPlan}
-use Rattle.editions.specs.inner.Vouched.{IsVouchedBy, AreVouched}
+use Rattle.editions.specs.VouchedCalls.{IsVouchedBy}
+use Rattle.editions.specs.inner.Vouched.{AreVouched}
 use Rattle.items.specs.laws.ElementLaws.{into-map, into-filter_map}
 use Rattle.editions.proofs.ObjectLemmas.Standing.{all-new}
 use Rattle.editions.proofs.ObjectLemmas.Reading.{signed_as, listed_as, certificate-back, crl-back, roa-back}

@@ -1,5 +1,5 @@
 -- The CRLs and the manifests in the set of an edition: of which key, with which number and moment.
-use Rattle.std.proofs.Common.{◌≡◌, ℕ, true, false, Option, Some, List, sym, ap, subst, ◌∙◌}
+use Rattle.std.proofs.Common.{◌≡◌, ℕ, ◌+◌, true, false, Option, Some, List, sym, ap, subst, ◌∙◌}
 use Rattle.std.specs.Prelude.{Contains, option_map}
 use Rattle.std.proofs.lemmas.Option.{same_Some}
 use Rattle.std.proofs.lemmas.Bool.{false≢true}
@@ -14,6 +14,7 @@ use Rattle.payloads.specs.ManifestFormats.{Manifest as Listed}
 use Rattle.rp_rules.specs.Objects.{SignedManifest, is_manifest, is_roa, crl_in, manifest_in}
 use Rattle.entitle.specs.Certified.{names_of}
 use Rattle.issue_values.specs.Bodies.{crl_value_of, manifest_value_of}
+use Rattle.issue_values.specs.Certificates.{point_life}
 use Rattle.issue_plan.specs.Keys.{kept}
 use Rattle.issue_plan.specs.Wanted.{point_of}
 use Rattle.issue_keys.specs.Keys.{id_of}
@@ -106,6 +107,7 @@ pub record IsNumbering (m : Issuance) (uri : List ℕ) (x : SignedManifest) : Ty
       (name_at (names_of m.plan_input.basis.configs) issuer.desk) (id_of issuer)
   pub number : x.body.0 ≡ number_of issuer
   pub moment : x.body.1.0 ≡ moment_of m
+  pub next : x.body.1.1.0 ≡ moment_of m + point_life
 
 two-kinds : (kind : ObjectKind) → is_roa kind ≡ true → is_manifest kind ≡ true → ⊥
 two-kinds kinds.Manifest one two = false≢true one
@@ -136,6 +138,7 @@ numbering-by m d Manifest bytes x live placed object read =
       at = placed;
       number = ap (λ (v : Listed). v.0) body;
       moment = ap (λ (v : Listed). v.1.0) body;
+      next = ap (λ (v : Listed). v.1.1.0) body;
     }
 
 -- Each manifest that stands is one of the edition's.

@@ -1,17 +1,10 @@
 -- The signatures of an edition's making, which are vouched.
-use Rattle.std.specs.Prelude.{◌≡◌, ⊤, true, All}
-use Rattle.signer_ring.specs.Calls.{Call}
-use Rattle.signer_ring.specs.Calls.Call.{Makes, Signs, Once}
+use Rattle.std.specs.Prelude.{All}
 use Rattle.rp_rules.specs.Certificates.{Vouched}
 use Rattle.issue_drafts.specs.Certificates.{IssueInput}
 use Rattle.issue_sign.specs.Calls.{first_calls, second_calls}
 use Rattle.issue_make.specs.Trace.{IssuingTrace, all_of}
-
--- The signature that the call gave is vouched.
-abbrev pub IsVouchedBy : Vouched → Call → Type 0
-IsVouchedBy vouched (Makes signer key) = ⊤
-IsVouchedBy vouched (Signs signer one) = vouched one.key one.digest one.signature ≡ true
-IsVouchedBy vouched (Once signer one) = vouched one.key one.digest one.signature ≡ true
+use Rattle.editions.specs.VouchedCalls.{IsVouchedBy}
 
 -- Those of certificates, ROAs and CRLs are.
 pub record AreVouched (vouched : Vouched) (s : IssueInput) (trace : IssuingTrace) : Type 0 where

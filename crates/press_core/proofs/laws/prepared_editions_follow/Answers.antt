@@ -11,6 +11,7 @@ returns c = prepared-follows (record {
   };
   manifests = c.manifests_rise.ensures;
   serials = c.certificates_have_own_serials.ensures;
+  profile = c.editions_are_in_profile.ensures;
   steps = c.steps_come_one_by_one.ensures.another;
   follows = c.what_is_planned_and_made_follows.ensures;
   table = c.the_table_goes_on.ensures;
