@@ -1,2 +1,10 @@
+pub mod Applying
 pub mod Bases
+pub mod Growing
+pub mod Keys
+pub mod Parsing
+pub mod Sizes
+pub mod Stages
 pub mod StoreAnswers
+pub mod Texts
+pub mod Writing

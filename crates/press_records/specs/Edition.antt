@@ -1,5 +1,5 @@
 -- The record of an edition, over what stood before it.
-use Rattle.std.specs.Prelude.{ℕ, ◌+◌, ◌^◌, ◌==◌, Bool, true, not, ◌&&◌, nat_le, nat_lt, List, [], ◌∷◌, map, length}
+use Rattle.std.specs.Prelude.{◌≡◌, ℕ, ◌+◌, ◌^◌, ◌==◌, Bool, true, not, ◌&&◌, nat_le, nat_lt, List, [], ◌∷◌, map, length, get_or}
 use Rattle.std.specs.Prelude.{Option, Some, None, if◌then◌else◌}
 use Rattle.std.specs.List.{list_all, list_any}
 use Rattle.std.specs.Str.{bytes_eq}
@@ -40,6 +40,15 @@ after_edition before edition = record {
   rows = edition.rows;
   set = after_all before.set edition.changes;
 }
+
+-- The same stands: the cuts agree desk by desk, where one that is missing is 0, and the sets URI by
+-- URI.
+pub record IsAlike (one other : StandingValue) : Type 0 where
+  pub serial : one.serial ≡ other.serial
+  pub moment : one.moment ≡ other.moment
+  pub cut : (desk : ℕ) → get_or one.cut desk 0 ≡ get_or other.cut desk 0
+  pub rows : one.rows ≡ other.rows
+  pub set : (uri : List ℕ) → one.set uri ≡ other.set uri
 
 -- ---- which editions may follow, as far as a record tells
 

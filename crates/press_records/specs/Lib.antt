@@ -1,8 +1,10 @@
 pub mod Changes
 pub mod Edition
 pub mod Recordable
+pub mod Records
 pub mod Rows
 pub mod Stages
 pub mod Store
+pub mod Views
 pub mod inner
 pub mod laws

@@ -1,2 +1,3 @@
 -- Scaffolding: words that only private contracts, invariants and proofs need.
+pub mod Raw
 pub mod Sites
