@@ -7,6 +7,7 @@
 
 mod clock;
 mod signers;
+mod waits;
 
 use clock::{ClockBehind, ClockFault, VARIABLE, seconds_behind};
 use disk_api::{DiskStop, FileDisk};
@@ -15,13 +16,15 @@ use krill_top::{
 };
 use outlet_api::FolderOutlet;
 use signer_api::Signer;
-use signers::{PipedSigner, open_signers, rehearsal};
+use signers::{Pipes, find_signers, open_signers, rehearsal};
 use std::io::{ErrorKind, Write};
 use std::os::fd::{AsRawFd, IntoRawFd};
 use std::process::ExitCode;
 use std::random::RandomSource;
-use std::thread::Threads;
+use std::sync::Wait;
+use std::thread::{self, Threads};
 use std::{env, fs, io};
+use waits::{End, tell_waits};
 
 /// The folder of the desks' files, in the working directory.
 pub(crate) const FOLDER: &str = "krill-data";
@@ -114,27 +117,60 @@ fn tell(rt: &HostRuntime, text: &str) -> ExitCode {
 }
 
 /// Opens the files, whatever else the words are, and runs over them.
-fn open_and_run(rt: &HostRuntime, threads: &impl Threads, words: &[String]) -> ExitCode {
-    match open_store(rt, threads) {
-        Ok(store) => run_over(rt, words, store),
+fn open_and_run<R: Threads + Wait + Sync>(
+    rt: &HostRuntime,
+    handle: &R,
+    words: &[String],
+) -> ExitCode {
+    match open_store(rt) {
+        Ok(store) => run_over(rt, handle, words, store),
         Err(stop) => refused(rt, fault_of(stop)),
     }
 }
 
 /// Runs over the store, with its signers or, where it has none, with one for rehearsals.
-fn run_over(rt: &HostRuntime, words: &[String], store: Store) -> ExitCode {
+fn run_over<R: Threads + Wait + Sync>(
+    rt: &HostRuntime,
+    handle: &R,
+    words: &[String],
+    store: Store,
+) -> ExitCode {
     let Store {
         folder: _locked,
         desks,
         signers,
     } = store;
     if !signers.is_empty() {
-        return run(rt, words, desks, signers);
+        return run_watched(rt, handle, words, desks, &signers);
     }
     match rehearsal(rt, is_run(words)) {
         Ok(signers) => run(rt, words, desks, signers),
         Err(stop) => refused(rt, fault_of(stop)),
     }
+}
+
+/// Opens the signers and runs with them, while another thread says what is waited for.
+fn run_watched<R: Threads + Wait + Sync>(
+    rt: &HostRuntime,
+    handle: &R,
+    words: &[String],
+    desks: Vec<FileDisk>,
+    found: &[Pipes],
+) -> ExitCode {
+    let end = End::new();
+    let (_watched, code) = thread::join(
+        handle,
+        || tell_waits(rt, handle, found, &end),
+        || {
+            let code = match open_signers(rt, found) {
+                Ok(signers) => run(rt, words, desks, signers),
+                Err(stop) => refused(rt, fault_of(stop)),
+            };
+            end.tell();
+            code
+        },
+    );
+    code
 }
 
 /// Whether the words are those of a run, and not of a faulty command line.
@@ -152,18 +188,18 @@ fn fault_of(stop: DiskStop) -> RunFault {
     }
 }
 
-/// The files of the desks and the signers, and their folder, which no other program can lock as long as it's
+/// The files of the desks, the pipes of the signers, and their folder, which no other program can lock as long as it's
 /// open here.
 #[derive(Drop)]
 struct Store {
     folder: fs::File,
     desks: Vec<FileDisk>,
-    signers: Vec<PipedSigner>,
+    signers: Vec<Pipes>,
 }
 
-/// Makes the folder, locks it, and opens the desks' files and the signers in it, none of them in the place of
-/// a standard stream that was closed.
-fn open_store(rt: &HostRuntime, threads: &impl Threads) -> Result<Store, DiskStop> {
+/// Makes the folder, locks it, opens the desks' files in it, none of them in the place of a standard stream that
+/// was closed, and finds the signers' pipes.
+fn open_store(rt: &HostRuntime) -> Result<Store, DiskStop> {
     hold_closed_streams(rt).map_err(stop_of)?;
     let folder = make_folder_locked(rt).map_err(stop_of)?;
     let mut desks = Vec::with_capacity(rt.alloc(), DESKS)?;
@@ -173,7 +209,7 @@ fn open_store(rt: &HostRuntime, threads: &impl Threads) -> Result<Store, DiskSto
     }
     // The names of all files at once.
     folder.sync_all().map_err(stop_of)?;
-    let signers = open_signers(rt, threads)?;
+    let signers = find_signers(rt)?;
     Ok(Store {
         folder,
         desks,

@@ -1,57 +1,65 @@
 //! The signers, at the other ends of pipes in the folder.
 
+use crate::waits::{Waits, WatchedPipe};
 use crate::{FOLDER, stop_of};
 use disk_api::DiskStop;
 use signer_api::Rehearsal;
-use signer_line::LineSigner;
+use signer_line::{LineSigner, Unmet};
 use std::fs::{self, File, Metadata, OpenOptions};
 use std::io::ErrorKind;
 use std::os::unix::fs::FileTypeExt;
 use std::random::RandomSource;
-use std::sync::atomic::{AtomicBool, Ordering};
-use std::thread::{self, Threads};
+use std::thread;
 use std::time::Duration;
 
 /// How many signers there are at most.
-const MOST_SIGNERS: u32 = 8;
+pub const MOST_SIGNERS: usize = 8;
 
-/// How often a signer is met at the start before it is refused. One that still leaves an earlier run
-/// closes its pipes once more, and then waits at them.
+/// How often a signer that has gone is met at the start before it is refused. One that still leaves an
+/// earlier run closes its pipes once more, and then waits at them.
 const MEETINGS: u32 = 20;
 
 /// How long a meeting that failed is behind the next one, in milliseconds.
 const PAUSE: u64 = 50;
 
-/// How many looks a wait takes before it is told, and the milliseconds between two of them.
-const LOOKS: u32 = 100;
-
-const LOOK: u64 = 10;
-
 /// A signer that writes its answers into the one pipe and reads its requests from the other.
-pub type PipedSigner = LineSigner<File, File>;
+pub type PipedSigner<'w> = LineSigner<WatchedPipe<'w>, WatchedPipe<'w>>;
 
-/// The paths of a signer's pipes.
+/// The paths of a signer's pipes, and the waits there.
 #[derive(Drop)]
-struct Pipes {
-    number: u32,
+pub struct Pipes {
+    number: usize,
     answers: String,
     requests: String,
+    pub waits: Waits,
 }
 
-/// Opens the signers of the folder, by their numbers, which begin at 0 and leave no gap. What stands in
-/// their way is named on standard error.
-pub fn open_signers(
-    rt: &HostRuntime,
-    threads: &impl Threads,
-) -> Result<Vec<PipedSigner>, DiskStop> {
-    let mut signers = Vec::with_capacity(rt.alloc(), MOST_SIGNERS as usize)?;
-    let mut missing: Option<Pipes> = None;
-    for number in 0..MOST_SIGNERS {
-        let pipes = Pipes {
+impl Pipes {
+    fn of_signer(rt: &HostRuntime, number: usize) -> Result<Self, DiskStop> {
+        Ok(Pipes {
             number,
             answers: format!(in rt.alloc(); "{FOLDER}/signer-{number}.in")?,
             requests: format!(in rt.alloc(); "{FOLDER}/signer-{number}.out")?,
-        };
+            waits: Waits::new(),
+        })
+    }
+
+    /// Says on standard error what is waited for.
+    pub fn tell_wait(&self, rt: &HostRuntime) {
+        let _told = eprintln!(rt;
+            "krillc: waiting for signer {} to open {} and {} and to answer",
+            self.number, self.answers, self.requests
+        );
+    }
+}
+
+/// The pipes of the signers that stand in the folder, by their numbers, which begin at 0 and leave no
+/// gap. What stands in their way is named on standard error.
+pub fn find_signers(rt: &HostRuntime) -> Result<Vec<Pipes>, DiskStop> {
+    let mut found = Vec::with_capacity(rt.alloc(), MOST_SIGNERS)?;
+    let mut missing: Option<Pipes> = None;
+    for number in 0..MOST_SIGNERS {
+        let pipes = Pipes::of_signer(rt, number)?;
         if !stand(rt, &pipes)? {
             if missing.is_none() {
                 missing = Some(pipes);
@@ -65,7 +73,19 @@ pub fn open_signers(
             );
             return Err(DiskStop::Fault);
         }
-        signers.push(open_watched(rt, threads, &pipes)?)?;
+        found.push(pipes)?;
+    }
+    Ok(found)
+}
+
+/// Opens the signers at these pipes, and meets them.
+pub fn open_signers<'w>(
+    rt: &HostRuntime,
+    found: &'w [Pipes],
+) -> Result<Vec<PipedSigner<'w>>, DiskStop> {
+    let mut signers = Vec::with_capacity(rt.alloc(), found.len())?;
+    for pipes in found {
+        signers.push(open_signer(rt, pipes)?)?;
     }
     Ok(signers)
 }
@@ -112,52 +132,48 @@ fn stop_at(rt: &HostRuntime, path: &str, error: std::io::Error) -> DiskStop {
     stop_of(error)
 }
 
-/// Opens a signer, and says what it waits for where that takes more than a second.
-fn open_watched(
-    rt: &HostRuntime,
-    threads: &impl Threads,
-    pipes: &Pipes,
-) -> Result<PipedSigner, DiskStop> {
-    let is_open = AtomicBool::new(false);
-    let (_watched, opened) = thread::join(
-        threads,
-        || tell_if_closed(rt, pipes, &is_open),
-        || {
-            let opened = open_signer(rt, pipes);
-            is_open.store(true, Ordering::SeqCst);
-            opened
-        },
-    );
-    opened
-}
-
-fn tell_if_closed(rt: &HostRuntime, pipes: &Pipes, is_open: &AtomicBool) {
-    for _ in 0..LOOKS {
-        if is_open.load(Ordering::SeqCst) {
-            return;
-        }
-        thread::sleep(rt, Duration::from_millis(LOOK));
-    }
-    let _told = eprintln!(rt;
-        "krillc: waiting for signer {} to open {} and {} and to answer `hello`",
-        pipes.number, pipes.answers, pipes.requests
-    );
-}
-
 /// Waits until the signer has opened its pipes too, and meets it.
-fn open_signer(rt: &HostRuntime, pipes: &Pipes) -> Result<PipedSigner, DiskStop> {
-    let from = open_pipe(rt, &pipes.answers, OpenOptions::new().read(true))?;
-    let to = open_pipe(rt, &pipes.requests, OpenOptions::new().write(true))?;
+fn open_signer<'w>(rt: &HostRuntime, pipes: &'w Pipes) -> Result<PipedSigner<'w>, DiskStop> {
+    pipes.waits.begin();
+    let opened = open_pipes(rt, pipes);
+    pipes.waits.end();
+    let (from, to) = opened?;
     let mut word = [0; 16];
     rt.fill_bytes(&mut word).map_err(stop_of)?;
-    let mut signer = LineSigner::new(from, to, u128::from_be_bytes(word));
-    for _ in 0..MEETINGS {
-        if signer.meet().is_ok() {
-            return Ok(signer);
-        }
-        thread::sleep(rt, Duration::from_millis(PAUSE));
-    }
+    let signer = LineSigner::new(
+        WatchedPipe::new(from, &pipes.waits),
+        WatchedPipe::new(to, &pipes.waits),
+        u128::from_be_bytes(word),
+    );
+    meet(rt, pipes, signer)
+}
+
+/// The pipes of the answers and of the requests.
+fn open_pipes(rt: &HostRuntime, pipes: &Pipes) -> Result<(File, File), DiskStop> {
+    let from = open_pipe(rt, &pipes.answers, OpenOptions::new().read(true))?;
+    let to = open_pipe(rt, &pipes.requests, OpenOptions::new().write(true))?;
+    Ok((from, to))
+}
+
+/// Meets a signer for the first time. One that doesn't know hellos is refused by its number.
+fn meet<'w>(
+    rt: &HostRuntime,
+    pipes: &Pipes,
+    mut signer: PipedSigner<'w>,
+) -> Result<PipedSigner<'w>, DiskStop> {
     let number = pipes.number;
+    for _ in 0..MEETINGS {
+        match signer.greet() {
+            Ok(()) => return Ok(signer),
+            Err(Unmet::Stranger) => {
+                let _told = eprintln!(rt;
+                    "krillc: signer {number} answers no `hello`: it doesn't know that line"
+                );
+                return Err(DiskStop::Fault);
+            }
+            Err(Unmet::Gone) => thread::sleep(rt, Duration::from_millis(PAUSE)),
+        }
+    }
     let _told = eprintln!(rt;
         "krillc: signer {number} gave no answer to `hello`: it has ended, or doesn't know that line"
     );
