@@ -1,0 +1,7 @@
+mod Granted
+mod More
+mod Places
+mod Commanded
+mod Reopened
+mod Gathered
+mod Published

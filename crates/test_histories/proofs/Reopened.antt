@@ -1,0 +1,258 @@
+-- Everything stops, and the store is opened again.
+use Rattle.std.proofs.Common.{◌≡◌, ℕ, suc, ◌+◌, refl, sym, subst, ◌∙◌, ap, arith, inl, inr, ⊎_elim, false, true, List, [], ◌∷◌, ◌++◌, length, map, replicate, Some, None, append-nil}
+use Rattle.std.specs.Prelude.{Bool, Option, IfSome, All, Vec, if◌then◌else◌, ◌<◌, slice_index_or}
+use Rattle.std.specs.List.{remove}
+use Rattle.std.specs.declared.alloc.Global.{Global}
+use Rattle.std.specs.Option.{option_map}
+use Rattle.std.proofs.lemmas.Option.{none-some, same_Some}
+use Rattle.std.proofs.lemmas.List.{map-append}
+use Rattle.std.proofs.lemmas.List.Elements.{All-nil}
+use Rattle.disk_api.specs.declared.memory.MemoryDisk.{MemoryDisk}
+use Rattle.authority_book.specs.declared.commands.Command.{Command}
+use Rattle.cmd_codec.specs.Spelling.{spelling}
+use Rattle.gate_journal.specs.Format.{recovered}
+use Rattle.gate_journal.specs.View.{RecoversTo as Recovers}
+use Rattle.desk_core.specs.View.{View, journal_limit}
+use Rattle.desk_core.specs.Commands.{Records, HasCommands}
+use Rattle.desk_core.specs.Images.{RecoversTo}
+use Rattle.key_roll.specs.declared.rows.KeyRow.{KeyRow}
+use Rattle.editions.specs.Edition.{Edition}
+use Rattle.editions.specs.PublishedState.{PublishedStateValue, IsFirst, desks as most_desks}
+use Rattle.editions.specs.Step.{Premises, BeginsWith, AreMore}
+use Rattle.press_core.specs.Press.{PressValue}
+use Rattle.press_core.specs.Stands.{StandsFor}
+use Rattle.histories.specs.Devices.{Device, Signature, Store, opened, stopped_from, lists_of}
+use Rattle.histories.specs.Events.{Happening, after_one}
+use Rattle.histories.specs.Events.Event.{Stop, Reopen}
+use Rattle.histories.specs.Legal.{IsFound, AreFound, IsLegal, ground_of}
+use Rattle.histories.specs.Found.{store_after}
+use Rattle.histories.specs.Worked.{happens}
+use Rattle.test_histories.specs.declared.done.Done.{Done}
+use Rattle.test_histories.specs.declared.done.Done.TheVariants as told
+use Rattle.test_histories.specs.Told.{lists_of as lists_told, IsReopening}
+use Rattle.test_histories.specs.Standing.{IsDesk, AreDesks, AreNew, IsOpenedAgain, AreOpenedAgain, store_of, IsAt}
+use Rattle.test_histories.proofs.More.{MoreStands, left_then, legal_then, told_then, same_begins}
+use Rattle.test_histories.proofs.Places.{desks_long, lists_opened, opened_long, lists_long, more_long, new_stand}
+
+abbrev pub Determined : Type 0
+Determined = (number : ℕ) (records : List (List ℕ)) (one other : List Command)
+    → Records number records one → Records number records other → one ≡ other
+
+-- ---- what a crash leaves is found
+
+pub image_found : (records : List (List ℕ)) (doubt : Option (List ℕ)) (image : List ℕ) (found : List (List ℕ))
+    → RecoversTo records doubt image → found ≡ recovered image → IsFound records doubt found
+image_found records None image found recovers same =
+    let whole : Recovers journal_limit records image = recovers in
+    inl (same ∙ whole.found)
+image_found records (Some payload) image found recovers same = ⊎_elim
+    (λ (whole : Recovers journal_limit records image). inl (same ∙ whole.found))
+    (λ (whole : Recovers journal_limit (records ++ payload ∷ []) image). inr (payload, refl, same ∙ whole.found))
+    recovers
+
+pub again_more : (number : ℕ) (olds news : List (View MemoryDisk)) (lists : List (List Command)) (at : ℕ) (old new : View MemoryDisk) (list : List Command)
+    → AreOpenedAgain number olds news lists → IsOpenedAgain at old new list → at ≡ number + length olds
+    → AreOpenedAgain number (olds ++ old ∷ []) (news ++ new ∷ []) (lists ++ list ∷ [])
+again_more number [] [] [] at old new list all is place = (subst (λ (n : ℕ). IsOpenedAgain n old new list) (omega (arith, place)) is, tt)
+again_more number [] [] (l ∷ lists) at old new list all is place = absurd all
+again_more number [] (n ∷ news) lists at old new list all is place = absurd all
+again_more number (o ∷ olds) [] lists at old new list all is place = absurd all
+again_more number (o ∷ olds) (n ∷ news) [] at old new list all is place = absurd all
+again_more number (o ∷ olds) (n ∷ news) (l ∷ lists) at old new list all is place =
+    (all.0, again_more (suc number) olds news lists at old new list all.1 is (omega (arith, place)))
+
+-- ---- a desk
+
+doubt_of : (doubt : Option Command) (payload : List ℕ) → option_map spelling doubt ≡ Some payload
+    → (command : Command) × (doubt ≡ Some command) × (spelling command ≡ payload)
+doubt_of None payload is = absurd (none-some payload is)
+doubt_of (Some command) payload is = (command, refl, same_Some (spelling command) payload is)
+
+kept_doubt : (shut : Bool) (doubt : Option Command) → (shut ≡ false → doubt ≡ None) → (if shut then doubt else None) ≡ doubt
+kept_doubt true doubt settled = refl
+kept_doubt false doubt settled = sym (settled refl)
+
+begins : (list found : List Command) (doubt : Option Command) → IsFound list doubt found → BeginsWith list found
+begins list found doubt is = ⊎_elim
+    (λ (same : found ≡ list). subst (BeginsWith list) (sym same) (same_begins list))
+    (λ (more : (command : Command) × (doubt ≡ Some command) × (found ≡ list ++ command ∷ [])). (more.0 ∷ [], more.2))
+    is
+
+module _ (law : Determined) (number : ℕ) (old new : View MemoryDisk) (device : Device Command) (list : List Command)
+    (is : IsDesk number old device) (again : IsOpenedAgain number old new list) where
+  now : Records number new.records list
+  now = subst (λ (n : ℕ). Records n new.records list) again.number_is again.commands.recorded
+
+  was : Records number old.records device.list
+  was = subst (λ (n : ℕ). Records n old.records device.list) is.number_is is.commands.recorded
+
+  found_commands : IsFound device.list device.doubt list
+  found_commands = ⊎_elim
+      (λ (same : new.records ≡ old.records).
+      inl (law number new.records list device.list now (subst (λ (r : List (List ℕ)). Records number r device.list) (sym same) was)))
+      (λ (more : (payload : List ℕ) × (old.doubt ≡ Some payload) × (new.records ≡ old.records ++ payload ∷ [])).
+      let doubted = doubt_of device.doubt more.0 (sym is.doubted ∙ more.1) in
+      let command = doubted.0 in
+      let whole = device.list ++ command ∷ [] in
+      let next : Records number (map spelling whole) whole =
+      subst (λ (o : Option Command). IfSome o (λ (c : Command). Records number (map spelling (device.list ++ c ∷ [])) (device.list ++ c ∷ []))) doubted.1 is.next in
+      let all : new.records ≡ map spelling whole =
+      more.2 ∙ (ap (λ (p : List ℕ). old.records ++ p ∷ []) (sym doubted.2)
+      ∙ (ap (λ (r : List (List ℕ)). r ++ spelling command ∷ []) was.spelled
+      ∙ sym (map-append spelling device.list (command ∷ [])))) in
+      inr (command, doubted.1, law number new.records list whole now (subst (λ (r : List (List ℕ)). Records number r whole) (sym all) next)))
+      again.found
+
+  found_behind : IsFound device.list (if device.shut then device.doubt else None) list
+  found_behind = subst (λ (o : Option Command). IsFound device.list o list) (sym (kept_doubt device.shut device.doubt is.settled)) found_commands
+
+  stands_again : IsDesk number new (opened list)
+  stands_again = record {
+    number_is = again.number_is;
+    commands = again.commands;
+    opens = λ none. refl;
+    settled = λ is_open. refl;
+    doubted = again.settled;
+    next = tt;
+  }
+
+-- ---- all of them
+
+module _ (law : Determined) where
+  pub are_found : (number desk : ℕ) (olds news : List (View MemoryDisk)) (devices : List (Device Command)) (lists : List (List Command))
+      → AreDesks number olds devices → AreOpenedAgain number olds news lists → AreFound (stopped_from desk [] devices) lists
+  are_found number desk [] [] [] [] all again = tt
+  are_found number desk [] [] [] (l ∷ lists) all again = absurd again
+  are_found number desk [] (n ∷ news) [] lists all again = absurd again
+  are_found number desk [] news (d ∷ devices) lists all again = absurd all
+  are_found number desk (o ∷ olds) news [] lists all again = absurd all
+  are_found number desk (o ∷ olds) [] (d ∷ devices) lists all again = absurd again
+  are_found number desk (o ∷ olds) (n ∷ news) (d ∷ devices) [] all again = absurd again
+  are_found number desk (o ∷ olds) (n ∷ news) (d ∷ devices) (l ∷ lists) all again =
+      (found_behind law number o n d l all.0 again.0, are_found (suc number) (desk + 1) olds news devices lists all.1 again.1)
+
+  pub stand_again : (number : ℕ) (olds news : List (View MemoryDisk)) (devices : List (Device Command)) (lists : List (List Command))
+      → AreDesks number olds devices → AreOpenedAgain number olds news lists → AreDesks number news (map opened lists)
+  stand_again number [] [] [] [] all again = tt
+  stand_again number [] [] [] (l ∷ lists) all again = absurd again
+  stand_again number [] (n ∷ news) [] lists all again = absurd again
+  stand_again number [] news (d ∷ devices) lists all again = absurd all
+  stand_again number (o ∷ olds) news [] lists all again = absurd all
+  stand_again number (o ∷ olds) [] (d ∷ devices) lists all again = absurd again
+  stand_again number (o ∷ olds) (n ∷ news) (d ∷ devices) [] all again = absurd again
+  stand_again number (o ∷ olds) (n ∷ news) (d ∷ devices) (l ∷ lists) all again =
+      (stands_again law number o n d l all.0 again.0, stand_again (suc number) olds news devices lists all.1 again.1)
+
+  pub more_again : (number : ℕ) (olds news : List (View MemoryDisk)) (devices : List (Device Command)) (lists : List (List Command))
+      → AreDesks number olds devices → AreOpenedAgain number olds news lists → AreMore (lists_of devices) lists
+  more_again number [] [] [] [] all again = tt
+  more_again number [] [] [] (l ∷ lists) all again = absurd again
+  more_again number [] (n ∷ news) [] lists all again = absurd again
+  more_again number [] news (d ∷ devices) lists all again = absurd all
+  more_again number (o ∷ olds) news [] lists all again = absurd all
+  more_again number (o ∷ olds) [] (d ∷ devices) lists all again = absurd again
+  more_again number (o ∷ olds) (n ∷ news) (d ∷ devices) [] all again = absurd again
+  more_again number (o ∷ olds) (n ∷ news) (d ∷ devices) (l ∷ lists) all again =
+      (begins d.list l d.doubt (found_commands law number o n d l all.0 again.0), more_again (suc number) olds news devices lists all.1 again.1)
+
+-- ---- the store
+
+module _ (law : Determined) (more_stands : MoreStands) (olds news : List (View MemoryDisk)) (press : PressValue) (done : List Done)
+    (at : IsAt olds press done) (lists : List (List Command)) (again : AreOpenedAgain 0 olds news lists) where
+  abbrev before : Store
+  before = store_of at.devices at.editions at.vouched
+
+  abbrev stop : Happening
+  stop = happens (Stop [] None)
+
+  abbrev stopped_store : Store
+  stopped_store = after_one before stop
+
+  abbrev reopen : Happening
+  reopen = happens (Reopen lists at.editions)
+
+  abbrev devices : List (Device Command)
+  devices = map opened lists
+
+  grown : AreMore (lists_of at.devices) lists
+  grown = more_again law 0 olds news at.devices lists at.stand again
+
+  stop_left : store_after (at.history ++ stop ∷ []) ≡ stopped_store
+  stop_left = left_then at.history before at.left stop
+
+  stop_legal : IsLegal press.site (at.history ++ stop ∷ [])
+  stop_legal = legal_then press.site at.history before at.left at.legal stop
+      (record { running = refl; desks = λ desk. tt; press = tt })
+
+  pub found_again : (serial : ℕ) (told_lists : Vec (Vec Command Global) Global) → lists_told told_lists ≡ lists → serial ≡ press.at.serial
+      → IsAt news press ((done ++ told.Stopped ∷ []) ++ told.Found told_lists serial ∷ [])
+  found_again serial told_lists same is_serial =
+      let found : IsReopening lists serial (reopen ∷ []) =
+      record { editions = at.editions; is = refl; last = sym at.published.left.serial ∙ sym is_serial } in
+      record {
+        history = (at.history ++ stop ∷ []) ++ reopen ∷ [];
+        told = told_then (done ++ told.Stopped ∷ []) (at.history ++ stop ∷ []) (told.Found told_lists serial) (reopen ∷ [])
+            (told_then done at.history told.Stopped (stop ∷ []) at.told refl)
+            (subst (λ (l : List (List Command)). IsReopening l serial (reopen ∷ [])) (sym same) found);
+        legal = legal_then press.site (at.history ++ stop ∷ []) stopped_store stop_left stop_legal reopen
+            (record { desks = are_found law 0 0 olds news at.devices lists at.stand again; press = inl refl });
+        devices = devices;
+        editions = at.editions;
+        vouched = at.vouched;
+        left = left_then (at.history ++ stop ∷ []) stopped_store stop_left reopen
+            ∙ ap (λ (v : List Signature). store_of devices at.editions v) (append-nil (at.vouched ++ []) ∙ append-nil at.vouched);
+        stand = stand_again law 0 olds news at.devices lists at.stand again;
+        all = opened_long lists ∙ (more_long (lists_of at.devices) lists grown ∙ (lists_long at.devices ∙ at.all));
+        published = more_stands (ground_of press.site before) (ground_of press.site (store_of devices at.editions at.vouched)) at.editions press.at
+            (record {
+              lists = subst (AreMore (lists_of at.devices)) (sym (lists_opened lists)) grown;
+              site = refl;
+              vouched = λ key digest signature is. is;
+            }) at.published;
+        live = at.live;
+        signers = at.signers;
+      }
+
+-- ---- a new store
+
+pub first_removed : {A : Type 0} (old new : List A) (x : A) → x ≡ slice_index_or old 0 x → new ≡ remove old 0 → 0 < length old → old ≡ x ∷ new
+first_removed [] new x first rest some = absurd (omega (arith, some))
+first_removed (y ∷ ys) new x first rest some = sym (ap (λ z. z ∷ new) first ∙ ap (λ (l : List _). y ∷ l) rest)
+
+none_spelled : (commands : List Command) → [] ≡ map spelling commands → commands ≡ []
+none_spelled [] same = refl
+none_spelled (first ∷ commands) same = let long = ap length same in absurd (omega (arith, long))
+
+pub new_desk : (number : ℕ) (desk : View MemoryDisk) (bytes : List ℕ) → bytes ≡ [] → desk.records ≡ recovered bytes
+    → (commands : List Command) → HasCommands desk commands → desk.number ≡ number → desk.doubt ≡ None → IsDesk number desk (opened [])
+new_desk number desk bytes none found commands has is_number settled =
+    let empty : [] ≡ map spelling commands = sym (found ∙ ap recovered none) ∙ has.recorded.spelled in
+    record {
+      number_is = is_number;
+      commands = subst (HasCommands desk) (none_spelled commands empty) has;
+      opens = λ none. refl;
+      settled = λ is_open. refl;
+      doubted = settled;
+      next = tt;
+    }
+
+abbrev pub FirstStands : Type 0
+FirstStands = (premises : Premises) (state : PublishedStateValue) → IsFirst state → length premises.lists ≡ most_desks → StandsFor premises [] state
+
+pub new_at : (law : FirstStands) (desks : List (View MemoryDisk)) (press : PressValue) → AreNew 0 desks → length desks ≡ 64
+    → IsFirst press.at → length press.ring ≡ 2 → IsAt desks press []
+new_at law desks press new all first signers = record {
+  history = [];
+  told = refl;
+  legal = tt;
+  devices = replicate 64 (opened []);
+  editions = [];
+  vouched = [];
+  left = refl;
+  stand = subst (λ (n : ℕ). AreDesks 0 desks (replicate n (opened []))) all (new_stand 0 desks new);
+  all = refl;
+  published = law (ground_of press.site (store_of (replicate 64 (opened [])) [] [])) press.at first refl;
+  live = subst (λ (rows : List KeyRow). All (λ row. row.signer < length press.ring) rows) (sym first.rows)
+      (All-nil (λ (row : KeyRow). row.signer < length press.ring));
+  signers = signers;
+}

@@ -1,0 +1,6 @@
+use Rattle.std.proofs.Common.{◌≡◌}
+use Rattle.test_histories.specs.Standing.{IsAt}
+use Rattle.test_histories.proofs.store.play.Given as goal
+
+abbrev pub invariant-loop-step : goal.invariant-loop-step
+invariant-loop-step l = IsAt l.store.desks.items l.store.press l.done.items × (l.store.press.site ≡ l.fn.site)
