@@ -1,7 +1,9 @@
 #!/bin/sh
 # Looks at the calls that the built program makes on the anchor's file: each write of a commit is synced before the
 # next call and before the reply, also where a signal interrupts the syncs, and no command is accepted whose sync
-# fails. The program is built where it is missing; skipped where there is no rt for that, or no strace that may trace.
+# fails. Then at those of an export: each file is synced before it is renamed, and its folders before the next file is
+# begun and before the reply, and no export is told as done of which a call fails. The program is built where it is
+# missing; skipped where there is no rt for that, or no strace that may trace.
 set -eu
 top=$(cd "$(dirname "$0")/.." && pwd)
 strace -o /dev/null true 2>/dev/null || { echo "checks/syncs: no strace, skipped"; exit 0; }
@@ -119,4 +121,57 @@ for nth in 3 4; do
         exit 1
     fi
 done
+
+# The calls of an export, and the replies; `S` is the session's folder.
+cat >publishes <<'LINES'
+{"command":"publish"}
+{"command":"roas update","ca":"ta","add":["10.4.0.0/16-24 => 64496"]}
+{"command":"publish"}
+{"command":"roas update","ca":"ta","add":["10.5.0.0/16-24 => 64496"]}
+{"command":"publish"}
+LINES
+strace -y -o calls -e trace=openat,write,fsync,fdatasync,rename,renameat,renameat2,unlink,unlinkat,rmdir \
+    "$krillc" run <publishes >replies 2>said
+sed -nE -e "s|$here/krill-data/repo|repo|g" -e 's|krill-data/repo|repo|g' -e 's|repo/[0-9a-f-]{36}|repo/S|g' \
+    -e 's|^openat\(.*"repo/\.draft", O_WRONLY.*|draft|p' \
+    -e 's|^fsync\([0-9]*<(repo[^>]*)>\) *= 0$|sync \1|p' \
+    -e 's|^rename[a-z0-9]*\(.*"repo/\.draft", .*"(repo[^"]*)".*\) *= 0$|rename \1|p' \
+    -e 's|^unlink[a-z]*\(.*"(repo[^"]*)".*\) *= 0$|remove \1|p' \
+    -e 's|^write\(1<.*"\{\\"moment.*|published|p' calls >seen
+placed() {
+    printf '%s\n' draft "sync repo/.draft" "rename $1"
+    shift
+    printf 'sync %s\n' "$@"
+}
+for serial in 1 2 3; do
+    placed "repo/S/$serial/snapshot.xml" "repo/S/$serial" repo/S repo
+    for file in ta.cer ta.tal notification.xml; do placed "repo/$file" repo; done
+    [ "$serial" = 3 ] && echo "remove repo/S/1/snapshot.xml"
+    echo published
+done >wanted
+if ! cmp -s wanted seen; then
+    echo "checks/syncs: other calls were made by exports:" >&2
+    diff wanted seen >&2 || true
+    exit 1
+fi
+
+# fails_at CALL NTH WORDS..: an export of which that call fails, of those that are traced.
+fails_at() {
+    call=$1 nth=$2
+    shift 2
+    rm -rf krill-data
+    mkdir -p krill-data/repo
+    strace -o calls "$@" -e "trace=$call" -e "inject=$call:error=EIO:when=$nth" "$krillc" run <publishes >replies 2>said
+    grep -q 'EIO.*INJECTED' calls || { echo "checks/syncs: $call of number $nth didn't fail" >&2; exit 1; }
+    grep -q OutletFault replies || {
+        echo "checks/syncs: an export was told as done whose $call of number $nth failed:" >&2
+        cat replies >&2
+        exit 1
+    }
+}
+# Of each of the three exports there are four renames, and in the last one a removal.
+for nth in 1 2 4 8 9 12; do fails_at rename "$nth"; done
+fails_at unlink 1
+# Each file's sync, and each time that of the repository's folder.
+for nth in 1 2 7 8 17 24; do fails_at fsync "$nth" -P "$here/krill-data/repo" -P "$here/krill-data/repo/.draft"; done
 echo "checks/syncs: ok"
