@@ -6,5 +6,6 @@ pub mod Keeping
 pub mod Lasts
 pub mod Places
 pub mod Removals
+pub mod Reopened
 pub mod Runs
 pub mod Sizes

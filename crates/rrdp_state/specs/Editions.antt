@@ -26,12 +26,17 @@ FollowEachOther (edition ∷ older) =
     IsAscending edition.objects × IsApplied (objects_of older) edition.changes edition.objects
     × FollowEachOther older
 
--- The texts of a serial. The first one has no delta.
+-- The delta that leads to a serial. The first one has none.
+abbrev pub delta_to : List ℕ → ℕ → List Change → Option (List ℕ)
+delta_to session serial changes =
+    if serial == 1 then None else Some (delta_text session serial changes)
+
+-- The texts of a serial.
 abbrev pub texts_of : List ℕ → ℕ → List Object → List Change → NextFiles
 texts_of session serial objects changes = record {
   serial = serial;
   snapshot = snapshot_text session serial objects;
-  delta = if serial == 1 then None else Some (delta_text session serial changes);
+  delta = delta_to session serial changes;
 }
 
 -- The texts of an edition behind these: its serial is one more than there are.

@@ -3,7 +3,7 @@ use Rattle.std.specs.Prelude.{ℕ, zero, suc, ◌-◌, Bool, ◌&&◌, not, nat_
 use Rattle.outlet_api.specs.Calls.{Call, put, removal}
 use Rattle.rrdp_state.specs.declared.next.NextFiles.{NextFiles}
 use Rattle.rrdp_state.specs.declared.delta.Delta.{Delta}
-use Rattle.rrdp_state.specs.Editions.{new_delta}
+use Rattle.rrdp_state.specs.Editions.{delta_in}
 use Rattle.rrdp_state.specs.Named.{FileName, Entry, fitting, most_named, snapshot_entry, delta_entry}
 use Rattle.rrdp_state.specs.Named.FileName.{SnapshotOf, DeltaOf}
 use Rattle.rrdp_state.specs.Paths.{path_of, notification_path}
@@ -20,17 +20,22 @@ pub record Kept : Type 0 where
   pub previous : ℕ
   pub before : ℕ
 
--- With the texts of one more edition.
-abbrev pub advanced : Kept → NextFiles → Kept
-advanced kept next = record {
+-- With the delta of one more edition, whose snapshot has so many bytes.
+abbrev pub noted : Kept → ℕ → ℕ → Option (List ℕ) → Kept
+noted kept serial snapshot_len delta = record {
   session = kept.session;
   base = kept.base;
-  serial = next.serial;
-  snapshot = Some next.snapshot;
-  deltas = fitting most_named (length next.snapshot) (new_delta next ++ kept.deltas);
+  serial = serial;
+  snapshot = kept.snapshot;
+  deltas = fitting most_named snapshot_len (delta_in serial delta ++ kept.deltas);
   previous = length kept.deltas;
   before = kept.previous;
 }
+
+-- With the texts of one more edition.
+abbrev pub advanced : Kept → NextFiles → Kept
+advanced kept next =
+    record (noted kept next.serial (length next.snapshot) next.delta) { snapshot = Some next.snapshot }
 
 -- ---- what is put
 

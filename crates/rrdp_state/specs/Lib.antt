@@ -4,4 +4,5 @@ pub mod Exported
 pub mod Kept
 pub mod Named
 pub mod Paths
+pub mod Resuming
 pub mod State

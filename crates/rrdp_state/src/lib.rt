@@ -9,6 +9,7 @@ mod named;
 mod next;
 mod paths;
 mod putting;
+mod resuming;
 mod state;
 mod text;
 
@@ -18,5 +19,6 @@ pub use laws::{
     named_deltas_lead_to_the_snapshot, notifications_name_what_is_put,
 };
 pub use next::NextFiles;
+pub use resuming::{NextDelta, Resuming, TELLING_EDITIONS};
 pub use state::Rrdp;
 pub use text::FileText;

@@ -1,11 +1,12 @@
 //! What is kept of editions for the next one and for their export (RFC 8182 section 3.3).
 
-ghost use Rattle.std.specs.Prelude.{◌≡◌, ◌+◌, List, [], ◌∷◌, map, IfOk};
+ghost use Rattle.std.specs.Prelude.{◌≡◌, ◌+◌, List, [], ◌∷◌, map, IfOk, OnOk};
 ghost use Rattle.outlet_api.specs.Exports.{put_of, removal_of};
-ghost use Rattle.rrdp_state.specs.Editions.{Edition, FollowEachOther, texts_of, edition_texts};
+ghost use Rattle.rrdp_state.specs.Editions.{Edition, FollowEachOther, texts_of, delta_to, edition_texts};
 ghost use Rattle.rrdp_state.specs.Exported.{Repository, puts_of, removals_of};
-ghost use Rattle.rrdp_state.specs.Kept.{advanced, kept_puts, kept_removals};
+ghost use Rattle.rrdp_state.specs.Kept.{advanced, noted, kept_puts, kept_removals};
 ghost use Rattle.rrdp_state.specs.State.{StandsFor};
+ghost use Rattle.rrdp_state.specs.Resuming.{kept_behind, with_snapshot};
 
 use crate::delta::Delta;
 use crate::leaving::{Counts, removes};
@@ -61,10 +62,23 @@ impl Rrdp {
     pub fn new(alloc: Global, session: Uuid, site: &Site) -> Result<Rrdp, AllocError>
         ensures { IfOk result (StandsFor (record { session = session; base = site.now.rrdp }) []) }
     {
+        Rrdp::behind(alloc, session, site, 0)
+    }
+
+    /// The session behind the edition with that serial, of which no file is there, or before the
+    /// first one.
+    pub(crate) fn behind(
+        alloc: Global,
+        session: Uuid,
+        site: &Site,
+        serial: u64,
+    ) -> Result<Rrdp, AllocError>
+        ensures { IfOk result (λ rrdp. rrdp ≡ kept_behind (record { session = session; base = site.now.rrdp }) serial) }
+    {
         Ok(Rrdp {
             session,
             base: String::from_str(alloc, site.rrdp())?,
-            serial: 0,
+            serial,
             snapshot: None,
             deltas: Vec::with_capacity(alloc, MOST_NAMED + 1)?,
             previous: 0,
@@ -72,11 +86,33 @@ impl Rrdp {
         })
     }
 
+    /// The snapshot of this set is written, where there was an edition.
+    pub(crate) fn write_snapshot(
+        &mut self,
+        alloc: Global,
+        set: &ObjectSet,
+    ) -> Result<(), AllocError>
+        ensures { OnOk result (self.new ≡ with_snapshot self.old set.now) }
+    {
+        if self.serial > 0 {
+            let text = snapshot_text(alloc, &self.session, self.serial, set)?;
+            self.snapshot = Some(FileText::new(text));
+        }
+        Ok(())
+    }
+
     /// The serial of the newest edition, and 0 before the first one.
     pub fn serial(&self) -> u64
         ensures { result ≡ self.now.serial }
     {
         self.serial
+    }
+
+    /// The session identifier (RFC 8182 section 3.3.1).
+    pub(crate) fn session(&self) -> &Uuid
+        ensures { result.now ≡ self.now.session }
+    {
+        &self.session
     }
 
     /// The texts of the next edition: its set, and the changes that lead to it (RFC 8182 section
@@ -95,17 +131,27 @@ impl Rrdp {
             next ≡ texts_of self.now.session serial set.now changes.now) }
     {
         let snapshot = snapshot_text(alloc, &self.session, serial, set)?;
-        let delta = if serial == 1 {
-            None
-        } else {
-            let text = delta_text(alloc, &self.session, serial, changes)?;
-            Some(FileText::new(text))
-        };
         Ok(NextFiles {
             serial,
             snapshot: FileText::new(snapshot),
-            delta,
+            delta: self.delta(alloc, serial, changes)?,
         })
+    }
+
+    /// The delta that leads to a serial by these changes. The first one has none.
+    pub(crate) fn delta(
+        &self,
+        alloc: Global,
+        serial: u64,
+        changes: &[Change],
+    ) -> Result<Option<FileText>, AllocError>
+        ensures { IfOk result (λ delta. delta ≡ delta_to self.now.session serial changes.now) }
+    {
+        if serial == 1 {
+            return Ok(None);
+        }
+        let text = delta_text(alloc, &self.session, serial, changes)?;
+        Ok(Some(FileText::new(text)))
     }
 
     /// The next edition becomes the newest one. It takes no memory.
@@ -128,15 +174,23 @@ impl Rrdp {
             snapshot,
             delta,
         } = next;
+        self.note(serial, snapshot.len() as u128, delta);
+        self.snapshot = Some(snapshot);
+    }
+
+    /// The delta that leads to a serial is kept before the others, as far as they are named beside a
+    /// snapshot of so many bytes.
+    pub(crate) fn note(&mut self, serial: u64, snapshot_len: u128, delta: Option<FileText>)
+        ensures { self.new ≡ noted self.old serial snapshot_len delta }
+    {
         self.before = self.previous;
         self.previous = self.deltas.len();
         if let Some(text) = delta {
             self.deltas.insert(0, Delta { serial, text }).unwrap();
         }
-        let named = fitting_count(snapshot.len(), &self.deltas);
+        let named = fitting_count(snapshot_len, &self.deltas);
         self.deltas.truncate(named);
         self.serial = serial;
-        self.snapshot = Some(snapshot);
     }
 
     /// What an export puts and removes: the snapshot, the newest delta if it is named, or all that

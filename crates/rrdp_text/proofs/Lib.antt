@@ -5,6 +5,7 @@ pub mod FieldLaws
 pub mod ElementLaws
 pub mod FieldKinds
 pub mod Fronts
+pub mod Lengths
 pub mod LineLaws
 pub mod Lists
 pub mod Order

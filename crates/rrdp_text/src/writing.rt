@@ -6,7 +6,7 @@ ghost use Rattle.rrdp_text.specs.Texts.{notification_text, snapshot_text, delta_
 
 use crate::files::{DeltaRef, FileRef};
 use crate::lines::{push_change, push_delta_line, push_object, push_opening, push_snapshot_line};
-use crate::sizes::{delta_size, notification_size, snapshot_size};
+use crate::sizes::{delta_size, notification_size, snapshot_len};
 use crate::{DELTA_HEAD, NOTIFICATION_HEAD, SNAPSHOT_HEAD};
 use pub_set::{Change, ObjectSet};
 use std::alloc::{AllocError, Global};
@@ -46,7 +46,8 @@ pub fn snapshot_text(
     ensures { IfOk result (λ text. string_bytes text ≡ snapshot_text session.now serial set.now) }
 {
     let objects = set.as_slice();
-    let size = snapshot_size(serial, objects).ok_or(AllocError)?;
+    let len = snapshot_len(session, serial, set);
+    let size = usize::try_from(len).map_err(|_| AllocError)?;
     let mut out = String::with_capacity(alloc, size)?;
     push_opening(&mut out, SNAPSHOT_HEAD, session, serial)?;
     for object in objects {

@@ -3,7 +3,8 @@
 //! Fields stand between tabs: the case's name, the session, the https base, and steps. A step that begins
 //! with `e` is an edition: behind a blank each come the objects that it puts, `URI=BYTES`, and the URIs
 //! that it takes out, `-URI`. It prints the lengths of the snapshot and the delta. `newest` and `all` are
-//! exports: they print each put, `+PATH LENGTH HASH`, and each removal, `-PATH`.
+//! exports: they print each put, `+PATH LENGTH HASH`, and each removal, `-PATH`. At `resume` the session is taken up
+//! again, by so many of the newest editions as it prints.
 
 mod calls;
 mod editions;

@@ -18,15 +18,24 @@ pub fn answer(alloc: Global, line: &str) -> Result<String> {
     let mut editions = Editions::new(alloc, session.context("a bad session")?, &site)?;
     for step in fields {
         told.push('\t')?;
-        told.push_str(step_text(alloc, &mut editions, step)?.as_str())?;
+        told.push_str(step_text(alloc, &mut editions, &site, step)?.as_str())?;
     }
     Ok(told)
 }
 
-fn step_text(alloc: Global, editions: &mut Editions, step: &str) -> Result<String> {
+fn step_text(
+    alloc: Global,
+    editions: &mut Editions,
+    site: &Site,
+    step: &str,
+) -> Result<String> {
     match step {
         "newest" => files_text(alloc, &editions.rrdp.files(alloc, false)?),
         "all" => files_text(alloc, &editions.rrdp.files(alloc, true)?),
+        "resume" => {
+            let told = editions.resume(alloc, site)?;
+            Ok(format!(in alloc; "{told}")?)
+        }
         _ => {
             let (word, parts) = step.split_once(' ').unwrap_or((step, ""));
             if word != "e" {

@@ -3,21 +3,32 @@
 use anyhow::{Context, Result, bail};
 use key_ids::Site;
 use pub_set::{Change, Content, ObjectSet, Uri, changes};
-use rrdp_state::{FileText, Rrdp};
+use rrdp_state::{FileText, Resuming, Rrdp, TELLING_EDITIONS};
 use sha2::{Digest, Sha256};
 use std::alloc::Global;
 use uuid::Uuid;
 
 #[derive(Drop)]
 pub struct Editions {
+    session: Uuid,
     set: ObjectSet,
+    past: Vec<Past>,
     pub rrdp: Rrdp,
+}
+
+/// An edition that was published: its changes, and the set after it.
+#[derive(Drop)]
+struct Past {
+    changes: Vec<Change>,
+    set: ObjectSet,
 }
 
 impl Editions {
     pub fn new(alloc: Global, session: Uuid, site: &Site) -> Result<Editions> {
         Ok(Editions {
+            session,
             set: ObjectSet::new(alloc),
+            past: Vec::new(alloc),
             rrdp: Rrdp::new(alloc, session, site)?,
         })
     }
@@ -34,7 +45,25 @@ impl Editions {
         let next = self.rrdp.next(alloc, serial, &self.set, &changes)?;
         let lengths = (next.snapshot.len(), next.delta.as_ref().map(FileText::len));
         self.rrdp.advance(next);
+        let set = self.set.copy(alloc)?;
+        self.past.push(Past { changes, set })?;
         Ok(lengths)
+    }
+
+    /// Takes the session up again, by the newest editions as far as they are needed. How many these are.
+    pub fn resume(&mut self, alloc: Global, site: &Site) -> Result<usize> {
+        let told = self.past.len().min(TELLING_EDITIONS as usize);
+        let older = self.past.len() - told;
+        let mut resuming = Resuming::behind(alloc, self.session, site, older as u64)?;
+        for edition in self.past.iter().skip(older) {
+            if resuming.serial() > u64::from(u32::MAX) {
+                bail!("too many editions");
+            }
+            let next = resuming.delta(alloc, &edition.changes)?;
+            resuming.advance(next, &edition.set);
+        }
+        self.rrdp = resuming.open(alloc, &self.set)?;
+        Ok(told)
     }
 }
 
