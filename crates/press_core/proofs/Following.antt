@@ -143,7 +143,7 @@ first-name : (configs : List Settings) (n : ℕ) → length configs ≡ suc n �
 first-name [] n long = absurd (omega (arith, long))
 first-name (config ∷ rest) n long = (config, refl, refl)
 
-tree-of : IsNamesLaw → (configs : List Settings) (cut : List ℕ) → length configs ≡ desks → AreTakenIn configs cut → AreTree (names_of configs)
+pub tree-of : IsNamesLaw → (configs : List Settings) (cut : List ℕ) → length configs ≡ desks → AreTakenIn configs cut → AreTree (names_of configs)
 tree-of law configs cut long taken =
     let first = first-name configs 63 long in
     let is = taken 0 first.0 first.1 in

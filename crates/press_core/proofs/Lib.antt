@@ -4,6 +4,9 @@ pub mod Ranges
 pub mod Taking
 pub mod Signing
 pub mod Following
+pub mod Stages
+pub mod NextStages
+pub mod KeyStages
 pub mod Readied
 pub mod Standing
 pub mod Told

@@ -13,6 +13,7 @@ use Rattle.entitle.specs.Certified.{names_of, settings_of, AreCertified}
 use Rattle.entitle.specs.Owed.{AreOwed}
 use Rattle.key_ids.specs.Uris.{Bases}
 use Rattle.key_roll.specs.declared.rows.KeyRow.{KeyRow}
+use Rattle.key_roll.specs.declared.rows.Role.TheVariants.{Current}
 use Rattle.key_roll.specs.declared.issued.IssuedRow.{IssuedRow}
 use Rattle.key_roll.specs.declared.work.Work.{Work}
 use Rattle.pub_set.specs.declared.steps.Change.{Change}
@@ -40,6 +41,7 @@ use Rattle.editions.specs.PlannedAndMade.{CanBeRead}
 use Rattle.press_core.specs.declared.setup.EditionInput.{EditionInput}
 use Rattle.press_core.specs.PrepareInput.{PrepareInput}
 use Rattle.press_core.specs.Next.{NextValue}
+use Rattle.press_core.specs.Staged.{AreStaged, HasStages}
 use Rattle.press_core.specs.Planned.{IsInRange, IsCalled, IsPlanned, IsPrepared, basis_for, issue_input_for}
 use Rattle.press_core.specs.Signers.{HoldKeys}
 use Rattle.press_core.proofs.Holding.{hold-calls, hold-fault, hold-further}
@@ -117,6 +119,9 @@ pub record WorkLaws : Type 0 where
   pub clear : (at : PublishedStateValue) (site : Bases) (signers : ℕ) (basis : Basis) (work : Work) (old new : List SignerState) (made : Made) (table : List IssuedRow)
       → IsConsistentState at → CanFollow at site signers basis → IsPlan basis at.issued site work → IsMade (setting_over basis at.issued site work) at.rows old new made
       → IsTableAfter at.issued made.changes made.issued table → IsClear site made.rows table
+  pub staged : (at : PublishedStateValue) (site : Bases) (signers : ℕ) (basis : Basis) (work : Work) (old new : List SignerState) (made : Made) → IsConsistentState at
+      → CanFollow at site signers basis → IsPlan basis at.issued site work → IsMade (setting_over basis at.issued site work) at.rows old new made
+      → HasStages at → All (λ key. key.desk ≡ 0 → key.role ≡ Current) made.rows → AreStaged made.rows
 
 pub is-able : WorkLaws → (start : PrepareInput) (setup : EditionInput) (work : Work) → IsReady start setup work → AreTyped (basis_over start.at setup)
     → making.CanMake (issue_input_for start work) start.at.rows (length start.ring)
@@ -139,6 +144,7 @@ made-ready laws start setup work ring made ready typed is =
       signers = laws.signers start.at start.site n basis work start.ring ring made kept follow ready.plan law_is;
       names = typed.names;
       clear = λ table after. laws.clear start.at start.site n basis work start.ring ring made table kept follow ready.plan law_is after;
+      staged = laws.staged start.at start.site n basis work start.ring ring made kept follow ready.plan law_is ready.able.staged;
     }
 
 pub is-ready : (start : PrepareInput) (setup : EditionInput) (work : Work) → CanStart start → IsInRange start.at start.clock → IsSetUp start setup
@@ -290,6 +296,7 @@ prepared-of start setup work ring made prepared ready is readable few next = rec
     set = subst (λ (changes : List Change). IsApplied start.at.set changes prepared.next.set) (sym next.changes) next.set;
     ended = next.ended ∙ ap (ended_keys start.at.rows) (sym next.rows);
     clear = subst (λ (rows : List KeyRow). IsClear start.site rows prepared.next.issued) (sym next.rows) (is.clear prepared.next.issued next.table);
+    staged = subst AreStaged (sym next.rows) (is.staged (is.clear prepared.next.issued next.table).anchor);
     kept = next.kept;
     ascending = next.ascending;
   };

@@ -3,6 +3,7 @@ pub mod Signers
 pub mod PrepareInput
 pub mod Next
 pub mod Planned
+pub mod Staged
 pub mod Stands
 pub mod Follows
 pub mod Files

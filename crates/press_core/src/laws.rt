@@ -17,11 +17,19 @@ ghost use Rattle.editions.specs.Step.{Premises, AreMore, IsMore};
 ghost use Rattle.authority_book.specs.declared.commands.Command.{Command};
 ghost use Rattle.editions.specs.VouchedCalls.{IsVouchedBy};
 ghost use Rattle.editions.specs.Gathering.{AreNextCommands};
-ghost use Rattle.editions.specs.PublishedState.{PublishedStateValue, IsFirst, desks};
+ghost use Rattle.editions.specs.PublishedState.{PublishedStateValue, IsConsistentState, IsFirst, desks};
+ghost use Rattle.editions.specs.inner.Following.{CanFollow, setting_over};
+ghost use Rattle.key_roll.specs.declared.rows.Role.TheVariants.{Current};
+ghost use Rattle.key_roll.specs.declared.work.Work.{Work};
+ghost use Rattle.issue_plan.specs.Keys.{Basis};
+ghost use Rattle.issue_plan.specs.Work.{IsPlan};
+ghost use Rattle.issue_make.specs.declared.outcome.Made.{Made};
+ghost use Rattle.issue_make.specs.Made.{IsMade};
 ghost use Rattle.press_core.specs.Signers.{HasAllVouched};
 ghost use Rattle.press_core.specs.PrepareInput.{PrepareInput};
 ghost use Rattle.press_core.specs.Next.{NextValue};
 ghost use Rattle.press_core.specs.Planned.{IsPrepared, calls_for};
+ghost use Rattle.press_core.specs.Staged.{AreStaged, HasStages};
 ghost use Rattle.press_core.specs.Stands.{IsLeftBy, StandsFor};
 ghost use Rattle.press_core.specs.Follows.{edition_of, AreBehind, Follows};
 ghost use Rattle.press_core.specs.Files.{rrdp_editions, told, repository_at};
@@ -31,9 +39,9 @@ ghost use Rattle.press_core.specs.declared.last_export.LastExport.TheVariants.{D
 
 use editions::{
     accepted_names_are_apart, called_for_by_what_stands, certificates_have_own_serials,
-    editions_are_in_profile, editions_are_published, editions_follow_one_another,
-    gathered_commands_go_on, manifests_rise, same_objects_same_set, steps_come_one_by_one,
-    steps_stay_steps, the_table_goes_on, what_is_planned_and_made_follows,
+    editions_are_published, editions_follow_one_another, gathered_commands_go_on, manifests_rise,
+    same_objects_same_set, steps_come_one_by_one, steps_stay_steps, the_plans_keys_are_next,
+    the_table_goes_on, what_is_planned_and_made_follows,
 };
 
 /// What stands before the first edition is what no editions leave, over whatever commands.
@@ -107,6 +115,19 @@ pub fn prepared_editions_follow()
     steps_come_one_by_one();
     the_table_goes_on();
     what_is_planned_and_made_follows();
+}
+
+/// The keys that the making of a planned work leaves are those of stages, where the keys before were, and the
+/// trust anchor has no key but a current one.
+pub fn made_keys_are_staged()
+    ensures { (at : PublishedStateValue) (site : Bases) (signers : ℕ) (basis : Basis) (work : Work)
+        (old new : List SignerState) (made : Made)
+        → IsConsistentState at → CanFollow at site signers basis → IsPlan basis at.issued site work
+        → IsMade (setting_over basis at.issued site work) at.rows old new made → HasStages at
+        → All (λ key. key.desk ≡ 0 → key.role ≡ Current) made.rows → AreStaged made.rows }
+{
+    accepted_names_are_apart();
+    the_plans_keys_are_next();
 }
 
 /// The set of what is prepared is sound to relying parties, and yields what is owed.

@@ -17,9 +17,9 @@ pub use editions::{Gathered, Published};
 pub use fault::{Met, PressFault};
 pub use last_export::LastExport;
 pub use laws::{
-    first_published_state_stands, more_commands_stand, more_commands_stay_published,
-    more_editions_stay_shown, prepared_editions_are_published, prepared_editions_follow,
-    prepared_editions_leave, published_editions_have_an_anchor,
+    first_published_state_stands, made_keys_are_staged, more_commands_stand,
+    more_commands_stay_published, more_editions_stay_shown, prepared_editions_are_published,
+    prepared_editions_follow, prepared_editions_leave, published_editions_have_an_anchor,
     rrdp_editions_are_what_editions_leave, telling_signers_vouch,
     vouching_signers_vouch_for_editions,
 };

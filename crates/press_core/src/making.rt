@@ -13,6 +13,7 @@ ghost use Rattle.press_core.specs.Signers.{HoldKeys};
 ghost use Rattle.press_core.specs.inner.Ready.{IsReady, IsSomehowReady, CanStand, IsNextOf};
 
 use crate::fault::PressFault;
+use crate::laws::made_keys_are_staged;
 use crate::next_edition::NextEdition;
 use crate::setup::EditionInput;
 use authority_book::accepted_origins_ascend;
@@ -130,6 +131,7 @@ pub fn make_edition<S: Signer>(
     made_keys_are_live();
     made_keys_have_signers();
     other_uris_are_clear();
+    made_keys_are_staged();
     let made = match make(
         alloc,
         work,

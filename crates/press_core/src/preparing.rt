@@ -9,6 +9,7 @@ ghost use Rattle.press_core.specs.PrepareInput.{started};
 ghost use Rattle.press_core.specs.Planned.{IsPrepared};
 ghost use Rattle.press_core.specs.Faults.{IsPressFault};
 ghost use Rattle.press_core.specs.Signers.{HoldKeys};
+ghost use Rattle.press_core.specs.Staged.{HasStages};
 
 use crate::fault::{Met, PressFault};
 use crate::making::make_edition;
@@ -30,6 +31,7 @@ pub fn prepare_over<S: Signer>(
     gathered: Vec<Gathered>,
 ) -> Result<NextEdition, PressFault>
     requires clear { IsClear site.now at.now.rows at.now.issued }
+    requires staged { HasStages at.now }
     requires gathered { AreGathered at.now.cut gathered.items }
     requires accepted { AreAccepted at.now.configs gathered.items }
     requires live_signers { All (λ row. row.signer < length ring.old) at.now.rows }

@@ -60,6 +60,7 @@ impl<S: Signer> Model for Press<S> {
     ghost use Rattle.std.specs.Prelude.{◌≡◌};
     ghost use Rattle.editions.specs.Clear.{IsClear};
     ghost use Rattle.press_core.specs.Press.{PressValue};
+    ghost use Rattle.press_core.specs.Staged.{HasStages};
 
     ghost Value = { PressValue };
 
@@ -72,7 +73,7 @@ impl<S: Signer> Model for Press<S> {
       last_export = press.last_export;
     } };
 
-    ghost invariant = { λ press. IsClear press.site press.at.rows press.at.issued
+    ghost invariant = { λ press. (IsClear press.site press.at.rows press.at.issued × HasStages press.at)
         × (press.rrdp.serial ≡ press.at.serial) };
 }
 

@@ -16,6 +16,7 @@ use Rattle.issue_values.specs.Certificates.{IsEditionMoment}
 use Rattle.issue_keys.specs.declared.fault.MakeFault.{MakeFault}
 use Rattle.issue_keys.specs.declared.fault.MakeFault.TheVariants as why
 use Rattle.key_roll.specs.declared.issued.IssuedRow.{IssuedRow}
+use Rattle.key_roll.specs.declared.rows.Role.TheVariants.{Current}
 use Rattle.issue_make.specs.declared.outcome.Made.{Made}
 use Rattle.issue_make.specs.CanMake as making
 use Rattle.issue_make.specs.Made.{IsMade}
@@ -29,6 +30,7 @@ use Rattle.editions.specs.Ended.{ended_keys}
 use Rattle.editions.specs.Clear.{IsClear}
 use Rattle.press_core.specs.PrepareInput.{PrepareInput, started}
 use Rattle.press_core.specs.Next.{NextValue}
+use Rattle.press_core.specs.Staged.{AreStaged, HasStages}
 use Rattle.press_core.specs.Planned.{IsInRange, IsCalled, issue_input_for}
 use Rattle.press_core.specs.declared.setup.EditionInput.{EditionInput}
 use Rattle.press_core.specs.declared.fault.PressFault.{PressFault}
@@ -49,6 +51,7 @@ basis_over at setup = record {
 pub record CanStart (start : PrepareInput) : Type 0 where
   pub kept : IsConsistentState start.at
   pub clear : IsClear start.site start.at.rows start.at.issued
+  pub staged : HasStages start.at
   pub live_signers : All (λ row. row.signer < length start.ring) start.at.rows
   pub name_signers : All (λ (name : NameRow). name.signer < length start.ring)
       (names_of (configs_with start.at.configs start.gathered))
@@ -95,6 +98,7 @@ pub record IsMadeReady (start : PrepareInput) (setup : EditionInput) (work : Wor
   pub clear : (table : List IssuedRow)
       → IsTableAfter start.at.issued made.changes made.issued table
       → IsClear start.site made.rows table
+  pub staged : All (λ key. key.desk ≡ 0 → key.role ≡ Current) made.rows → AreStaged made.rows
 
 -- ---- after
 

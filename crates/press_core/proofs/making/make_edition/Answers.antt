@@ -18,6 +18,7 @@ make-requires g c =
       live = c.made_keys_are_live.ensures;
       signers = c.made_keys_have_signers.ensures;
       clear = c.other_uris_are_clear.ensures;
+      staged = c.made_keys_are_staged.ensures;
     } in
     let known = called-as laws start c.args.setup c.names_of-names.result.now c.parts-parts.result.now c.as_slice.result.now c.deref.result.now
     c.names_of-names.ensures.names c.deref.ensures.value c.names_of-names.ensures.plain c.parts-parts.ensures.parts c.as_slice.ensures in
@@ -32,6 +33,7 @@ next_of-requires g c =
       live = c.made_keys_are_live.ensures;
       signers = c.made_keys_have_signers.ensures;
       clear = c.other_uris_are_clear.ensures;
+      staged = c.made_keys_are_staged.ensures;
     } in
     let known = called-as laws start c.args.setup c.names_of-names.result.now c.parts-parts.result.now c.as_slice.result.now c.deref.result.now
     c.names_of-names.ensures.names c.deref.ensures.value c.names_of-names.ensures.plain c.parts-parts.ensures.parts c.as_slice.ensures in
@@ -47,6 +49,7 @@ returns-in-Err-clause-refused g c = λ gathered ready.
       live = c.made_keys_are_live.ensures;
       signers = c.made_keys_have_signers.ensures;
       clear = c.other_uris_are_clear.ensures;
+      staged = c.made_keys_are_staged.ensures;
     } in
     let known = called-as laws start c.args.setup c.names_of-names.result.now c.parts-parts.result.now c.as_slice.result.now c.deref.result.now
     c.names_of-names.ensures.names c.deref.ensures.value c.names_of-names.ensures.plain c.parts-parts.ensures.parts c.as_slice.ensures in
@@ -68,6 +71,7 @@ returns-clause-prepared g c = λ gathered ready.
       live = c.made_keys_are_live.ensures;
       signers = c.made_keys_have_signers.ensures;
       clear = c.other_uris_are_clear.ensures;
+      staged = c.made_keys_are_staged.ensures;
     } in
     let known = called-as laws start c.args.setup c.names_of-names.result.now c.parts-parts.result.now c.as_slice.result.now c.deref.result.now
     c.names_of-names.ensures.names c.deref.ensures.value c.names_of-names.ensures.plain c.parts-parts.ensures.parts c.as_slice.ensures in
@@ -90,6 +94,7 @@ returns-then-not-can_all_be_read-clause-refused g c = λ gathered ready.
       live = c.made_keys_are_live.ensures;
       signers = c.made_keys_have_signers.ensures;
       clear = c.other_uris_are_clear.ensures;
+      staged = c.made_keys_are_staged.ensures;
     } in
     let known = called-as laws start c.args.setup c.names_of-names.result.now c.parts-parts.result.now c.as_slice.result.now c.deref.result.now
     c.names_of-names.ensures.names c.deref.ensures.value c.names_of-names.ensures.plain c.parts-parts.ensures.parts c.as_slice.ensures in
@@ -112,6 +117,7 @@ returns-in_err-next_of-clause-refused g c =
       live = c.made_keys_are_live.ensures;
       signers = c.made_keys_have_signers.ensures;
       clear = c.other_uris_are_clear.ensures;
+      staged = c.made_keys_are_staged.ensures;
     } in
     let known = called-as laws start c.args.setup c.names_of-names.result.now c.parts-parts.result.now c.as_slice.result.now c.deref.result.now
     c.names_of-names.ensures.names c.deref.ensures.value c.names_of-names.ensures.plain c.parts-parts.ensures.parts c.as_slice.ensures in

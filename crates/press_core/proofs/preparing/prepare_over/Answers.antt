@@ -49,6 +49,7 @@ make_edition-requires g c =
       ready = is-ready start setup work (record {
         kept = c.parts-parts.ensures.kept;
         clear = c.requires.clear;
+        staged = c.requires.staged;
         live_signers = c.requires.live_signers;
         name_signers = c.requires.name_signers;
       }) c.in_ok-moment.ensures.in_range set_up c.in_ok-setup.ensures.certified c.in_ok-setup.ensures.owes plan (sym c.if-not-is_called_for.false ∙ answer);
@@ -67,6 +68,7 @@ returns-clause-prepared g c =
     let ready = is-ready start setup work (record {
       kept = c.parts-parts.ensures.kept;
       clear = c.requires.clear;
+      staged = c.requires.staged;
       live_signers = c.requires.live_signers;
       name_signers = c.requires.name_signers;
     }) c.in_ok-moment.ensures.in_range set_up c.in_ok-setup.ensures.certified c.in_ok-setup.ensures.owes plan (sym c.if-not-is_called_for.false ∙ answer) in
@@ -85,6 +87,7 @@ returns-clause-refused g c =
     let ready = is-ready start setup work (record {
       kept = c.parts-parts.ensures.kept;
       clear = c.requires.clear;
+      staged = c.requires.staged;
       live_signers = c.requires.live_signers;
       name_signers = c.requires.name_signers;
     }) c.in_ok-moment.ensures.in_range set_up c.in_ok-setup.ensures.certified c.in_ok-setup.ensures.owes plan (sym c.if-not-is_called_for.false ∙ answer) in
