@@ -69,11 +69,13 @@ def judge(uri, ended, complaints, word=b""):
     return False
 
 
-def look(exported, folder):
-    """What openssl finds in an edition."""
+def look(exported, folder, moment=None):
+    """What openssl finds in an edition, now or at a moment in seconds since 1970."""
     complaints, payloads = [], set()
     store, file, out = write_store(folder, exported), os.path.join(folder, "file"), os.path.join(folder, "out")
     strict = ["-CAfile", store, "-crl_check_all", "-x509_strict", "-policy_check"]
+    if moment is not None:
+        strict += ["-attime", str(moment)]
     for uri, content in exported.of_kind("cer").items():
         write(file, pem(content, "CERTIFICATE"))
         judge(uri, openssl("verify", *strict, file), complaints)

@@ -1,72 +1,8 @@
-"""Tries signer/krill-signer: what it answers, what openssl says of it, what outlives a kill, and what it refuses. And
-Krill's own side of the lines with it, where a second program is named: crates/test_signers over the signer's FIFOs.
-
-Krill's side and the signer are killed in turn, ROUNDS times each, at random moments, and started again.
-
-Usage: signer.py ROUNDS PROGRAM TEST_SIGNERS KRILLC, in a scratch folder. '-' stands for a program that isn't there."""
-import datetime, hashlib, importlib.machinery, importlib.util, json, os, random, re, signal, socket, subprocess, sys
+"""The signer by itself: what it answers, what openssl says of it, what outlives a kill, and what it refuses."""
+import base64, datetime, hashlib, importlib.machinery, importlib.util, os, random, re, signal, socket, subprocess, sys
 import threading, time
 
-ROUNDS = int(sys.argv[1])
-SIGNER, CALLER, KRILLC = (None if word == "-" else os.path.abspath(word) for word in sys.argv[2:])
-DIGEST = hashlib.sha256(b"what is signed").hexdigest()
-OTHER = hashlib.sha256(b"something else").hexdigest()
-# SEQUENCE { rsaEncryption with NULL, BIT STRING }: what stands before the 270 bytes of a key in a public key file.
-KEY_INFO = "30820122300d06092a864886f70d01010105000382010f00"
-# The pool of signers that are killed with what they are asked.
-POOL = ("--pool", "4")
-random.seed(5)
-
-
-def fail(text):
-    sys.exit(f"checks/signer: {text}")
-
-
-def start(folder, *words):
-    """Starts a signer, without a pool where the words don't begin with one."""
-    pool = [] if words[:1] == ("--pool",) else ["--pool", "0"]
-    return subprocess.Popen(
-        [sys.executable, SIGNER, "--keys", folder, *pool, *words],
-        stdin=subprocess.PIPE, stdout=subprocess.PIPE, stderr=subprocess.PIPE, text=True,
-    )
-
-
-def ask(program, line):
-    program.stdin.write(line + "\n")
-    program.stdin.flush()
-    return program.stdout.readline().rstrip("\n")
-
-
-def end(program, status, message=""):
-    program.stdin.close()
-    program.wait()
-    said = program.stderr.read()
-    if program.returncode != status or message not in said or (status == 0 and said):
-        fail(f"status {program.returncode} and {said!r}, expected {status} and {message!r}")
-
-
-def want(pattern, text):
-    found = re.fullmatch(pattern, text)
-    if not found:
-        fail(f"{text[:60]!r} is not of the form {pattern}")
-    return found.groups()
-
-
-def verify(key, digest, signature, status=0):
-    """Lets openssl judge a signature."""
-    for name, content in (("key", KEY_INFO + key), ("digest", digest), ("signature", signature)):
-        with open(name, "wb") as file:
-            file.write(bytes.fromhex(content))
-    judged = subprocess.run(
-        ["openssl", "pkeyutl", "-verify", "-pubin", "-inkey", "key", "-keyform", "DER", "-in", "digest",
-         "-sigfile", "signature", "-pkeyopt", "digest:sha256"],
-        capture_output=True,
-    )
-    if judged.returncode != status:
-        fail(f"openssl ends with {judged.returncode}, expected {status}: {judged.stderr.decode()}")
-
-
-KEY = "(3082010a0282010100[89a-f][0-9a-f]{511}0203010001)"
+from parts import DIGEST, KEY, OTHER, SIGNER, ask, await_that, end, fail, holds, start, verify, want
 
 
 def answers():
@@ -126,14 +62,6 @@ def makers_of(program):
         except FileNotFoundError:
             pass  # A thread that has ended meanwhile.
     return found
-
-
-def await_that(holds_now, what, seconds=20):
-    ends = time.monotonic() + seconds
-    while not holds_now():
-        if time.monotonic() > ends:
-            fail(f"{what}: not within {seconds} seconds")
-        time.sleep(0.01)
 
 
 def is_running(pid):
@@ -318,31 +246,45 @@ def erased_on_their_day(parts, name, until):
         fail("a signer that runs doesn't erase a key on its day")
 
 
+CRL_OPTIONS = (
+    "[ca]\ndefault_ca=a\n[a]\ndatabase=index\ncrlnumber=number\ndefault_md=sha256\ndefault_crl_days=1\n"
+    "crl_extensions=e\n[e]\nauthorityKeyIdentifier=keyid\n"
+)
+
+
+def crl_of(key):
+    """A CRL that openssl signs with the key of a file, in DER."""
+    for path, content in (("ca.conf", CRL_OPTIONS), ("index", ""), ("number", "01\n")):
+        with open(path, "w") as file:
+            file.write(content)
+    key = [key, "-keyform", "DER"]
+    for words in (
+        ["req", "-x509", "-new", "-key", *key, "-subj", "/CN=a", "-addext", "subjectKeyIdentifier=hash", "-out", "ca.pem"],
+        ["ca", "-gencrl", "-config", "ca.conf", "-keyfile", *key, "-cert", "ca.pem", "-out", "crl.pem"],
+        ["crl", "-in", "crl.pem", "-outform", "DER", "-out", "crl.der"],
+    ):
+        ran = subprocess.run(["openssl", *words], capture_output=True, text=True)
+        if ran.returncode:
+            fail(f"openssl {words[0]}: {ran.stderr}")
+    with open("crl.der", "rb") as file:
+        return file.read()
+
+
 def live_list():
-    """What the pages say of listing the keys that CRLs name, over CRLs that openssl makes."""
+    """What the pages say of listing the keys that CRLs name, over an export with CRLs that openssl makes."""
     program = start("live")
     keys = [want(f"key {KEY}", ask(program, "make"))[0] for _ in range(3)]
     end(program, 0)
     names = [hashlib.sha1(bytes.fromhex(key)).hexdigest() for key in keys]
-    os.makedirs("repo/deep")
-    with open("ca.conf", "w") as file:
-        file.write("[ca]\ndefault_ca=a\n[a]\ndatabase=index\ncrlnumber=number\ndefault_md=sha256\ndefault_crl_days=1\n"
-                   "crl_extensions=e\n[e]\nauthorityKeyIdentifier=keyid\n")
-    for turn, name in enumerate(names[:2]):
-        open("index", "w").close()
-        with open("number", "w") as file:
-            file.write("01\n")
-        key = ["-keyform", "DER"]
-        for words in (
-            ["req", "-x509", "-new", "-key", f"live/{name}.key", *key, "-subj", "/CN=a", "-addext", "subjectKeyIdentifier=hash", "-out", "ca.pem"],
-            ["ca", "-gencrl", "-config", "ca.conf", "-keyfile", f"live/{name}.key", *key, "-cert", "ca.pem", "-out", "crl.pem"],
-            ["crl", "-in", "crl.pem", "-outform", "DER", "-out", ("repo/a.crl", "repo/deep/b.crl")[turn]],
-        ):
-            ran = subprocess.run(["openssl", *words], capture_output=True, text=True)
-            if ran.returncode:
-                fail(f"openssl {words[0]}: {ran.stderr}")
+    os.makedirs("krill-data/repo/session/2")
+    with open("krill-data/repo/notification.xml", "w") as file:
+        file.write('<notification serial="2">\n  <snapshot uri="https://a.example/b/session/2/snapshot.xml" hash="00"/>\n</notification>\n')
+    with open("krill-data/repo/session/2/snapshot.xml", "w") as file:
+        for name in names[:2]:
+            for kind, content in (("mft", b"\x30\x00"), ("crl", crl_of(f"live/{name}.key"))):
+                file.write(f'  <publish uri="rsync://a.example/{name}.{kind}">{base64.b64encode(content).decode()}</publish>\n')
     pages = open(os.path.join(os.path.dirname(SIGNER), "..", "docs", "signers.md")).read()
-    (words,) = re.findall(r"```sh\n(find repo .*?)```", pages, re.S)
+    (words,) = re.findall(r"```sh\n(repo=.*?)```", pages, re.S)
     subprocess.run(["sh", "-c", words], check=True)
     listed = open("live-keys").read().split()
     if listed != sorted(names[:2]) or set_aside("live", listed) != names[2:]:
@@ -413,13 +355,48 @@ def strange_pipes():
     first.wait()
 
 
-def holds(program, path):
-    """Whether the program has the file open."""
-    opened = f"/proc/{program.pid}/fd"
-    try:
-        return os.path.abspath(path) in {os.path.realpath(os.path.join(opened, it)) for it in os.listdir(opened)}
-    except FileNotFoundError:
-        return False
+def count_opened(program, path):
+    """How many of its pipes a signer has open: one that it holds alone, and two more while it serves a run."""
+    opened, count = f"/proc/{program.pid}/fd", 0
+    for it in os.listdir(opened):
+        try:
+            count += os.readlink(os.path.join(opened, it)).startswith(os.path.abspath(path))
+        except FileNotFoundError:
+            pass  # It has closed it meanwhile.
+    return count
+
+
+def replaced_pipes():
+    """What is put in the place of a FIFO while a signer serves is refused with the next run, and stays as it is."""
+    os.mkdir("replaced")
+    with open("kept", "w") as file:
+        file.write("kept")
+    path = "replaced/signer-0"
+    link, file = lambda path: os.symlink("../kept", path), lambda path: os.link("kept", path)
+    requests, both = [(".out", "w")], [(".in", "r"), (".out", "w")]
+    for pipe, make, next_run, message in (
+        (".in", link, requests, "a link, and no FIFO"),
+        (".out", link, [], "a link, and no FIFO"),
+        (".in", file, requests, "no FIFO"),
+        (".out", file, [], "no FIFO"),
+        (".out", os.mkfifo, both, "another FIFO than at the start"),
+    ):
+        program = start("replaced-keys", "--fifos", path)
+        await_that(lambda: os.path.exists(path + ".out"), "the pipes of a signer")
+        with open(path + ".out", "w"), open(path + ".in"):  # The second one is closed first.
+            await_that(lambda: count_opened(program, path) == 3, "a run's start")
+            os.unlink(path + pipe)
+            make(path + pipe)
+        await_that(lambda: count_opened(program, path) <= 1, "a run's end")
+        opened = [open(path + end_of_it, mode) for end_of_it, mode in next_run]
+        program.wait()
+        end(program, 3, f"{path}{pipe}: {message}")
+        for descriptor in opened:
+            descriptor.close()
+        for end_of_it in (".in", ".out"):
+            os.unlink(path + end_of_it)
+    if open("kept").read() != "kept":
+        fail("a file in the place of a FIFO was written")
 
 
 def modes():
@@ -446,6 +423,11 @@ def faulty_lines():
     program = start("faulty")
     program.stdin.write("make")
     end(program, 2, "end within request 1")
+    program = start("faulty")
+    program.stdin.write("make" * 300)  # A line without an end is no request as soon as it is longer than any.
+    program.stdin.flush()
+    program.wait()
+    end(program, 2, "request 1 is none")
 
 
 def kills():
@@ -506,227 +488,14 @@ def fifos():
     program.wait()
 
 
-def serve_fifos(folder, path, caller=None):
-    """Starts a signer over FIFOs. Where a program has both ends open, waits until the signer has them too."""
-    program = start(folder, *POOL, "--fifos", path)
-    ends = {os.path.abspath(path + end) for end in (".in", ".out")}
-    while not all(os.path.exists(end) for end in ends):
-        time.sleep(0.02)
-    opened = f"/proc/{program.pid}/fd"
-    while caller and not ends <= {os.path.realpath(os.path.join(opened, it)) for it in os.listdir(opened)}:
-        time.sleep(0.02)
-    return program
-
-
-def beside():
-    """Krill's side: every call, then a signer that is killed between two calls and started again."""
-    os.mkdir("beside")
-    signer = serve_fifos("beside-keys", "beside/signer-0")
-    caller = subprocess.Popen(
-        [CALLER, "beside/signer-0.in", "beside/signer-0.out"],
-        stdin=subprocess.PIPE, stdout=subprocess.PIPE, stderr=subprocess.PIPE, text=True,
-    )
-    (key,) = want(KEY, ask(caller, "make 0"))
-    (signature,) = want("([0-9a-f]{512})", ask(caller, f"sign 0 @0 {DIGEST}"))
-    verify(key, DIGEST, signature)
-    verify(key, OTHER, signature, 1)
-    once_key, once = want(f"{KEY} ([0-9a-f]{{512}})", ask(caller, f"once 0 {OTHER}"))
-    verify(once_key, OTHER, once)
-    for call, expected in (
-        (f"check {key} {DIGEST} {signature}", "yes"),
-        (f"check {key} {OTHER} {signature}", "no"),
-        (f"check {once_key} {OTHER} {once}", "yes"),
-        (f"check {once_key} {DIGEST} {signature}", "no"),
-    ):
-        want(expected, ask(caller, call))
-    signer.kill()
-    signer.wait()
-    want("signer 0 failed", ask(caller, f"sign 0 {key} {OTHER}"))
-    signer = serve_fifos("beside-keys", "beside/signer-0", caller)
-    (signature,) = want("([0-9a-f]{512})", ask(caller, f"sign 0 {key} {OTHER}"))
-    verify(key, OTHER, signature)
-    want("signer 0 failed", ask(caller, f"sign 0 {once_key} {OTHER}"))
-    want("dropped", ask(caller, f"drop 0 {key}"))
-    want("signer 0 failed", ask(caller, f"sign 0 {key} {OTHER}"))
-    want("yes", ask(caller, f"check {key} {OTHER} {signature}"))
-    caller.stdin.close()
-    want("faults 3", caller.stdout.readline().rstrip("\n"))
-    if caller.wait() or os.listdir("beside-keys"):
-        fail(f"status {caller.returncode} and {os.listdir('beside-keys')} at the end of the calls")
-    signer.terminate()
-    signer.wait()
-
-
-def start_caller(folder):
-    return subprocess.Popen(
-        [CALLER, f"{folder}/signer-0.in", f"{folder}/signer-0.out"],
-        stdin=subprocess.PIPE, stdout=subprocess.PIPE, stderr=subprocess.PIPE, text=True,
-    )
-
-
-def call(caller, line):
-    """An answer to a call, which is made again for a second: a signer may still leave an earlier caller."""
-    for _ in range(20):
-        answered = ask(caller, line)
-        if answered != "signer 0 failed":
-            return answered
-        time.sleep(0.05)
-    return answered
-
-
-def signs_again(caller):
-    """Makes a key and signs, and lets openssl judge both kinds of signatures."""
-    (key,) = want(KEY, call(caller, "make 0"))
-    (signature,) = want("([0-9a-f]{512})", ask(caller, f"sign 0 {key} {DIGEST}"))
-    verify(key, DIGEST, signature)
-    once_key, once = want(f"{KEY} ([0-9a-f]{{512}})", ask(caller, f"once 0 {OTHER}"))
-    verify(once_key, OTHER, once)
-    want("yes", ask(caller, f"check {key} {DIGEST} {signature}"))
-    want("no", ask(caller, f"check {key} {OTHER} {signature}"))
-
-
-def keep_asking(caller):
-    """Calls until an end is gone. Standard output isn't read, so that kills come anywhere."""
-    try:
-        for turn in range(40):
-            caller.stdin.write(("make 0\n", f"once 0 {DIGEST}\n")[turn % 2])
-        caller.stdin.flush()
-    except BrokenPipeError:
-        pass
-
-
-def kill(program):
-    program.kill()
-    program.wait()
-
-
-def kill_callers():
-    """Callers are killed at random moments, and the next one is there at once."""
-    os.mkdir("callers")
-    signer = start("callers-keys", *POOL, "--fifos", "callers/signer-0")
-    while not os.path.exists("callers/signer-0.out"):
-        time.sleep(0.02)
-    for _ in range(ROUNDS):
-        caller = start_caller("callers")
-        keep_asking(caller)
-        time.sleep(random.uniform(0, 0.4))
-        kill(caller)
-        time.sleep(random.choice((0, 0, 0.001, 0.01, 0.1)))
-        caller = start_caller("callers")
-        signs_again(caller)
-        kill(caller)
-    kill(signer)
-
-
-def kill_signers():
-    """A signer is killed and started again under a running caller, sometimes with a request that it has not read."""
-    os.mkdir("signers")
-    signer = start("signers-keys", *POOL, "--fifos", "signers/signer-0")
-    while not os.path.exists("signers/signer-0.out"):
-        time.sleep(0.02)
-    caller = start_caller("signers")
-    signs_again(caller)
-    for turn in range(ROUNDS):
-        if turn % 3 == 0:
-            signer.send_signal(signal.SIGSTOP)
-        caller.stdin.write("make 0\n")
-        caller.stdin.flush()
-        time.sleep(random.uniform(0, 0.2))
-        kill(signer)
-        signer = serve_fifos("signers-keys", "signers/signer-0", caller)
-        caller.stdout.readline()  # The call that was cut off, or answered just before.
-        signs_again(caller)
-    kill(caller)
-    kill(signer)
-
-
-class Daemon:
-    """A krillc in a folder of its own."""
-
-    def __init__(self, folder):
-        self.folder = folder
-        self.program = subprocess.Popen(
-            [KRILLC, "run"], cwd=folder,
-            stdin=subprocess.PIPE, stdout=subprocess.PIPE, stderr=subprocess.PIPE, text=True,
-        )
-
-    def ask(self, **command):
-        reply = ask(self.program, json.dumps(command))
-        return json.loads(reply) if reply else {}
-
-    def publish(self):
-        return self.ask(command="publish")
-
-    def ended(self, status, *messages):
-        """It has ended by itself, and said why."""
-        self.program.stdin.close()
-        self.program.wait()
-        said = self.program.stderr.read()
-        if self.program.returncode != status or any(message not in said for message in messages):
-            fail(f"krillc: status {self.program.returncode} and {said!r}, expected {status} and {messages}")
-
-
-def kill_publications():
-    """krillc and its signer are killed in publications, in turn, and the next publication is right at once."""
-    os.makedirs("daemon/krill-data")
-    path = "daemon/krill-data/signer-0"
-    for end_of_it in (".in", ".out"):
-        os.mkfifo(path + end_of_it, 0o600)
-    signer = start("daemon-keys", *POOL, "--fifos", path)
-    daemon = Daemon("daemon")
-    daemon.ask(command="roas update", ca="ta", add=["10.0.0.0/16-24 => 64496", "10.1.0.0/16 => 64497"])
-    for turn in range(2 * ROUNDS):
-        daemon.program.stdin.write(json.dumps({"command": "publish"}) + "\n")
-        daemon.program.stdin.flush()
-        time.sleep(random.uniform(0, 0.3))
-        if turn % 2:
-            kill(daemon.program)
-            daemon = Daemon("daemon")
-        else:
-            kill(signer)
-            signer = start("daemon-keys", *POOL, "--fifos", path)
-            while not (holds(signer, path + ".in") and holds(signer, path + ".out")):
-                time.sleep(0.01)
-            daemon.program.stdout.readline()
-        origins = [f"10.2.{turn % 256}.0/24 => {64500 + turn}"]
-        daemon.ask(command="roas update", ca="ta", add=origins)
-        reply = daemon.publish()
-        if "published" not in json.dumps(reply):
-            fail(f"turn {turn}: {reply}")
-        daemon.ask(command="roas update", ca="ta", remove=origins)
-    kill(daemon.program)
-    kill(signer)
-
-
-def pipes_of_krillc():
-    """What krillc says of pipes that it can't use, and of none at all."""
-    os.makedirs("krillc-pipes/krill-data")
-    pipe = "krillc-pipes/krill-data/signer-"
-    Daemon("krillc-pipes").ended(0, "signatures are a rehearsal's")
-    os.mkfifo(pipe + "0.in")
-    Daemon("krillc-pipes").ended(4, "signer-0.out is missing")
-    for make in (lambda path: open(path, "w").close(), lambda path: os.symlink("signer-0.in", path), lambda path: os.symlink("x", path)):
-        make(pipe + "0.out")
-        Daemon("krillc-pipes").ended(4, "signer-0.out: no FIFO")
-        os.unlink(pipe + "0.out")
-    os.rename(pipe + "0.in", pipe + "1.in")
-    os.mkfifo(pipe + "1.out")
-    Daemon("krillc-pipes").ended(4, "signer-0.in is missing")
-    for end_of_it in (".in", ".out"):
-        os.rename(f"{pipe}1{end_of_it}", f"{pipe}0{end_of_it}")
-    waiting = Daemon("krillc-pipes")
-    want("krillc: waiting for signer 0 .*", waiting.program.stderr.readline().rstrip("\n"))
-    with open(pipe + "0.in", "w"), open(pipe + "0.out"):
-        pass  # A signer that ends without a word.
-    waiting.ended(4, "signer 0 gave no answer to `hello`")
-
-
-def main():
+def try_all():
+    """Tries all of it. Gives how many keys outlived kills."""
     answers()
     hello()
     modes()
     strange_files()
     strange_pipes()
+    replaced_pipes()
     faulty_lines()
     pool()
     parts = program_parts()
@@ -735,17 +504,4 @@ def main():
     live_list()
     made = kills()
     fifos()
-    said = []
-    if CALLER:
-        beside()
-        kill_callers()
-        kill_signers()
-        said.append(f"Krill's side met it, {ROUNDS} kills of each")
-    if KRILLC:
-        pipes_of_krillc()
-        kill_publications()
-        said.append(f"krillc met it, {ROUNDS} kills of each")
-    print(f"checks/signer: ok ({made} keys outlived kills; {'; '.join(said) or 'Krill is not built, skipped'})")
-
-
-main()
+    return made
