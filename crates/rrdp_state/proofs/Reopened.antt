@@ -1,5 +1,5 @@
 -- What the newest editions tell is what is kept of all.
-use Rattle.std.proofs.Common.{◌≡◌, ℕ, Bool, zero, suc, ◌+◌, ◌-◌, ◌<◌, ◌≤◌, ◌⊎◌, inl, inr, true, false, cond, refl, sym, ◌∙◌, ap, arith, length, take, drop, List, [], ◌∷◌, ◌++◌, Option, None, Some}
+use Rattle.std.proofs.Common.{◌≡◌, ℕ, Bool, zero, suc, ◌+◌, ◌-◌, ◌<◌, ◌≤◌, ◌⊎◌, inl, inr, true, false, cond, refl, sym, ◌∙◌, ap, arith, length, take, drop, List, [], ◌∷◌, ◌++◌, None, Some}
 use Rattle.std.specs.Prelude.{nat_lt, nat_le, ◌&&◌}
 use Rattle.std.proofs.Math.Numerals.{add-one, suc-eq-add-one}
 use Rattle.std.proofs.Math.Seq.{take-nil}
