@@ -25,7 +25,7 @@ use Rattle.editions.specs.declared.gathered.Gathered.{Gathered}
 use Rattle.editions.specs.declared.published_state.Published.{Published}
 use Rattle.editions.specs.PlannedAndMade.{CanBeRead}
 use Rattle.editions.specs.PublishedState.{PublishedStateValue, published_of}
-use Rattle.editions.specs.inner.Vouched.{IsVouchedBy}
+use Rattle.editions.specs.VouchedCalls.{IsVouchedBy}
 use Rattle.press_core.specs.Press.{PressValue}
 use Rattle.press_core.specs.PrepareInput.{PrepareInput, start_of}
 use Rattle.press_core.specs.Next.{NextValue}
