@@ -16,22 +16,18 @@ first-is s live rows n signers finder ready finds =
     let inside : n ≤ length rows = ready.inside in
     let long = length-take n rows in omega arith
 
-pub can-plan-at : (s : IssueInput) (live rows seen again : List KeyRow) (n signers : ℕ) (finder : KeyFinder)
-    → AreReady s live rows n signers → seen ≡ rows → again ≡ rows → Finds (keys_at seen n) finder
-    → CanPlanObjects s (keys_at again finder.first_fresh) again finder
-can-plan-at s live rows seen again n signers finder ready e f finds =
-    let found : Finds (keys_at rows n) finder = subst (λ (l : List KeyRow). Finds (keys_at l n) finder) e finds in
-    subst (λ (l : List KeyRow). CanPlanObjects s (keys_at l finder.first_fresh) l finder) (sym f)
-    (subst (λ (first : ℕ). CanPlanObjects s (keys_at rows first) rows finder) (sym (first-is s live rows n signers finder ready found))
-    (can-plan s live rows n signers finder ready.work ready.are found))
+pub can-plan-at : (s : IssueInput) (live rows seen : List KeyRow) (n signers : ℕ) (finder : KeyFinder) → AreReady s live rows n signers → seen ≡ rows
+    → Finds (keys_at seen n) finder → CanPlanObjects s (keys_at seen finder.first_fresh) seen finder
+can-plan-at s live rows seen n signers finder ready e finds =
+    let at : AreReady s live seen n signers = subst (λ (l : List KeyRow). AreReady s live l n signers) (sym e) ready in
+    subst (λ (first : ℕ). CanPlanObjects s (keys_at seen first) seen finder) (sym (first-is s live seen n signers finder at finds))
+    (can-plan s live seen n signers finder at.work at.are finds)
 
-pub ready-at : (s : IssueInput) (live rows seen again last : List KeyRow) (n signers : ℕ) (finder : KeyFinder) (plan : ObjectPlan)
-    → AreReady s live rows n signers → seen ≡ rows → again ≡ rows → last ≡ rows → Finds (keys_at seen n) finder
-    → IsObjectPlan s (keys_at again finder.first_fresh) again plan → IsReady s live last n signers plan
-ready-at s live rows seen again last n signers finder plan ready e f g finds is =
-    let found : Finds (keys_at rows n) finder = subst (λ (l : List KeyRow). Finds (keys_at l n) finder) e finds in
-    let one : IsObjectPlan s (keys_at rows finder.first_fresh) rows plan =
-    subst (λ (l : List KeyRow). IsObjectPlan s (keys_at l finder.first_fresh) l plan) f is in
-    let two : IsObjectPlan s (keys_at rows n) rows plan =
-    subst (λ (first : ℕ). IsObjectPlan s (keys_at rows first) rows plan) (first-is s live rows n signers finder ready found) one in
-    subst (λ (l : List KeyRow). IsReady s live l n signers plan) (sym g) (record { ready = ready; is_plan = two })
+pub ready-at : (s : IssueInput) (live rows seen : List KeyRow) (n signers : ℕ) (finder : KeyFinder) (plan : ObjectPlan)
+    → AreReady s live rows n signers → seen ≡ rows → Finds (keys_at seen n) finder → IsObjectPlan s (keys_at seen finder.first_fresh) seen plan
+    → IsReady s live seen n signers plan
+ready-at s live rows seen n signers finder plan ready e finds is =
+    let at : AreReady s live seen n signers = subst (λ (l : List KeyRow). AreReady s live l n signers) (sym e) ready in record {
+      ready = at;
+      is_plan = subst (λ (first : ℕ). IsObjectPlan s (keys_at seen first) seen plan) (first-is s live seen n signers finder at finds) is;
+    }

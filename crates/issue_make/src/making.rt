@@ -1,12 +1,12 @@
 //! The making of an edition's objects (RFC 6487 section 4, RFC 5280 section 5, RFC 6488 section 2).
 
-ghost use Rattle.std.specs.Prelude.{List, ℕ, length, IfOk, IfErr};
+ghost use Rattle.std.specs.Prelude.{List, length, IfOk, IfErr};
 ghost use Rattle.signer_ring.specs.Ring.{Keeps};
 ghost use Rattle.key_roll.specs.declared.rows.KeyRow.{KeyRow};
 ghost use Rattle.issue_drafts.specs.Finding.{keys_at};
 ghost use Rattle.issue_drafts.specs.Certificates.{input_of};
 ghost use Rattle.issue_make.specs.CanMake.{input_with, CanMake};
-ghost use Rattle.issue_make.specs.inner.Ready.{AreReady, IsReady, AreSomehowReady, IsSomehowReady};
+ghost use Rattle.issue_make.specs.inner.Ready.{AreReady, AreSomehowReady};
 ghost use Rattle.issue_make.specs.inner.Signing.{IsSigningStop};
 ghost use Rattle.issue_make.specs.inner.Finished.{IsFinished};
 ghost use Rattle.issue_make.specs.Made.{IsMade, IsStop};
@@ -15,7 +15,7 @@ use crate::keys::{EditionKeys, edition_keys};
 use crate::objects::sign_objects;
 use crate::outcome::Made;
 use crate::outcomes::outcome;
-use crate::plans::{ObjectPlan, plan_objects};
+use crate::plans::plan_objects;
 use authority_book::NameRow;
 use issue_drafts::{IssueInput, KeyFinder};
 use issue_keys::MakeFault;
@@ -25,28 +25,6 @@ use key_roll::{Issued, KeyRow, Work};
 use signer_api::Signer;
 use signer_ring::{Ring, vouched_stays};
 use std::alloc::Global;
-
-/// Signs the objects of a plan, and says what they come to.
-fn sign_and_assemble<S: Signer>(
-    alloc: Global,
-    input: &IssueInput<'_>,
-    rows: &[KeyRow],
-    plan: ObjectPlan<'_>,
-    ring: &mut Ring<S>,
-) -> Result<Made, MakeFault>
-    requires { IsSomehowReady (input_of input.now) rows.now (length ring.old) plan }
-    ensures made { IfOk result (λ made. (live : List KeyRow) (n : ℕ)
-        → IsReady (input_of input.now) live rows.now n (length ring.old) plan.entry
-        → IsFinished (input_of input.now) live rows.now (keys_at rows.now n)
-        ring.old ring.new made) }
-    ensures stopped { IfErr result (IsSigningStop ring.old ring.new) }
-    ensures kept { Keeps ring.old ring.new }
-{
-    vouched_stays();
-    let objects = sign_objects(alloc, input, &plan, ring)?;
-    let made = outcome(alloc, input, rows, plan, objects)?;
-    Ok(made)
-}
 
 /// Makes the objects of the work over the edition's keys.
 fn make_objects<S: Signer>(
@@ -65,28 +43,13 @@ fn make_objects<S: Signer>(
     ensures stopped { IfErr result (IsSigningStop ring.old ring.new) }
     ensures kept { Keeps ring.old ring.new }
 {
-    let finder = KeyFinder::new(alloc, &keys.rows, keys.first_fresh)?;
-    let plan = plan_objects(alloc, input, &keys.rows, &finder)?;
-    sign_and_assemble(alloc, input, &keys.rows, plan, ring)
-}
-
-/// Makes the objects of the work in that input.
-fn make_in<S: Signer>(
-    alloc: Global,
-    input: &IssueInput<'_>,
-    rows: &[KeyRow],
-    ring: &mut Ring<S>,
-) -> Result<Made, MakeFault>
-    requires { CanMake (input_of input.now) rows.now (length ring.old) }
-    ensures made { IfOk result
-        (IsMade (input_of input.now) rows.now ring.old ring.new) }
-    ensures stopped { IfErr result
-        (IsStop (input_of input.now) rows.now ring.old ring.new) }
-    ensures kept { Keeps ring.old ring.new }
-{
-    let keys = edition_keys(alloc, input.work, rows, ring)?;
-    can_be_named(input.site);
-    make_objects(alloc, input, &keys, ring)
+    vouched_stays();
+    let rows = keys.rows.as_slice();
+    let finder = KeyFinder::new(alloc, rows, keys.first_fresh)?;
+    let plan = plan_objects(alloc, input, rows, &finder)?;
+    let objects = sign_objects(alloc, input, &plan, ring)?;
+    let made = outcome(alloc, input, rows, plan, objects)?;
+    Ok(made)
 }
 
 /// Makes the objects of an edition's work.
@@ -124,5 +87,7 @@ pub fn make<S: Signer>(
         issued,
         site,
     };
-    make_in(alloc, &input, rows, ring)
+    let keys = edition_keys(alloc, work, rows, ring)?;
+    can_be_named(site);
+    make_objects(alloc, &input, &keys, ring)
 }

@@ -29,13 +29,7 @@ pub record IsReady (s : IssueInput) (live rows : List KeyRow) (n signers : ℕ) 
   pub ready : AreReady s live rows n signers
   pub is_plan : IsObjectPlan s (keys_at rows n) rows plan
 
--- Whichever the live keys are, and however many keys stay.
+-- Whichever the live keys are.
 pub record AreSomehowReady (s : IssueInput) (rows : List KeyRow) (n signers : ℕ) : Type 0 where
   pub live : List KeyRow
   pub ready : AreReady s live rows n signers
-
-pub record IsSomehowReady (s : IssueInput) (rows : List KeyRow) (signers : ℕ) (plan : ObjectPlan)
-    : Type 0 where
-  pub live : List KeyRow
-  pub n : ℕ
-  pub ready : IsReady s live rows n signers plan
