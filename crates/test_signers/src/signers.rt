@@ -1,8 +1,9 @@
 //! Cases of signers: a line a case, its fields separated by tabs. The name and the answers are printed.
 //!
 //! `key` and hex: whether the bytes are a public key. `line`, the bytes that come back and calls:
-//! a signer over two streams, whose meetings are counted from 0; the last answer is what it wrote. `ring`, signers and calls. A signer
-//! is `rehearsal` and its start, or `memory`, its start and the calls that fail.
+//! a signer over two streams, whose meetings are counted from 0; the last answer is what it wrote. `greet` and
+//! the bytes that come back: how such a signer is met at the start. `ring`, signers and calls. A signer is
+//! `rehearsal` and its start, or `memory`, its start and the calls that fail.
 //!
 //! A call has the signer's number where one is called. `@` and a number stand for the key or the
 //! signature that this call answered, counted from 0.
@@ -49,6 +50,21 @@ fn run_line(alloc: Global, coming: &str, script: &str) -> Result<String> {
     Ok(answers)
 }
 
+fn greet(alloc: Global, coming: &str) -> Result<String> {
+    let coming = hex::decode(alloc, coming)?;
+    let mut sent: Vec<u8> = Vec::new(alloc);
+    let (met, faults) = {
+        let mut signer = LineSigner::new(coming.as_slice(), &mut sent, 0);
+        (signer.greet(), signer.faults())
+    };
+    let told = match met {
+        Ok(()) => String::from_str(alloc, "met")?,
+        Err(unmet) => format!(in alloc; "{unmet}")?,
+    };
+    let sent = hex::encode(alloc, sent.as_slice())?;
+    Ok(format!(in alloc; "{told}, faults {faults}\t{sent}")?)
+}
+
 fn answer(alloc: Global, fields: &[&str]) -> Result<String> {
     match fields {
         [_, "key", bytes] => {
@@ -58,6 +74,7 @@ fn answer(alloc: Global, fields: &[&str]) -> Result<String> {
         }
         [_, "ring", signers, script] => run_ring(alloc, signers, script),
         [_, "line", coming, script] => run_line(alloc, coming, script),
+        [_, "greet", coming] => greet(alloc, coming),
         _ => bail!("no such case"),
     }
 }
