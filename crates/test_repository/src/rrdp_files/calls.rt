@@ -23,12 +23,7 @@ pub fn answer(alloc: Global, line: &str) -> Result<String> {
     Ok(told)
 }
 
-fn step_text(
-    alloc: Global,
-    editions: &mut Editions,
-    site: &Site,
-    step: &str,
-) -> Result<String> {
+fn step_text(alloc: Global, editions: &mut Editions, site: &Site, step: &str) -> Result<String> {
     match step {
         "newest" => files_text(alloc, &editions.rrdp.files(alloc, false)?),
         "all" => files_text(alloc, &editions.rrdp.files(alloc, true)?),
