@@ -1,10 +1,12 @@
-//! Cases of sets of objects, of RRDP's texts, of the RRDP files of editions, and of outlets.
+//! Cases of sets of objects, of RRDP's texts, of the RRDP files of editions, of outlets, and of the records of a press's
+//! journal.
 //!
 //! A line of standard input is a case, of the part whose heading, `# NAME`, stands above it. Each case's
 //! answer is printed, and each heading once more. Each part's module says what its cases have.
 #![tactic(auto)]
 
 mod outlets;
+mod records;
 mod rrdp;
 mod rrdp_files;
 mod sets;
@@ -33,6 +35,7 @@ fn print_case(rt: &HostRuntime, part: &str, line: &str) -> Result<()> {
         "rrdp" => rrdp::print_case(rt, line),
         "rrdp_files" => rrdp_files::print_case(rt, line),
         "outlets" => outlets::print_case(rt, line),
+        "records" => records::print_case(rt, line),
         _ => bail!("no such part: {part}"),
     }
 }
