@@ -1,5 +1,5 @@
 -- Manifests: their contents, one more at a time, and what becomes of them.
-use Rattle.std.proofs.Common.{◌≡◌, ℕ, ◌+◌, ◌<◌, ◌≤◌, List, [], ◌∷◌, ◌++◌, length, get_or, map, refl, sym, ap, subst, ◌∙◌, arith}
+use Rattle.std.proofs.Common.{◌≡◌, ℕ, ◌<◌, ◌≤◌, List, [], ◌∷◌, ◌++◌, length, get_or, map, refl, sym, ap, subst, ◌∙◌, arith}
 use Rattle.std.specs.Prelude.{Some, Result, Ok, Err, IfOk}
 use Rattle.std.proofs.lemmas.List.{map-append, length-map, get_or-map}
 use Rattle.signer_api.specs.State.{SignerState}
@@ -15,12 +15,11 @@ use Rattle.issue_values.specs.declared.publishers.Publisher.{Publisher}
 use Rattle.issue_values.specs.Publishers.{Publishing, publishing}
 use Rattle.issue_values.specs.Certificates as values
 use Rattle.issue_sign.specs.Signed.{object_bytes, IsEnd, IsObject}
-use Rattle.key_roll.specs.declared.rows.KeyRow.{KeyRow}
 use Rattle.issue_keys.specs.declared.fault.MakeFault.{MakeFault}
 use Rattle.issue_keys.specs.declared.fault.MakeFault.TheVariants.{Memory}
 use Rattle.issue_keys.specs.Faults.{fault_of}
 use Rattle.issue_drafts.specs.Certificates.{IssueInput, input_of, publishing_of}
-use Rattle.issue_drafts.specs.Drafts.{Draft, serial_behind}
+use Rattle.issue_drafts.specs.Drafts.{serial_behind}
 use Rattle.issue_drafts.specs.Drafts.Kind.{Manifest}
 use Rattle.issue_drafts.specs.Views.{manifest_of, IsPlaced}
 use Rattle.issue_drafts.specs.declared.draft.ManifestDraft.{ManifestDraft}
@@ -32,14 +31,14 @@ use Rattle.issue_sign.specs.Calls.{by_issuer, by_once, last_calls}
 use Rattle.issue_sign.specs.SignInput.{SignInputValue, IsSignInput, AreManifests}
 use Rattle.issue_sign.specs.Spelled.{IsSpelled}
 use Rattle.issue_sign.specs.Made.{answers_of, signed, of_manifests, AreMade, IsShort, IsStop}
-use Rattle.issue_sign.specs.inner.Steps.{IsCalled, AreCalled, IsHalt, IsObjectOf, content_answers, Pairs}
+use Rattle.issue_sign.specs.inner.Steps.{IsCalled, AreCalled, IsHalt, IsObjectOf, content_answers}
 use Rattle.issue_sign.specs.inner.Steps.{manifest_text, IsContent, AreContents, last_call, IsManifestOf}
 use Rattle.issue_sign.proofs.Lists.{with_answers, pairs-nil, pairs-push}
 use Rattle.issue_sign.proofs.Going.{Stays, IsSpread, with_last, called-one, first-called-more, first-none, first-short, first-stop}
 use Rattle.issue_sign.proofs.Halts.{halt-as, halt-of-end}
 use Rattle.issue_sign.proofs.Places.{mapped-at, all-at, IsTurn}
 use Rattle.issue_sign.proofs.Said.{publishes}
-use Rattle.issue_sign.proofs.Routes.{answers-of-once}
+use Rattle.issue_sign.proofs.Seconds.{answers-of-once}
 use Rattle.issue_sign.proofs.Finishing.{Finishing, IsPlace, place, known_of, finishing-start, finishing-more, finishing-short, finishing-stop, finishing-end}
 
 abbrev pub content_of : IssueInput → SignInputValue → Signed → Call

@@ -1,16 +1,15 @@
 -- The signers' calls for objects, one more at a time, and why they ended.
-use Rattle.std.proofs.Common.{◌≡◌, ℕ, zero, suc, ◌+◌, ◌<◌, ◌≤◌, List, [], ◌∷◌, ◌++◌, length, get_or, map, drop, refl, sym, ap, subst, ◌∙◌, inl, inr, arith}
-use Rattle.std.specs.List.{All}
-use Rattle.std.proofs.lemmas.List.{append-nil, append_assoc, map-append, length-append, length-map, drop_more}
+use Rattle.std.proofs.Common.{◌≡◌, ℕ, suc, ◌+◌, ◌<◌, ◌≤◌, List, [], ◌∷◌, ◌++◌, length, get_or, map, drop, refl, sym, ap, subst, ◌∙◌, inl, inr, arith}
+use Rattle.std.proofs.lemmas.List.{append-nil, append_assoc, map-append, length-append, drop_more}
 use Rattle.std.proofs.lemmas.List.Elements.{All-nil, All-push, All-append, All-weaker}
 use Rattle.signer_api.specs.State.{SignerState, CountsFault}
 use Rattle.signer_ring.specs.Ring.{ChangesOne}
-use Rattle.signer_ring.specs.Calls.{Call, signer_of, after_call, after_calls, IsVouched}
+use Rattle.signer_ring.specs.Calls.{Call, after_call, after_calls, IsVouched}
 use Rattle.issue_keys.specs.declared.fault.MakeFault.{MakeFault}
 use Rattle.issue_keys.specs.declared.fault.MakeFault.TheVariants.{SignerFault, KeyClash, Memory}
 use Rattle.issue_drafts.specs.Drafts.{Draft}
 use Rattle.issue_sign.specs.Objects.{Answers, Signed}
-use Rattle.issue_sign.specs.Made.{signed, Way, AreBegun, IsFault, IsShort, IsStop}
+use Rattle.issue_sign.specs.Made.{signed, Way, AreBegun, IsShort, IsStop}
 use Rattle.issue_sign.specs.inner.Steps.{IsCalled, AreCalled, IsHalt}
 use Rattle.issue_sign.proofs.Lists.{signed-nil, signed-push, signed-split, signed-append, drafts-of, with_answers, no_answers, lacking, whole}
 

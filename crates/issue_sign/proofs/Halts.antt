@@ -1,24 +1,18 @@
--- Why one call stopped, and what signers keep.
-use Rattle.std.proofs.Common.{◌≡◌, ℕ, ◌<◌, List, [], length, sym, ap, subst, ◌∙◌, inl, inr}
+-- Why one call stopped, and what one signature was as a call.
+use Rattle.std.proofs.Common.{◌≡◌, ℕ, List, [], sym, ap, subst, ◌∙◌, inl, inr}
 use Rattle.signer_api.specs.State.{SignerState, CountsFault}
-use Rattle.signer_ring.specs.Ring.{Keeps, ChangesOne}
-use Rattle.signer_ring.specs.Calls.{Call, signer_of, after_call, IsStopped}
+use Rattle.signer_ring.specs.Ring.{ChangesOne}
+use Rattle.signer_ring.specs.Calls.{Call, signer_of, after_call}
 use Rattle.signer_ring.specs.declared.call_fault.CallFault.{CallFault}
 use Rattle.signer_ring.specs.declared.call_fault.CallFault.TheVariants.{SignerFault, Memory}
 use Rattle.key_roll.specs.declared.rows.KeyRow.{KeyRow}
-use Rattle.issue_sign.specs.Signed.{IsSigned, IsSignedOnce, IsEnd}
+use Rattle.issue_sign.specs.Signed.{IsSigned, IsEnd}
 use Rattle.issue_keys.specs.declared.fault.MakeFault.{MakeFault}
 use Rattle.issue_keys.specs.declared.fault.MakeFault.TheVariants as faults
 use Rattle.issue_keys.specs.Faults.{fault_of}
 use Rattle.issue_sign.specs.Objects.{Answers}
-use Rattle.issue_sign.specs.Calls.{by_issuer, by_once}
+use Rattle.issue_sign.specs.Calls.{by_issuer}
 use Rattle.issue_sign.specs.inner.Steps.{IsCalled, IsHalt}
-
--- A signer that was there is there.
-pub there : (signer : ℕ) (old now : List SignerState) → Keeps old now → signer < length old → signer < length now
-there signer old now kept lt = subst (λ (n : ℕ). signer < n) (sym kept.count) lt
-
--- ---- halts
 
 pub halt-of-end : (e : CallFault) (key : KeyRow) (bytes : List ℕ) (old new : List SignerState) → IsEnd key.signer key.key.bytes bytes old new e
     → IsHalt (λ a. by_issuer key bytes a.last) old new (fault_of e)
@@ -27,12 +21,6 @@ halt-of-end (SignerFault n) key bytes old new h =
 halt-of-end Memory key bytes old new (inl same) = inl same
 halt-of-end Memory key bytes old new (inr (signature, call)) =
     inr (record { once = []; content = []; last = signature }, call)
-
-pub halt-of-stop : (e : CallFault) (key : KeyRow) (bytes : List ℕ) (old new : List SignerState) → IsStopped key.signer old new e
-    → IsHalt (by_once key bytes) old new (fault_of e)
-halt-of-stop (SignerFault n) key bytes old new h =
-    (λ a. sym h.0, subst (λ (m : ℕ). ChangesOne m CountsFault old new) (sym h.0) h.1)
-halt-of-stop Memory key bytes old new h = inl h
 
 -- The same halt at calls that are the same.
 pub halt-as : (call other : Answers → Call) (old new : List SignerState) (fault : MakeFault) → ((a : Answers) → call a ≡ other a)
@@ -47,7 +35,3 @@ pub called-of : (key : KeyRow) (bytes signature other : List ℕ) (old new : Lis
     → IsSigned key.signer key.key.bytes bytes old new signature → IsCalled old new (by_issuer key bytes other)
 called-of key bytes signature other old new e h =
     subst (λ (l : List ℕ). IsCalled old new (by_issuer key bytes l)) e (record { signers = h.call; vouched = h.vouched })
-
-pub called-once : (key : KeyRow) (bytes : List ℕ) (a : Answers) (old new : List SignerState) → IsSignedOnce key.signer a.once bytes old new a.content
-    → IsCalled old new (by_once key bytes a)
-called-once key bytes a old new h = record { signers = h.call; vouched = h.vouched }

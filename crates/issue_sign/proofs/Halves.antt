@@ -1,20 +1,15 @@
 -- What a draft is after its first signature.
-use Rattle.std.proofs.Common.{◌≡◌, ℕ, ◌+◌, ◌<◌, ◌≤◌, List, [], ◌∷◌, ◌++◌, length, get_or, map, refl, sym, ap, subst, ◌∙◌, arith, Bor}
-use Rattle.std.proofs.lemmas.List.{map-append, length-map, length-append}
+use Rattle.std.proofs.Common.{◌≡◌, ℕ, ◌<◌, ◌≤◌, List, [], ◌∷◌, ◌++◌, length, get_or, map, refl, sym, ap, subst, ◌∙◌, arith, Bor}
+use Rattle.std.proofs.lemmas.List.{map-append, length-map}
 use Rattle.signer_api.specs.State.{SignerState}
-use Rattle.signer_ring.specs.Calls.{Call, after_call, after_calls, IsStopped}
+use Rattle.signer_ring.specs.Calls.{Call}
 use Rattle.signer_ring.specs.declared.call_fault.CallFault.{CallFault}
 use Rattle.res_sets.specs.declared.holdings.Resources.{Resources}
 use Rattle.cert_obj.specs.Values.{CertValue}
 use Rattle.cert_obj.specs.Formats as certificates
 use Rattle.crl_obj.specs.Values.{CrlValue}
 use Rattle.crl_obj.specs.Formats as crls
-use Rattle.cms_obj.specs.declared.values.ObjectKind.TheVariants as ObjectKinds
-use Rattle.cms_obj.specs.Formats.{signed_attributes}
-use Rattle.origins.specs.declared.Origin.{Origin}
-use Rattle.payloads.specs.RoaFormats.{IsRoa}
-use Rattle.issue_values.specs.Bodies.{roa_of}
-use Rattle.issue_sign.specs.Signed.{framed, IsEnd, IsCertificate, IsCrlOf}
+use Rattle.issue_sign.specs.Signed.{IsEnd}
 use Rattle.issue_keys.specs.declared.fault.MakeFault.{MakeFault}
 use Rattle.issue_keys.specs.Faults.{fault_of}
 use Rattle.issue_drafts.specs.Certificates.{IssueInput}
@@ -23,66 +18,22 @@ use Rattle.issue_drafts.specs.declared.draft.KeyAt.{KeyAt}
 use Rattle.issue_drafts.specs.declared.draft.Draft as code
 use Rattle.issue_drafts.specs.declared.draft.DraftKind.{DraftKind}
 use Rattle.issue_drafts.specs.declared.draft.DraftKind.TheVariants as kinds
-use Rattle.issue_sign.specs.declared.object.Object.{Object}
-use Rattle.issue_sign.specs.declared.object.SignedContent.{SignedContent}
 use Rattle.issue_sign.specs.declared.firsts.Half.{Half}
-use Rattle.issue_sign.specs.declared.firsts.Half.TheVariants.{Made, Begun}
-use Rattle.issue_sign.specs.Objects.{Answers, Signed, certificate_with, roa_content, crl_of}
-use Rattle.issue_sign.specs.Calls.{by_issuer, by_once, first_call, first_calls, second_calls}
+use Rattle.issue_sign.specs.Objects.{Answers, Signed, certificate_with, crl_of}
+use Rattle.issue_sign.specs.Calls.{by_issuer, first_call, second_calls}
 use Rattle.issue_sign.specs.SignInput.{SignInputValue}
 use Rattle.issue_sign.specs.Made.{signed, of_drafts, IsShort, IsStop}
-use Rattle.issue_sign.specs.inner.Steps.{IsCalled, AreCalled, IsHalt, IsObjectOf, content_answers}
+use Rattle.issue_sign.specs.inner.Steps.{AreCalled, IsHalt}
 use Rattle.issue_sign.specs.inner.Steps.{half_answers, IsHalf, IsFirst, IsDraft, Pairs, AreHalves}
 use Rattle.issue_sign.proofs.Lists.{pairs-nil, pairs-push}
 use Rattle.issue_sign.proofs.Going.{Stays, first-called-more, first-none, first-short, first-stop}
-use Rattle.issue_sign.proofs.Halts.{halt-as, halt-of-end, halt-of-stop}
+use Rattle.issue_sign.proofs.Halts.{halt-as, halt-of-end}
 use Rattle.issue_sign.proofs.Places.{draft-here}
 use Rattle.issue_sign.proofs.Said.{certificate-is}
 
 -- ---- one draft
 
-pub certificate-first : (s : IssueInput) (b : SignInputValue) (d : code.Draft) (given : ℕ) (subject : KeyAt) (held : Bor Resources) (cert : CertValue)
-    (o : Object) (old new : List SignerState) → d.kind ≡ kinds.Authority subject held → IsDraft b d given
-    → cert ≡ certificate_with s b.keys d.issuer.row.now subject.row.now held.now given
-    → IsObjectOf (framed (certificates.signed_bytes cert) o.signature.bytes) (IsCertificate cert o.signature.bytes) o
-    → IsCalled old new (by_issuer d.issuer.row.now (certificates.signed_bytes cert) o.signature.bytes)
-    → IsFirst s b (draft_of d) (kind_of d.kind) (Made o) old new
-certificate-first s b d given subject held cert o old new e is made object called =
-    let at = certificate-is s b d subject held given cert e is made in
-    subst (λ (k : DraftKind). IsFirst s b (draft_of d) (kind_of k) (Made o) old new) (sym e)
-    (record {
-      half = (
-        refl,
-        subst (λ (v : CertValue). IsObjectOf (framed (certificates.signed_bytes v) o.signature.bytes) (IsCertificate v o.signature.bytes) o) at object,
-      );
-      called = subst (λ (v : CertValue). IsCalled old new (by_issuer d.issuer.row.now (certificates.signed_bytes v) o.signature.bytes)) at called;
-    })
-
-pub crl-first : (s : IssueInput) (b : SignInputValue) (d : code.Draft) (crl : CrlValue) (o : Object) (old new : List SignerState) → d.kind ≡ kinds.Crl
-    → crl ≡ crl_of s b.entries d.issuer.row.now → IsObjectOf (framed (crls.signed_bytes crl) o.signature.bytes) (IsCrlOf crl o.signature.bytes) o
-    → IsCalled old new (by_issuer d.issuer.row.now (crls.signed_bytes crl) o.signature.bytes)
-    → IsFirst s b (draft_of d) (kind_of d.kind) (Made o) old new
-crl-first s b d crl o old new e made object called =
-    subst (λ (k : DraftKind). IsFirst s b (draft_of d) (kind_of k) (Made o) old new) (sym e)
-    (record {
-      half = (refl, subst (λ (v : CrlValue). IsObjectOf (framed (crls.signed_bytes v) o.signature.bytes) (IsCrlOf v o.signature.bytes) o) made object);
-      called = subst (λ (v : CrlValue). IsCalled old new (by_issuer d.issuer.row.now (crls.signed_bytes v) o.signature.bytes)) made called;
-    })
-
-pub roa-first : (s : IssueInput) (b : SignInputValue) (d : code.Draft) (origin : Origin) (c : SignedContent) (old new : List SignerState)
-    → d.kind ≡ kinds.Route origin → IsRoa (roa_of origin) → c.content.items ≡ roa_content origin
-    → IsCalled old new (by_once d.issuer.row.now (signed_attributes ObjectKinds.Roa c.content.items s.work.moment) (content_answers c))
-    → IsFirst s b (draft_of d) (kind_of d.kind) (Begun origin c) old new
-roa-first s b d origin c old new e roa content called =
-    subst (λ (k : DraftKind). IsFirst s b (draft_of d) (kind_of k) (Begun origin c) old new) (sym e)
-    (record {
-      half = (refl, roa, content);
-      called = subst
-          (λ (l : List ℕ). IsCalled old new (by_once d.issuer.row.now (signed_attributes ObjectKinds.Roa l s.work.moment) (content_answers c)))
-          content called;
-    })
-
--- The call of another kind's spelling.
+-- A halt at a call that is the first one of the draft's kind.
 halt-at : (s : IssueInput) (b : SignInputValue) (d : code.Draft) (k : DraftKind) (call : Answers → Call) (old new : List SignerState) (fault : MakeFault)
     → d.kind ≡ k → ((a : Answers) → call a ≡ first_call s b.keys b.all b.entries (draft_of d) (kind_of k) a) → IsHalt call old new fault
     → IsHalt (first_call s b.keys b.all b.entries (draft_of d) (kind_of d.kind)) old new fault
@@ -111,15 +62,6 @@ crl-halt s b d crl old new fault e made end =
     halt-at s b d kinds.Crl (λ a. by_issuer key (crls.signed_bytes crl) a.last) old new (fault_of fault) e
     (λ a. ap (λ (v : CrlValue). by_issuer key (crls.signed_bytes v) a.last) made)
     (halt-of-end fault key (crls.signed_bytes crl) old new end)
-
-pub roa-halt : (s : IssueInput) (b : SignInputValue) (d : code.Draft) (origin : Origin) (content : List ℕ) (old new : List SignerState) (fault : CallFault)
-    → d.kind ≡ kinds.Route origin → content ≡ roa_content origin → IsStopped d.issuer.row.now.signer old new fault
-    → IsHalt (first_call s b.keys b.all b.entries (draft_of d) (kind_of d.kind)) old new (fault_of fault)
-roa-halt s b d origin content old new fault e made stopped =
-    let key = d.issuer.row.now in
-    halt-at s b d (kinds.Route origin) (λ a. by_once key (signed_attributes ObjectKinds.Roa content s.work.moment) a) old new (fault_of fault) e
-    (λ a. ap (λ (l : List ℕ). by_once key (signed_attributes ObjectKinds.Roa l s.work.moment) a) made)
-    (halt-of-stop fault key (signed_attributes ObjectKinds.Roa content s.work.moment) old new stopped)
 
 -- ---- one draft more
 

@@ -6,6 +6,6 @@ pub mod Halts
 pub mod Halves
 pub mod Lists
 pub mod Places
-pub mod Routes
 pub mod Said
+pub mod Seconds
 pub mod SignedEnds

@@ -1,12 +1,10 @@
 -- What stands at the place of a draft.
-use Rattle.std.proofs.Common.{◌≡◌, ℕ, ◌+◌, ◌<◌, List, [], ◌∷◌, length, get_or, drop, map, refl, sym, ap, subst, ◌∙◌, arith}
+use Rattle.std.proofs.Common.{◌≡◌, ℕ, ◌+◌, ◌<◌, List, ◌∷◌, length, get_or, drop, map, sym, ap, subst, ◌∙◌, arith}
 use Rattle.std.specs.List.{All}
 use Rattle.std.specs.List.{slice_get}
 use Rattle.std.specs.Prelude.{Some}
 use Rattle.std.proofs.lemmas.List.{get_or-map, get_or-drop, drop-drop, length-drop}
 use Rattle.std.proofs.lemmas.Option.{get_or_from_slice_get, slice_get_within}
-use Rattle.key_roll.specs.declared.rows.KeyRow.{KeyRow}
-use Rattle.issue_drafts.specs.Drafts.{Draft}
 use Rattle.issue_drafts.specs.Views.{draft_of, IsPlaced, IsSubjectPlaced}
 use Rattle.issue_drafts.specs.Serials.{given_serial}
 use Rattle.issue_drafts.specs.declared.draft.Draft as code

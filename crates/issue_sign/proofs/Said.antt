@@ -1,12 +1,10 @@
 -- What is signed is what the draft says.
 use Rattle.std.proofs.Common.{◌≡◌, ℕ, ◌<◌, Bool, true, false, List, length, get_or, map, refl, sym, ap, subst, ◌∙◌, Bor}
 use Rattle.std.specs.Prelude.{if◌then◌else◌, Result, Ok, Err, IfOk}
-use Rattle.std.specs.List.{slice_get}
 use Rattle.std.specs.Str.{bytes_eq}
 use Rattle.std.proofs.lemmas.List.{get_or-map}
 use Rattle.res_sets.specs.declared.holdings.Resources.{Resources}
 use Rattle.origins.specs.declared.Origin.{Origin}
-use Rattle.key_ids.specs.Uris.{Bases}
 use Rattle.key_roll.specs.declared.rows.KeyRow.{KeyRow}
 use Rattle.cert_obj.specs.declared.values.Cert.{Cert}
 use Rattle.cert_obj.specs.Values.{CertValue, cert_value}
@@ -19,10 +17,9 @@ use Rattle.issue_values.specs.Bodies.{crl_value_of}
 use Rattle.key_roll.specs.declared.rows.RevokedRow.{RevokedRow}
 use Rattle.issue_drafts.specs.Certificates.{IssueInput, input_of, is_key, publishing_of}
 use Rattle.issue_drafts.specs.Finding.{Keys}
-use Rattle.issue_drafts.specs.Drafts.{Draft, Kind, has_serial, serial_at}
-use Rattle.issue_drafts.specs.Drafts.Kind.{Certificate, Roa}
+use Rattle.issue_drafts.specs.Drafts.{has_serial, serial_at}
+use Rattle.issue_drafts.specs.Drafts.Kind.{Roa}
 use Rattle.issue_drafts.specs.Views.{draft_of, kind_of, IsPlaced, IsSubjectPlaced}
-use Rattle.issue_drafts.specs.Serials.{given_serial}
 use Rattle.issue_drafts.specs.declared.draft.KeyAt.{KeyAt}
 use Rattle.issue_drafts.specs.declared.draft.Draft as code
 use Rattle.issue_drafts.specs.declared.draft.DraftKind.{DraftKind}

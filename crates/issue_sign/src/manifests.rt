@@ -166,15 +166,15 @@ fn finish_manifest<S: Signer>(
 {
     let SignedContent { content, once } = content;
     let cert = certificate(alloc, sign_input, manifest, &once.key, serial)?;
-    let by = manifest.issuer.row;
+    let row = manifest.issuer.row;
     let signed = sign_object(
         alloc,
         ObjectKind::Manifest,
         &content,
         &cert,
         &once,
-        by.signer,
-        &by.key,
+        row.signer,
+        &row.key,
         ring,
     )?;
     Ok(Object::new(signed, Some(once)))

@@ -84,15 +84,15 @@ fn finish_draft<S: Signer>(
         Half::Begun { origin, content } => {
             let SignedContent { content, once } = content;
             let cert = certificate(alloc, sign_input, draft, &origin, &once.key, serial)?;
-            let by = draft.issuer.row;
+            let row = draft.issuer.row;
             let signed = sign_object(
                 alloc,
                 ObjectKind::Roa,
                 &content,
                 &cert,
                 &once,
-                by.signer,
-                &by.key,
+                row.signer,
+                &row.key,
                 ring,
             )?;
             Ok(Object::new(signed, Some(once)))

@@ -1,5 +1,5 @@
 -- How the signing of an edition's objects goes on, one signature after another.
-use Rattle.std.specs.Prelude.{◌≡◌, ◌⊎◌, ℕ, List, [], ◌∷◌, map, All, Option, None, Some}
+use Rattle.std.specs.Prelude.{◌≡◌, ◌⊎◌, ℕ, List, [], ◌∷◌, map, All, None, Some}
 use Rattle.std.specs.Option.{option_to_list}
 use Rattle.sha2.specs.Sha256.{sha256}
 use Rattle.signer_api.specs.State.{SignerState, CountsFault}
@@ -25,7 +25,7 @@ use Rattle.issue_sign.specs.declared.object.Object.{Object}
 use Rattle.issue_sign.specs.declared.object.SignedContent.{SignedContent}
 use Rattle.issue_sign.specs.declared.firsts.Half.{Half}
 use Rattle.issue_sign.specs.declared.firsts.Half.TheVariants.{Made, Begun}
-use Rattle.issue_sign.specs.Objects.{Answers, Signed, bytes_by, roa_certificate, roa_content}
+use Rattle.issue_sign.specs.Objects.{Answers, bytes_by, roa_certificate, roa_content}
 use Rattle.issue_sign.specs.Objects.{number_of, manifest_certificate, manifest_bytes}
 use Rattle.issue_sign.specs.Calls.{by_issuer, first_call, second_call, first_calls}
 use Rattle.issue_sign.specs.Calls.{content_calls}

@@ -1,4 +1,4 @@
-use Rattle.std.proofs.Common.{◌≡◌, ℕ, ◌+◌, ◌<◌, List, [], ◌∷◌, ◌++◌, length, drop, refl, sym, ap, subst, ◌∙◌, arith}
+use Rattle.std.proofs.Common.{◌≡◌, ℕ, ◌<◌, List, [], ◌∷◌, ◌++◌, length, drop, refl, sym, ap, subst, ◌∙◌, arith}
 use Rattle.std.proofs.lemmas.Result.{err_from_is_err_and}
 use Rattle.std.proofs.lemmas.List.{length_push, nil_from_length}
 use Rattle.std.specs.Vec.Iter.{into_iter_items}
@@ -10,7 +10,7 @@ use Rattle.issue_sign.specs.declared.object.Object.{Object}
 use Rattle.issue_sign.specs.inner.Steps.{IsHalfOfKind, IsHalf}
 use Rattle.signer_ring.specs.laws.KeepsLaws.{kept-all, kept-on}
 use Rattle.issue_sign.proofs.Places.{is-draft, at-turn, turn-at}
-use Rattle.issue_sign.proofs.Routes.{AreFinishing, drafts-start, drafts-short, drafts-end, turn-more, turn-stop}
+use Rattle.issue_sign.proofs.Seconds.{AreFinishing, drafts-start, drafts-short, drafts-end, turn-more, turn-stop}
 use Rattle.issue_sign.proofs.roas.finish_all.Goals as goal
 
 pub returns-in_err-objects-clause-stopped : goal.returns-in_err-objects-clause-stopped

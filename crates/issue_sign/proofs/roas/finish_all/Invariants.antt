@@ -5,7 +5,7 @@ use Rattle.signer_ring.specs.Ring.{Keeps}
 use Rattle.issue_drafts.specs.Certificates.{input_of}
 use Rattle.issue_sign.specs.SignInput.{SignInputValue, IsSignInput, AreDrafts}
 use Rattle.issue_sign.specs.inner.Steps.{AreHalves}
-use Rattle.issue_sign.proofs.Routes.{AreFinishing}
+use Rattle.issue_sign.proofs.Seconds.{AreFinishing}
 use Rattle.issue_sign.proofs.roas.finish_all.Given as goal
 
 abbrev pub invariant-loop-half : goal.invariant-loop-half

@@ -1,7 +1,7 @@
 use Rattle.std.proofs.lemmas.Result.{err_from_is_err_and}
 use Rattle.issue_drafts.specs.Certificates.{input_of}
 use Rattle.issue_drafts.specs.Views.{draft_of}
-use Rattle.issue_sign.proofs.Routes.{roa-short, roa-stopped}
+use Rattle.issue_sign.proofs.Seconds.{roa-short, roa-stopped}
 use Rattle.issue_sign.proofs.roas.finish_draft.Goals as goal
 
 pub returns-in_err-cert-in-Begun-clause-stopped : goal.returns-in_err-cert-in-Begun-clause-stopped

@@ -1,5 +1,5 @@
--- What becomes of a draft that was signed once.
-use Rattle.std.proofs.Common.{◌≡◌, ℕ, suc, ◌+◌, ◌<◌, ◌≤◌, List, [], ◌∷◌, ◌++◌, length, get_or, map, drop, refl, sym, ap, subst, ◌∙◌, inl, inr, arith}
+-- The second signatures: what becomes of a draft that was signed once.
+use Rattle.std.proofs.Common.{◌≡◌, ℕ, List, [], ◌∷◌, ◌++◌, length, map, refl, sym, ap, subst, ◌∙◌, inl, arith}
 use Rattle.std.specs.Prelude.{Option, Some, None}
 use Rattle.std.specs.List.{cons_option}
 use Rattle.std.specs.Option.{option_to_list, option_map_or}
@@ -7,16 +7,13 @@ use Rattle.std.proofs.lemmas.List.{length-map}
 use Rattle.std.proofs.lemmas.List.Elements.{filter_map-append}
 use Rattle.signer_api.specs.State.{SignerState}
 use Rattle.signer_api.specs.declared.values.OneUse.{OneUse}
-use Rattle.signer_ring.specs.Calls.{Call, after_calls}
+use Rattle.signer_ring.specs.Calls.{Call}
 use Rattle.signer_ring.specs.declared.call_fault.CallFault.{CallFault}
 use Rattle.origins.specs.declared.Origin.{Origin}
 use Rattle.cert_obj.specs.declared.values.Cert.{Cert}
 use Rattle.cert_obj.specs.Values.{CertValue, cert_value}
 use Rattle.cert_obj.specs.Formats as certificates
-use Rattle.cms_obj.specs.declared.values.ObjectKind.TheVariants as ObjectKinds
-use Rattle.payloads.specs.RoaFormats.{IsRoa}
-use Rattle.issue_values.specs.Bodies.{roa_of}
-use Rattle.issue_sign.specs.Signed.{object_bytes, IsEnd, IsObject}
+use Rattle.issue_sign.specs.Signed.{IsEnd}
 use Rattle.issue_keys.specs.declared.fault.MakeFault.{MakeFault}
 use Rattle.issue_keys.specs.declared.fault.MakeFault.TheVariants.{Memory}
 use Rattle.issue_keys.specs.Faults.{fault_of}
@@ -30,19 +27,18 @@ use Rattle.issue_sign.specs.declared.object.Object.{Object}
 use Rattle.issue_sign.specs.declared.object.SignedContent.{SignedContent}
 use Rattle.issue_sign.specs.declared.firsts.Half.{Half}
 use Rattle.issue_sign.specs.declared.firsts.Half.TheVariants.{Made, Begun}
-use Rattle.issue_sign.specs.Objects.{Answers, Signed, bytes_by, roa_content, roa_certificate}
-use Rattle.issue_sign.specs.Calls.{by_issuer, first_call, second_call, second_calls}
-use Rattle.issue_sign.specs.SignInput.{SignInputValue, IsSignInput, AreDrafts}
-use Rattle.issue_sign.specs.Spelled.{IsSpelled}
+use Rattle.issue_sign.specs.Objects.{Answers, Signed, roa_certificate}
+use Rattle.issue_sign.specs.Calls.{by_issuer, first_call, second_call}
+use Rattle.issue_sign.specs.SignInput.{SignInputValue, IsSignInput}
 use Rattle.issue_sign.specs.Made.{answers_of, signed, of_drafts, AreMade, IsStop}
-use Rattle.issue_sign.specs.inner.Steps.{IsCalled, AreCalled, IsHalt, IsObjectOf, content_answers, half_answers, IsHalf, IsDraft}
-use Rattle.issue_sign.specs.inner.Steps.{Pairs, AreHalves, IsFinished, IsFinishHalt}
+use Rattle.issue_sign.specs.inner.Steps.{content_answers, half_answers, IsHalf, IsDraft}
+use Rattle.issue_sign.specs.inner.Steps.{AreHalves, IsFinished, IsFinishHalt}
 use Rattle.issue_sign.proofs.Lists.{with_answers}
-use Rattle.issue_sign.proofs.Going.{Stays, IsSpread, with_last, none-called, called-one, called-as}
+use Rattle.issue_sign.proofs.Going.{Stays, IsSpread, with_last, called-as}
 use Rattle.issue_sign.proofs.Halts.{halt-as, halt-of-end}
 use Rattle.issue_sign.proofs.Places.{draft-here, IsTurn}
 use Rattle.issue_sign.proofs.Halves.{first_of, seconds_of}
-use Rattle.issue_sign.proofs.Finishing.{Finishing, IsFor, IsPlace, place, finishing-start, finishing-more, finishing-short, finishing-stop, finishing-end, known_of}
+use Rattle.issue_sign.proofs.Finishing.{Finishing, IsPlace, place, finishing-start, finishing-more, finishing-short, finishing-stop, finishing-end, known_of}
 
 -- ---- ROAs
 
@@ -55,56 +51,10 @@ answers-of-once o c e =
       last = o.signature.bytes;
     } in a) e
 
--- What is to be shown of a ROA, by its kind and what was answered.
-record IsDone (s : IssueInput) (b : SignInputValue) (d : Draft) (c : SignedContent) (o : Object) (old new : List SignerState) (kind : Kind) (a : Answers) : Type 0 where
-  same : first_call s b.keys b.all b.entries d kind a ≡ first_call s b.keys b.all b.entries d kind (content_answers c)
-  calls : AreCalled old new (option_to_list (second_call s b.keys b.all d kind a))
-  object : IsObjectOf (bytes_by s b.keys b.all b.entries d kind a) (IsSpelled s b d kind a) o
-
-roa-done : (s : IssueInput) (b : SignInputValue) (d : Draft) (kind : Kind) (origin : Origin) (c : SignedContent) (o : Object) (cert : CertValue)
-    (old new : List SignerState) → kind ≡ Roa origin → IsRoa (roa_of origin) → c.content.items ≡ roa_content origin
-    → cert ≡ roa_certificate s b.keys b.all d origin c.once.key.bytes → o.once ≡ Some c.once
-    → IsObjectOf (object_bytes ObjectKinds.Roa c.content.items cert o.signature.bytes c.once.key.bytes c.once.signature.bytes)
-    (IsObject ObjectKinds.Roa c.content.items cert o.signature.bytes c.once.key.bytes c.once.signature.bytes) o
-    → IsCalled old new (by_issuer d.issuer (certificates.signed_bytes cert) o.signature.bytes) → IsFinished s b d kind (Begun origin c) o old new
-roa-done s b d kind origin c o cert old new e roa content value once object called =
-    let a = with_last (content_answers c) (answers_of o) in
-    let v = roa_certificate s b.keys b.all d origin c.once.key.bytes in
-    let key = c.once.key.bytes in
-    let signature = c.once.signature.bytes in
-    let read = subst (λ (w : CertValue). IsObjectOf (object_bytes ObjectKinds.Roa (roa_content origin) w o.signature.bytes key signature)
-    (IsObject ObjectKinds.Roa (roa_content origin) w o.signature.bytes key signature) o) value
-    (subst (λ (l : List ℕ). IsObjectOf (object_bytes ObjectKinds.Roa l cert o.signature.bytes key signature)
-    (IsObject ObjectKinds.Roa l cert o.signature.bytes key signature) o) content object) in
-    let at-roa : IsDone s b d c o old new (Roa origin) a = record {
-      same = refl;
-      calls = called-one old new (by_issuer d.issuer (certificates.signed_bytes v) o.signature.bytes)
-          (subst (λ (w : CertValue). IsCalled old new (by_issuer d.issuer (certificates.signed_bytes w) o.signature.bytes)) value called);
-      object = record { bytes = read.bytes; hash = read.hash; known = (roa, read.known) };
-    } in
-    let all : IsDone s b d c o old new kind (answers_of o) =
-    subst (λ (x : Answers). IsDone s b d c o old new kind x) (sym (answers-of-once o c once))
-    (subst (λ (k : Kind). IsDone s b d c o old new k a) (sym e) at-roa) in
-    record { same = all.same; calls = all.calls; object = all.object }
-
 -- What is known of the certificate of a ROA, whichever basis it is of.
 abbrev pub IsRoaCert : SignInput → code.Draft → ℕ → Origin → List ℕ → Cert → Type 0
 IsRoaCert sign_input draft given origin key cert = (b : SignInputValue) → IsSignInput sign_input b → IsDraft b draft given → kind_of draft.kind ≡ Roa origin
     → cert_value cert ≡ roa_certificate (input_of sign_input.input.now) b.keys b.all (draft_of draft) origin key
-
-pub roa-finished : (sign_input : SignInput) (draft : code.Draft) (given : ℕ) (half : Half) (origin : Origin) (c : SignedContent) (cert : Cert) (o : Object)
-    (old new : List SignerState) → half ≡ Begun origin c → IsRoaCert sign_input draft given origin c.once.key.bytes cert
-    → IsObjectOf (object_bytes ObjectKinds.Roa c.content.items (cert_value cert) o.signature.bytes c.once.key.bytes c.once.signature.bytes)
-    (IsObject ObjectKinds.Roa c.content.items (cert_value cert) o.signature.bytes c.once.key.bytes c.once.signature.bytes) o → o.once ≡ Some c.once
-    → IsCalled old new (by_issuer draft.issuer.row.now (certificates.signed_bytes (cert_value cert)) o.signature.bytes) → (b : SignInputValue)
-    → IsSignInput sign_input b → IsDraft b draft given → IsHalf (input_of sign_input.input.now) b (draft_of draft) (kind_of draft.kind) half
-    → IsFinished (input_of sign_input.input.now) b (draft_of draft) (kind_of draft.kind) half o old new
-roa-finished sign_input draft given half origin c cert o old new e value object once called = λ b basis is was.
-    let s = input_of sign_input.input.now in
-    let begun = subst (λ (h : Half). IsHalf s b (draft_of draft) (kind_of draft.kind) h) e was in
-    subst (λ (h : Half). IsFinished s b (draft_of draft) (kind_of draft.kind) h o old new) (sym e)
-    (roa-done s b (draft_of draft) (kind_of draft.kind) origin c o (cert_value cert) old new begun.0 begun.1 begun.2 (value b basis is begun.0) once object
-    called)
 
 pub roa-stopped : (sign_input : SignInput) (draft : code.Draft) (given : ℕ) (half : Half) (origin : Origin) (c : SignedContent) (cert : Cert)
     (old new : List SignerState) (fault : CallFault) → half ≡ Begun origin c → IsRoaCert sign_input draft given origin c.once.key.bytes cert
@@ -127,22 +77,6 @@ roa-stopped sign_input draft given half origin c cert old new fault e value end 
 pub roa-short : (s : IssueInput) (b : SignInputValue) (d : Draft) (half : Half) (origin : Origin) (c : SignedContent) (old : List SignerState)
     → half ≡ Begun origin c → IsFinishHalt s b d half old old Memory
 roa-short s b d half origin c old e = subst (λ (h : Half). IsFinishHalt s b d h old old Memory) (sym e) (inl refl)
-
--- ---- any draft
-
-made-finished : (s : IssueInput) (b : SignInputValue) (d : Draft) (kind : Kind) (o : Object) (old : List SignerState) → IsHalf s b d kind (Made o)
-    → IsFinished s b d kind (Made o) o old old
-made-finished s b d kind o old half = record {
-  same = refl;
-  calls = called-as old old [] (option_to_list (second_call s b.keys b.all d kind (answers_of o))) (ap option_to_list (sym half.0)) (none-called old);
-  object = half.1;
-}
-
-pub finished-as : (s : IssueInput) (b : SignInputValue) (d : Draft) (kind : Kind) (half : Half) (o : Object) (old : List SignerState) → half ≡ Made o
-    → IsHalf s b d kind half → IsFinished s b d kind half o old old
-finished-as s b d kind half o old e is =
-    subst (λ (h : Half). IsFinished s b d kind h o old old) (sym e)
-    (made-finished s b d kind o old (subst (λ (h : Half). IsHalf s b d kind h) e is))
 
 -- ---- all drafts
 
