@@ -68,3 +68,10 @@ pub record AreSuperseded (editions : List Edition) (place : ℕ) (id : List ℕ)
   pub all : (certificate : SignedCert) → IsSuperseded editions place id certificate
       → (entry : RevokedRow) × Contains entries entry
       × IsEntryOf editions place id entry certificate
+
+-- The CRL lists just what is superseded under its key in the edition at that place: each
+-- certificate with the moment of the edition that superseded it (RFC 5280 section 5).
+pub record ListsSuperseded (editions : List Edition) (place : ℕ) (crl : SignedCrl) : Type 0 where
+  pub entries : List RevokedRow
+  pub lists : crl.crl.entries ≡ map crl_entry entries
+  pub superseded : AreSuperseded editions place crl.crl.issuer entries

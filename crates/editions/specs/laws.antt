@@ -1,2 +1,3 @@
 -- Laws: what follows from the definitions, with the proofs.
 pub mod StandingLaws
+pub mod UriLaws

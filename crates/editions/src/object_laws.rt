@@ -3,8 +3,6 @@
 
 ghost use Rattle.std.specs.Prelude.{◌≡◌, ◌<◌, ℕ, List, None, Some, [], ◌∷◌, ◌++◌, Contains, All, AllPairs, map, length, ◌≢◌};
 ghost use Rattle.key_roll.specs.declared.rows.KeyRow.{KeyRow};
-ghost use Rattle.key_roll.specs.declared.rows.RevokedRow.{RevokedRow};
-ghost use Rattle.issue_values.specs.Bodies.{crl_entry};
 ghost use Rattle.cert_obj.specs.Values.{SignedCert};
 ghost use Rattle.crl_obj.specs.Values.{SignedCrl};
 ghost use Rattle.cms_obj.specs.Values.{ObjectValue};
@@ -47,7 +45,7 @@ ghost use Rattle.issue_keys.specs.Keys.{id_of};
 ghost use Rattle.editions.specs.Edition.{Edition, state_after, set_after, AreChanges};
 ghost use Rattle.editions.specs.Table.{IsTable};
 ghost use Rattle.editions.specs.Held.{HaveOwnSerials};
-ghost use Rattle.editions.specs.Superseded.{AreSuperseded, IsCrlOf};
+ghost use Rattle.editions.specs.Superseded.{ListsSuperseded, IsCrlOf};
 ghost use Rattle.editions.specs.Published.{ManifestsRise};
 ghost use Rattle.editions.specs.Step.{Premises, IsStep, AreSteps, counted};
 ghost use Rattle.editions.specs.inner.ByRows.{IsStepByRows, AreListed};
@@ -93,8 +91,7 @@ pub fn new_crls_list_what_is_superseded()
         → AreSteps premises (editions ++ edition ∷ [])
         → set_after (editions ++ edition ∷ []) uri ≡ Some bytes
         → set_after editions uri ≢ Some bytes → crl_in bytes ≡ Some crl
-        → (entries : List RevokedRow) × (crl.crl.entries ≡ map crl_entry entries)
-        × AreSuperseded (editions ++ edition ∷ []) (length editions) crl.crl.issuer entries }
+        → ListsSuperseded (editions ++ edition ∷ []) (length editions) crl }
 {}
 
 /// A manifest that takes the place of another has a greater number and a later thisUpdate (RFC 9286

@@ -1,19 +1,18 @@
 -- The CRLs that the editions of a history put.
-use Rattle.std.proofs.Common.{◌≡◌, ◌≢◌, ℕ, ◌+◌, ◌<◌, sym, subst, ◌∙◌, ap, arith, List, [], ◌∷◌, ◌++◌, length, map, take, Some, length-append}
+use Rattle.std.proofs.Common.{◌≡◌, ◌≢◌, ℕ, ◌+◌, ◌<◌, sym, subst, ◌∙◌, ap, arith, List, [], ◌∷◌, ◌++◌, length, take, Some, length-append}
 use Rattle.std.proofs.lemmas.List.{length-take-le, take-take}
 use Rattle.std.proofs.lemmas.Option.{slice_get_within}
 use Rattle.crl_obj.specs.Values.{SignedCrl}
 use Rattle.key_ids.specs.Uris.{Bases}
 use Rattle.key_roll.specs.declared.rows.RevokedRow.{RevokedRow}
-use Rattle.issue_values.specs.Bodies.{crl_entry}
 use Rattle.rp_rules.specs.Objects.{crl_in}
 use Rattle.editions.specs.Edition.{Edition, set_after}
 use Rattle.editions.specs.Step.{Premises, AreSteps}
-use Rattle.editions.specs.Superseded.{AreSuperseded}
+use Rattle.editions.specs.Superseded.{AreSuperseded, ListsSuperseded}
 use Rattle.histories.specs.Events.{History}
 use Rattle.histories.specs.Legal.{IsLegal}
 use Rattle.histories.specs.Acknowledged.{editions_of, ground_after}
-use Rattle.histories.specs.Published.{HasEdition, ListsSuperseded, set_of}
+use Rattle.histories.specs.Published.{HasEdition, set_of}
 use Rattle.histories.proofs.Kept.{Stay}
 use Rattle.histories.proofs.Holds.{up_to, front_steps}
 
@@ -21,8 +20,7 @@ abbrev pub Listed : Type 0
 Listed = (premises : Premises) (editions : List Edition) (edition : Edition) (uri bytes : List ℕ) (crl : SignedCrl)
     → AreSteps premises (editions ++ edition ∷ [])
     → set_after (editions ++ edition ∷ []) uri ≡ Some bytes → set_after editions uri ≢ Some bytes → crl_in bytes ≡ Some crl
-    → (entries : List RevokedRow) × (crl.crl.entries ≡ map crl_entry entries)
-    × AreSuperseded (editions ++ edition ∷ []) (length editions) crl.crl.issuer entries
+    → ListsSuperseded (editions ++ edition ∷ []) (length editions) crl
 
 abbrev pub Until : Type 0
 Until = (one other : List Edition) (place : ℕ) (id : List ℕ) (entries : List RevokedRow)
@@ -33,7 +31,7 @@ module _ (stay : Stay) (site : Bases) (history : History) (legal : IsLegal site 
   pub crls : Listed → Until → (serial : ℕ) (edition : Edition) → HasEdition history (serial + 1) edition
       → (uri bytes : List ℕ) (crl : SignedCrl)
       → set_of history (serial + 1) uri ≡ Some bytes → set_of history serial uri ≢ Some bytes → crl_in bytes ≡ Some crl
-      → ListsSuperseded history serial crl
+      → ListsSuperseded (editions_of history) serial crl
   crls listed until serial edition has uri bytes crl stands new read =
       let es = editions_of history in
       let all = take has.place es ++ edition ∷ [] in
@@ -51,8 +49,8 @@ module _ (stay : Stay) (site : Bases) (history : History) (legal : IsLegal site 
       let front : take (serial + 1) all ≡ take (serial + 1) es =
       ap (take (serial + 1)) (sym behind) ∙ take-take (serial + 1) (serial + 1) es (omega arith) in
       record {
-        entries = said.0;
-        lists = said.1;
-        superseded = until all es serial crl.crl.issuer said.0 (omega (arith, one_more, counted)) (omega (arith, within, same)) front
-            (subst (λ (n : ℕ). AreSuperseded all n crl.crl.issuer said.0) counted said.2);
+        entries = said.entries;
+        lists = said.lists;
+        superseded = until all es serial crl.crl.issuer said.entries (omega (arith, one_more, counted)) (omega (arith, within, same)) front
+            (subst (λ (n : ℕ). AreSuperseded all n crl.crl.issuer said.entries) counted said.superseded);
       }

@@ -5,7 +5,6 @@ mod Told
 mod Sets
 mod Trees
 mod Holds
-mod Places
 mod Texts
 mod Shown
 mod Shut

@@ -21,7 +21,7 @@ use Rattle.histories.proofs.Lists.{short}
 use Rattle.histories.proofs.Kept.{Stay}
 use Rattle.histories.proofs.Sets.{IsSet}
 use Rattle.histories.proofs.Trees.{Apart, Named, tree_at}
-use Rattle.histories.proofs.Places.{Texts, base-uri, places}
+use Rattle.editions.specs.laws.UriLaws.{Texts, base-uri, places}
 use Rattle.histories.proofs.Texts.{each_found, AreOfBytes, sets_of_bytes, change_is, objects_are}
 use Rattle.histories.proofs.Holds.{Count, turned, commands, some_desk, up_to, number}
 

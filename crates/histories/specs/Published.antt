@@ -1,16 +1,12 @@
 -- The editions that were published in a history, by their serials.
-use Rattle.std.specs.Prelude.{◌≡◌, ℕ, ◌+◌, List, [], ◌∷◌, map, take, slice_get, Some, Ok}
+use Rattle.std.specs.Prelude.{◌≡◌, ℕ, ◌+◌, List, [], ◌∷◌, take, slice_get, Some, Ok}
 use Rattle.pub_set.specs.declared.objects.Object.{Object}
 use Rattle.pub_set.specs.Objects.{content_at, IsAscending}
 use Rattle.pub_set.specs.Changes.{Contents}
 use Rattle.pub_set.specs.Changes as sets
 use Rattle.rrdp_text.specs.Template.{snapshot_in, delta_in}
 use Rattle.rrdp_text.specs.Texts.{snapshot_text, delta_text}
-use Rattle.crl_obj.specs.Values.{SignedCrl}
-use Rattle.key_roll.specs.declared.rows.RevokedRow.{RevokedRow}
-use Rattle.issue_values.specs.Bodies.{crl_entry}
 use Rattle.editions.specs.Edition.{Edition, set_after}
-use Rattle.editions.specs.Superseded.{AreSuperseded}
 use Rattle.histories.specs.Events.{History}
 use Rattle.histories.specs.Acknowledged.{editions_of}
 
@@ -28,13 +24,6 @@ set_of history serial = set_after (take serial (editions_of history))
 abbrev pub applied : Contents → List Edition → Contents
 applied set [] = set
 applied set (edition ∷ rest) = applied (sets.after_all set edition.changes) rest
-
--- The CRL lists just what is superseded under its key in the edition behind that serial: each
--- certificate with the moment of the edition that superseded it (RFC 5280 section 5).
-pub record ListsSuperseded (history : History) (serial : ℕ) (crl : SignedCrl) : Type 0 where
-  pub entries : List RevokedRow
-  pub lists : crl.crl.entries ≡ map crl_entry entries
-  pub superseded : AreSuperseded (editions_of history) serial crl.crl.issuer entries
 
 -- The objects of a set by rising URI, and its snapshot, which is read back as these objects
 -- (RFC 8182 section 3.5.2).

@@ -25,7 +25,8 @@ ghost use Rattle.histories.specs.Acknowledged.{acknowledged, commands_of, editio
 ghost use Rattle.histories.specs.Found.{AreFoundAfter, TakesIn, latest, reopening_by, store_after};
 ghost use Rattle.histories.specs.Refused.{IsReopening, AreNoReopenings};
 ghost use Rattle.histories.specs.Worked.{worked, with_edition, with_doubted_edition};
-ghost use Rattle.histories.specs.Published.{HasEdition, HasSnapshot, HasDelta, ListsSuperseded, set_of, applied};
+ghost use Rattle.editions.specs.Superseded.{ListsSuperseded};
+ghost use Rattle.histories.specs.Published.{HasEdition, HasSnapshot, HasDelta, set_of, applied};
 
 use cmd_codec::listed_names_are_names;
 use editions::{
@@ -86,7 +87,8 @@ pub fn headline()
         (uri bytes : List ℕ) (crl : SignedCrl) → IsLegal site history
         → HasEdition history (serial + 1) edition
         → set_of history (serial + 1) uri ≡ Some bytes → set_of history serial uri ≢ Some bytes
-        → crl_in bytes ≡ Some crl → ListsSuperseded history serial crl }
+        → crl_in bytes ≡ Some crl
+        → ListsSuperseded (editions_of history) serial crl }
     // A manifest that takes the place of another rises, and no two certificates of a key's life have one serial.
     ensures manifests { (site : Bases) (history : History) (serial : ℕ) (edition : Edition)
         → IsLegal site history → HasEdition history (serial + 1) edition

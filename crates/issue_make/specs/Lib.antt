@@ -3,3 +3,4 @@ pub mod Trace
 pub mod ObjectPlan
 pub mod CanMake
 pub mod inner
+pub mod laws

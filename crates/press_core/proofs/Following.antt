@@ -50,7 +50,7 @@ use Rattle.press_core.specs.Signers.{HasAllVouched}
 use Rattle.press_core.specs.Planned.{IsPrepared, basis_for, issue_input_for, calls_for}
 use Rattle.press_core.specs.Stands.{IsLeftBy, StandsFor}
 use Rattle.press_core.specs.Follows.{edition_of, AreBehind, Follows}
-use Rattle.press_core.proofs.Signing.{calls-of-signers}
+use Rattle.issue_make.specs.laws.SignerLaws.{calls-of-signers}
 use Rattle.press_core.proofs.Taking.{cut-long}
 
 -- The names after accepted commands are those of a tree.

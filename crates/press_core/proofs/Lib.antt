@@ -2,7 +2,6 @@ pub mod Drops
 pub mod Holding
 pub mod Ranges
 pub mod Taking
-pub mod Signing
 pub mod Following
 pub mod Stages
 pub mod NextStages

@@ -170,7 +170,7 @@ signed-by n drafts made ordered all =
 
 -- ---- calls
 
-abbrev IsCallOf : ℕ → Call → Type 0
+abbrev pub IsCallOf : ℕ → Call → Type 0
 IsCallOf n call = signer_of call < n
 
 first-of : (n : ℕ) (s : IssueInput) (keys : Keys) (all : List Draft) (entries : Entries) (d : Draft) (kind : Kind) (a : Answers) → IsBy n d → IsCallOf n (first_call s keys all entries d kind a)

@@ -1,0 +1,2 @@
+-- Laws: what follows from the definitions, with the proofs.
+pub mod SignerLaws
