@@ -23,7 +23,7 @@ use Rattle.krill_top.specs.DeskStates.{DeskStates, DeskState, desk_named}
 use Rattle.krill_top.specs.Outcomes.{Outcome, CanBeAccepted, Does, CommandedAt, Commanded, command_fault_of, fault_outcome}
 use Rattle.krill_top.specs.Outcomes.Outcome.{Accepted, NoSuchAuthority}
 use Rattle.krill_top.specs.DesksInStates.{IsIn, AreIn, DeskGoesOn, Leads}
-use Rattle.krill_top.proofs.Granted.{granted_accepted}
+use Rattle.editions.specs.laws.GrantedLaws.{granted_accepted}
 use Rattle.krill_top.proofs.Standing.{At, at_place, settings_in, in_set, one_stored, goes_same, go_on_set, stay}
 
 -- commands that were accepted in turn, and one more

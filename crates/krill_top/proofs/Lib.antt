@@ -2,7 +2,6 @@ pub mod InTurn
 pub mod Standing
 pub mod Vouching
 pub mod Moving
-pub mod Granted
 pub mod Commanding
 pub mod Lists
 pub mod Since

@@ -35,6 +35,7 @@ use Rattle.issue_make.specs.Trace.{IssuingTrace, AreKeys, all_of, row_after, is_
 use Rattle.issue_make.specs.Made.{IsMade}
 use Rattle.press_records.specs.Rows.{RowValue, row_value}
 use Rattle.press_records.specs.Stages.{is_alone, are_two, are_stages, are_staged}
+use Rattle.editions.specs.laws.RowLaws.{either_row, keeps}
 use Rattle.editions.specs.Names.{AreTree}
 use Rattle.editions.specs.Keys.{IsNextBy, AreEach}
 use Rattle.editions.specs.PublishedState.{PublishedStateValue, IsConsistentState}
@@ -132,43 +133,11 @@ module _ (rows : List KeyRow) (apart : AreApart rows) where
 -- ---- their rows
 
 module _ (s : IssueInput) (trace : IssuingTrace) where
-  abbrev either_row : KeyRow → Bool → KeyRow
-  either_row key b = cond b
-      (record key {
-        next_serial = serial_behind (all_of s trace) key + 1;
-        number = key.number + 1;
-        this_update = s.work.moment;
-        revoked = trace.entries key;
-      })
-      (record key {
-        next_serial = serial_behind (all_of s trace) key;
-        revoked = trace.entries key;
-      })
-
-  keeps : KeepsUri (row_after s trace)
-  keeps = record {
-    desk = λ key. desk-by key (has_point s trace.keys key);
-    role = λ key. role-by key (has_point s trace.keys key);
-    key = λ key. id-by key (has_point s trace.keys key);
-  }
-    where
-      desk-by : (key : KeyRow) (b : Bool) → (either_row key b).desk ≡ key.desk
-      desk-by key true = refl
-      desk-by key false = refl
-
-      role-by : (key : KeyRow) (b : Bool) → (either_row key b).role ≡ key.role
-      role-by key true = refl
-      role-by key false = refl
-
-      id-by : (key : KeyRow) (b : Bool) → id_of (either_row key b) ≡ id_of key
-      id-by key true = refl
-      id-by key false = refl
-
   after-bare : (key : KeyRow) → bare (row_value (row_after s trace key)) ≡ bare (row_value key)
   unfolding bare
   after-bare key = by (has_point s trace.keys key)
     where
-      by : (b : Bool) → bare (row_value (either_row key b)) ≡ bare (row_value key)
+      by : (b : Bool) → bare (row_value (either_row s trace key b)) ≡ bare (row_value key)
       by true = refl
       by false = refl
 

@@ -25,7 +25,8 @@ use Rattle.issue_plan.specs.Keys.{Basis, id_of, row_of, kept, turned, made, keys
 use Rattle.key_roll.specs.Roles.{is_role}
 use Rattle.press_records.specs.Rows.{RowValue, row_value}
 use Rattle.press_records.specs.Stages.{is_alone, are_two, are_stages, are_staged}
-use Rattle.press_core.proofs.Stages.{role-is, is-alone, begun-two, ended-two, Agree, IsGroup, stages-then, staged-first}
+use Rattle.press_core.proofs.Stages.{is-alone, begun-two, ended-two, Agree, IsGroup, stages-then, staged-first}
+use Rattle.editions.specs.laws.RowLaws.{role-is}
 
 -- A next key as a record would have it, but for its key and counters.
 abbrev pub next_value : NextKey → RowValue

@@ -11,6 +11,7 @@ use Rattle.key_roll.specs.Roles.{is_role}
 use Rattle.issue_plan.specs.Keys.{row_of}
 use Rattle.press_records.specs.Rows.{RowValue, row_value}
 use Rattle.press_records.specs.Stages.{is_alone, are_two, are_stages, are_staged}
+use Rattle.editions.specs.laws.RowLaws.{role-is}
 
 both : (a b : Bool) → a ≡ true → b ≡ true → (a && b) ≡ true
 both a b p q = rw (p, q) refl
@@ -30,17 +31,6 @@ le-true m n e = grind (arith, nat_tests)
 
 true-le : (m n : ℕ) → nat_le m n ≡ true → m ≤ n
 true-le m n e = grind (arith, nat_tests)
-
-pub role-is : (role wanted : Role) → is_role role wanted ≡ true → role ≡ wanted
-role-is New New e = refl
-role-is New Current e = absurd cc
-role-is New Old e = absurd cc
-role-is Current New e = absurd cc
-role-is Current Current e = refl
-role-is Current Old e = absurd cc
-role-is Old New e = absurd cc
-role-is Old Current e = absurd cc
-role-is Old Old e = refl
 
 -- ---- what a stage says
 

@@ -28,7 +28,7 @@ use Rattle.test_histories.specs.declared.done.Done.{Done}
 use Rattle.test_histories.specs.declared.done.Done.TheVariants as told
 use Rattle.test_histories.specs.Told.{IsTold}
 use Rattle.test_histories.specs.Standing.{IsDesk, store_of, IsAt}
-use Rattle.test_histories.proofs.Granted.{granted_accepted}
+use Rattle.editions.specs.laws.GrantedLaws.{granted_accepted}
 use Rattle.test_histories.proofs.More.{MoreStands, left_then, legal_then, told_then, same_begins}
 use Rattle.test_histories.proofs.Places.{HasJournal, desk_at, put_desk, changed_long, more_lists}
 

@@ -1,4 +1,3 @@
-mod Granted
 mod More
 mod Places
 mod Commanded

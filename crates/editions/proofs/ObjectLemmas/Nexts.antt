@@ -20,6 +20,7 @@ use Rattle.issue_plan.specs.Keys.{Basis, row_of, kept, turned, made, keys_after,
 use Rattle.key_roll.specs.Roles.{is_role}
 use Rattle.items.specs.laws.ElementLaws.{found-in}
 use Rattle.items.specs.laws.PairLaws.{Each, Twos, each-at, each-append, each-weaker, twos-append}
+use Rattle.editions.specs.laws.RowLaws.{role-is}
 use Rattle.editions.proofs.ObjectLemmas.Views.{apart-same}
 
 -- ---- one of them
@@ -54,17 +55,6 @@ pub record IsBefore (a b : NextKey) : Type 0 where
   pub other : AreOther a.name b.name
 
 -- ---- the rows that are found
-
-pub role-is : (role wanted : Role) → is_role role wanted ≡ true → role ≡ wanted
-role-is New New e = refl
-role-is New Current e = absurd cc
-role-is New Old e = absurd cc
-role-is Current New e = absurd cc
-role-is Current Current e = refl
-role-is Current Old e = absurd cc
-role-is Old New e = absurd cc
-role-is Old Current e = absurd cc
-role-is Old Old e = refl
 
 record IsFound (rows : List KeyRow) (desk : ℕ) (role : Role) (row : KeyRow) : Type 0 where
   live : Contains rows row

@@ -11,6 +11,7 @@ use Rattle.issue_drafts.specs.Certificates.{IssueInput}
 use Rattle.issue_drafts.specs.Drafts.{Draft, serial_behind}
 use Rattle.issue_drafts.specs.Revoking.{has_point}
 use Rattle.issue_make.specs.Trace.{IssuingTrace, all_of, row_after, is_before}
+use Rattle.editions.specs.laws.RowLaws.{keeps}
 use Rattle.editions.specs.Wanted.{new_objects}
 use Rattle.editions.specs.Step.{counted}
 use Rattle.editions.specs.inner.PlanAndTable.{made_from, KeepsUri, AreOfPlan}
@@ -47,25 +48,6 @@ module _ (plan_input : PlanInput) (work : Work) (trace : IssuingTrace)
   either_row key b =
       cond b (with_point key (serial_behind (all_of s trace) key + 1) work.moment) (without key)
 
-  keeps : KeepsUri (row_after s trace)
-  keeps = record {
-    desk = λ key. desk-by key (has_point s trace.keys key);
-    role = λ key. role-by key (has_point s trace.keys key);
-    key = λ key. id-by key (has_point s trace.keys key);
-  }
-    where
-      desk-by : (key : KeyRow) (b : Bool) → (either_row key b).desk ≡ key.desk
-      desk-by key true = refl
-      desk-by key false = refl
-
-      role-by : (key : KeyRow) (b : Bool) → (either_row key b).role ≡ key.role
-      role-by key true = refl
-      role-by key false = refl
-
-      id-by : (key : KeyRow) (b : Bool) → id_of (either_row key b) ≡ id_of key
-      id-by key true = refl
-      id-by key false = refl
-
   row-same : (key : KeyRow) → Contains plan.keys key
       → row_after s trace key ≡ counted plan_input plan.keys trace.entries key
   row-same key c =
@@ -79,5 +61,5 @@ module _ (plan_input : PlanInput) (work : Work) (trace : IssuingTrace)
       → IsSortedBy is_before rows
       → rows ≡ map (counted plan_input plan.keys trace.entries) plan.keys
   rows-counted rows moved sorted =
-      plan.ordered (row_after s trace) keeps rows moved sorted
+      plan.ordered (row_after s trace) (keeps s trace) rows moved sorted
       ∙ map-agree-in (row_after s trace) (counted plan_input plan.keys trace.entries) plan.keys row-same

@@ -41,6 +41,7 @@ use Rattle.pub_set.specs.laws.UriLaws.{same_is as same-is, uri_total}
 use Rattle.issue_drafts.specs.Revoking.{has_point, is_listed, is_superseded, is_touched, revoked_row, candidates}
 use Rattle.issue_sign.specs.Objects.{Signed}
 use Rattle.issue_make.specs.Trace.{IssuingTrace, AreKeys, IsIssuingTrace, all_of, puts_of, made_of, put_of, hash_at, withdrawal_at, or_else, wanted_at, IsIssued, row_after, is_before}
+use Rattle.editions.specs.laws.RowLaws.{either_row, keeps}
 use Rattle.editions.specs.inner.PlanAndTable.{made_from, KeepsUri, AreOfPlan}
 use Rattle.issue_plan.specs.declared.keys.NextKey.{NextKey}
 use Rattle.issue_plan.specs.Keys.{next_keys}
@@ -104,54 +105,22 @@ not-none (Some y) b x e none = absurd cc
 -- ---- the rows of the keys
 
 module _ (s : IssueInput) (trace : IssuingTrace) where
-  abbrev either_row : KeyRow → Bool → KeyRow
-  either_row key b = cond b
-      (record key {
-        next_serial = serial_behind (all_of s trace) key + 1;
-        number = key.number + 1;
-        this_update = s.work.moment;
-        revoked = trace.entries key;
-      })
-      (record key {
-        next_serial = serial_behind (all_of s trace) key;
-        revoked = trace.entries key;
-      })
-
-  pub keeps : KeepsUri (row_after s trace)
-  keeps = record {
-    desk = λ key. desk-by key (has_point s trace.keys key);
-    role = λ key. role-by key (has_point s trace.keys key);
-    key = λ key. id-by key (has_point s trace.keys key);
-  }
-    where
-      desk-by : (key : KeyRow) (b : Bool) → (either_row key b).desk ≡ key.desk
-      desk-by key true = refl
-      desk-by key false = refl
-
-      role-by : (key : KeyRow) (b : Bool) → (either_row key b).role ≡ key.role
-      role-by key true = refl
-      role-by key false = refl
-
-      id-by : (key : KeyRow) (b : Bool) → id_of (either_row key b) ≡ id_of key
-      id-by key true = refl
-      id-by key false = refl
-
   keeps-signer : (key : KeyRow) → (row_after s trace key).signer ≡ key.signer
   keeps-signer key = by (has_point s trace.keys key)
     where
-      by : (b : Bool) → (either_row key b).signer ≡ key.signer
+      by : (b : Bool) → (either_row s trace key b).signer ≡ key.signer
       by true = refl
       by false = refl
 
   has-entries : (key : KeyRow) → (row_after s trace key).revoked ≡ trace.entries key
   has-entries key = by (has_point s trace.keys key)
     where
-      by : (b : Bool) → (either_row key b).revoked ≡ trace.entries key
+      by : (b : Bool) → (either_row s trace key b).revoked ≡ trace.entries key
       by true = refl
       by false = refl
 
   updated : (key : KeyRow) → has_point s trace.keys key ≡ true → (row_after s trace key).this_update ≡ s.work.moment
-  updated key e = ap (λ (b : Bool). (either_row key b).this_update) e
+  updated key e = ap (λ (b : Bool). (either_row s trace key b).this_update) e
 
   same-signer : (row : KeyRow) (r : Option RoleWork) → (with_role row r).signer ≡ row.signer
   same-signer row None = refl

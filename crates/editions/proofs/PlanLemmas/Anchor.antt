@@ -20,7 +20,7 @@ use Rattle.issue_plan.specs.Keys.{Basis, row_of, inits_of, kept, turned, made, k
 use Rattle.key_roll.specs.Roles.{is_role}
 use Rattle.items.specs.laws.AmongLaws.{In, in-all, in-parts, found-in}
 use Rattle.editions.proofs.PlanLemmas.Pairs.{Twos, twos-append}
-use Rattle.editions.proofs.ObjectLemmas.Nexts.{role-is}
+use Rattle.editions.specs.laws.RowLaws.{role-is}
 
 -- ---- no rollover begins
 

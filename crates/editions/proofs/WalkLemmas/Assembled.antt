@@ -38,7 +38,7 @@ use Rattle.editions.specs.Step.{Premises, IsStep, AreSteps, plan_input_at, count
 use Rattle.editions.specs.Published.{looking, yielded_for, IsPublished}
 use Rattle.editions.specs.Names.{AreTree}
 use Rattle.items.specs.laws.AmongLaws.{In, in-all, all-in}
-use Rattle.editions.proofs.WalkLemmas.Rows.{rows-apart, last-step, current-kept}
+use Rattle.editions.proofs.WalkLemmas.Rows.{issuance, rows-apart, last-step, current-kept}
 use Rattle.editions.proofs.WalkLemmas.KeyTree.{in-tree}
 use Rattle.editions.proofs.WalkLemmas.Serials.{unrevoked}
 use Rattle.editions.proofs.WalkLemmas.Endings.{ending}
@@ -121,14 +121,7 @@ module _ (own : (premises : Premises) (editions : List Edition) (id : List ℕ) 
 
   -- What the edition is made of.
   abbrev m : Issuance
-  m = record {
-    vouched = premises.vouched;
-    plan_input = plan_input_at premises (state_after editions) edition step.sets step.owed step.issued;
-    keys = step.made.keys;
-    entries = step.made.entries;
-    old = set_after editions;
-    new = set_after (editions ++ edition ∷ []);
-  }
+  m = issuance premises last.0 editions edition step
 
   before : AllPairs (λ a b. id_of a ≢ id_of b) m.plan_input.basis.rows
   before = rows-apart premises editions edition steps

@@ -16,22 +16,27 @@ use Rattle.issue_drafts.specs.Finding.{Keys}
 use Rattle.issue_drafts.specs.Certificates.{IssueInput}
 use Rattle.issue_drafts.specs.Drafts.{certificate_draft, roa_draft, crl_draft, manifest_draft}
 use Rattle.editions.specs.Keys.{AreNext}
-use Rattle.editions.specs.Edition.{Edition, state_after, set_after}
+use Rattle.editions.specs.Edition.{Edition, state_after}
 use Rattle.editions.specs.Wanted.{there, whole, all_certificates, all_roas}
 use Rattle.editions.specs.Objects.{Issuance, IsNewSet}
 use Rattle.editions.specs.Names.{AreTree}
 use Rattle.editions.specs.Drafted.{HaveDrafts}
 use Rattle.editions.specs.Step.{Premises, IsStep, AreSteps, plan_input_at, configs_at}
 use Rattle.items.specs.laws.AmongLaws.{In, all-in, map-in, filter-map-in}
-use Rattle.editions.proofs.WalkLemmas.Rows.{rows-apart}
+use Rattle.editions.proofs.WalkLemmas.Rows.{issuance, rows-apart}
 use Rattle.editions.proofs.WalkLemmas.Seats as seats
 use Rattle.editions.proofs.WalkLemmas.Stands as stands
 
-module _ (m : Issuance) (tree : AreTree (names_of m.plan_input.basis.configs))
-    (are : AreCertified m.plan_input.basis.configs m.plan_input.basis.sets)
-    (before : AllPairs (λ a b. id_of a ≢ id_of b) m.plan_input.basis.rows)
-    (next : AreNext m.plan_input.basis.rows (next_keys m.plan_input.basis) m.keys)
-    (set : IsNewSet m) (owes : AreOwed m.plan_input.basis.configs m.plan_input.owed) where
+-- What is known of what an edition is made of.
+pub record IsIssued (m : Issuance) : Type 0 where
+  pub tree : AreTree (names_of m.plan_input.basis.configs)
+  pub certified : AreCertified m.plan_input.basis.configs m.plan_input.basis.sets
+  pub apart : AllPairs (λ a b. id_of a ≢ id_of b) m.plan_input.basis.rows
+  pub next : AreNext m.plan_input.basis.rows (next_keys m.plan_input.basis) m.keys
+  pub new : IsNewSet m
+  pub owes : AreOwed m.plan_input.basis.configs m.plan_input.owed
+
+module _ (m : Issuance) (is : IsIssued m) where
   abbrev w : IssueInput
   w = whole m.plan_input m.keys
 
@@ -45,36 +50,36 @@ module _ (m : Issuance) (tree : AreTree (names_of m.plan_input.basis.configs))
   certificate_for = certificate_of m.plan_input.basis.configs m.plan_input.basis.sets nexts
 
   each-key : (k : KeyRow) → In k m.keys → IsSome (certificate_for (kept k))
-  each-key k at = ap is_some (seats.work-is m tree are before next set k at)
+  each-key k at = ap is_some (seats.work-is m is.tree is.certified is.apart is.next is.new k at)
 
   each-origin : (o : Owed) → In o m.plan_input.owed → IsSome (roa_of nexts o)
-  each-origin o at = ap is_some (stands.work-is m tree are before next set [] owes o at)
+  each-origin o at = ap is_some (stands.work-is m is.tree is.certified is.apart is.next is.new [] is.owes o at)
 
   certificates : (cert : CertWork) → In cert (all_certificates m.plan_input m.keys)
       → IsSome (certificate_draft w ks cert)
   certificates cert inside =
       let n = filter-map-in certificate_for cert nexts inside in
       let k = map-in kept n.0 m.keys n.1 in
-      let work : CertWork = seats.work m tree are before next set k.0 k.1 in
+      let work : CertWork = seats.work m is.tree is.certified is.apart is.next is.new k.0 k.1 in
       let same : work ≡ cert = same_Some work cert
-      (sym (seats.work-is m tree are before next set k.0 k.1) ∙ (ap certificate_for k.2 ∙ n.2)) in
+      (sym (seats.work-is m is.tree is.certified is.apart is.next is.new k.0 k.1) ∙ (ap certificate_for k.2 ∙ n.2)) in
       subst (λ (c : CertWork). IsSome (certificate_draft w ks c)) same
-      (ap is_some (seats.draft-is m tree are before next set k.0 k.1))
+      (ap is_some (seats.draft-is m is.tree is.certified is.apart is.next is.new k.0 k.1))
 
   roas : (roa : RoaWork) → In roa (all_roas m.plan_input m.keys) → IsSome (roa_draft w ks roa)
   roas roa inside =
       let o = filter-map-in (roa_of nexts) roa m.plan_input.owed inside in
-      let work : RoaWork = stands.work m tree are before next set [] owes o.0 o.1 in
+      let work : RoaWork = stands.work m is.tree is.certified is.apart is.next is.new [] is.owes o.0 o.1 in
       let same : work ≡ roa = same_Some work roa
-      (sym (stands.work-is m tree are before next set [] owes o.0 o.1) ∙ o.2) in
+      (sym (stands.work-is m is.tree is.certified is.apart is.next is.new [] is.owes o.0 o.1) ∙ o.2) in
       subst (λ (r : RoaWork). IsSome (roa_draft w ks r)) same
-      (ap is_some (stands.roa-draft-is m tree are before next set [] owes o.0 o.1))
+      (ap is_some (stands.roa-draft-is m is.tree is.certified is.apart is.next is.new [] is.owes o.0 o.1))
 
   crls : (k : KeyRow) → In k m.keys → IsSome (crl_draft w ks (point_of (kept k)))
-  crls k at = ap is_some (stands.crl-draft-is m tree are before next set [] k at)
+  crls k at = ap is_some (stands.crl-draft-is m is.tree is.certified is.apart is.next is.new [] k at)
 
   manifests : (k : KeyRow) → In k m.keys → IsSome (manifest_draft w ks (point_of (kept k)))
-  manifests k at = ap is_some (stands.manifest-draft-is m tree are before next set [] k at)
+  manifests k at = ap is_some (stands.manifest-draft-is m is.tree is.certified is.apart is.next is.new [] k at)
 
   pub have-drafts : HaveDrafts m.plan_input m.keys
   have-drafts = record {
@@ -97,14 +102,12 @@ pub wanted-drafted : (premises : Premises) (clock : ℕ) (editions : List Editio
     → HaveDrafts (plan_input_at premises (state_after editions) edition step.sets step.owed step.issued)
     step.made.keys
 wanted-drafted premises clock editions edition steps tree step =
-    let m : Issuance = record {
-      vouched = premises.vouched;
-      plan_input = plan_input_at premises (state_after editions) edition step.sets step.owed
-          step.issued;
-      keys = step.made.keys;
-      entries = step.made.entries;
-      old = set_after editions;
-      new = set_after (editions ++ edition ∷ []);
-    } in
-    have-drafts m tree step.made.certified (rows-apart premises editions edition steps) step.made.next
-    step.made.set step.made.owes
+    let m : Issuance = issuance premises clock editions edition step in
+    have-drafts m (record {
+      tree = tree;
+      certified = step.made.certified;
+      apart = rows-apart premises editions edition steps;
+      next = step.made.next;
+      new = step.made.set;
+      owes = step.made.owes;
+    })

@@ -44,7 +44,7 @@ use Rattle.editions.proofs.ObjectLemmas.Numbers.{listing, numbering}
 use Rattle.editions.proofs.ObjectLemmas.Views.{held-given}
 use Rattle.editions.proofs.ObjectLemmas.History.{seen, positive}
 use Rattle.editions.proofs.ObjectLemmas.Lasts.{get-last, take-count}
-use Rattle.editions.proofs.WalkLemmas.Rows.{rows-apart, last-step}
+use Rattle.editions.proofs.WalkLemmas.Rows.{issuance, rows-apart, last-step}
 use Rattle.editions.proofs.WalkLemmas.Members.{members}
 use Rattle.editions.proofs.WalkLemmas.Seats as seats
 use Rattle.editions.proofs.WalkLemmas.Stands as stands
@@ -328,14 +328,7 @@ module _ (premises : Premises) (editions : List Edition) (edition : Edition)
   step = last.1
 
   abbrev m : Issuance
-  m = record {
-    vouched = premises.vouched;
-    plan_input = plan_input_at premises (state_after editions) edition step.sets step.owed step.issued;
-    keys = step.made.keys;
-    entries = step.made.entries;
-    old = set_after editions;
-    new = set_after (editions ++ edition ∷ []);
-  }
+  m = issuance premises last.0 editions edition step
 
   pub in-profile : IsInProfile (set_after more)
   in-profile =

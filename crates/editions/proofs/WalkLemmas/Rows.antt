@@ -11,12 +11,25 @@ use Rattle.issue_sign.specs.Objects.{Entries}
 use Rattle.issue_plan.specs.Keys.{row_of}
 use Rattle.key_roll.specs.Roles.{is_role}
 use Rattle.issue_plan.specs.Wanted.{PlanInput}
-use Rattle.editions.specs.Edition.{Edition, State, first_state, after_edition, state_from, state_after}
+use Rattle.editions.specs.Edition.{Edition, State, first_state, after_edition, state_from, state_after, set_after}
+use Rattle.editions.specs.Objects.{Issuance}
 use Rattle.editions.specs.Step.{Premises, IsStep, AreSteps, plan_input_at, counted, configs_at}
 use Rattle.editions.specs.Names.{AreTree}
 use Rattle.editions.specs.inner.KeyTree.{HasIssuer, IsInTree, AreOfTree}
 use Rattle.items.specs.laws.AmongLaws.{all-in, map-in}
 use Rattle.editions.proofs.WalkLemmas.KeyTree.{in-tree}
+
+-- What an edition that is a step is made of.
+abbrev pub issuance : (premises : Premises) (clock : ℕ) (editions : List Edition) (edition : Edition)
+    → IsStep premises clock editions edition → Issuance
+issuance premises clock editions edition step = record {
+  vouched = premises.vouched;
+  plan_input = plan_input_at premises (state_after editions) edition step.sets step.owed step.issued;
+  keys = step.made.keys;
+  entries = step.made.entries;
+  old = set_after editions;
+  new = set_after (editions ++ edition ∷ []);
+}
 
 abbrev AreApart : List KeyRow → Type 0
 AreApart rows = AllPairs (λ a b. id_of a ≢ id_of b) rows
