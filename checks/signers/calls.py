@@ -57,8 +57,8 @@ def start_caller(folder):
 
 
 def call(caller, line):
-    """An answer to a call, which is made again for a second: a signer may still leave an earlier caller."""
-    for _ in range(20):
+    """An answer to a call, which is made again for some seconds: a signer may still leave an earlier caller."""
+    for _ in range(200):
         answered = ask(caller, line)
         if answered != "signer 0 failed":
             return answered
