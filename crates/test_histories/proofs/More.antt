@@ -1,12 +1,16 @@
 -- A history with one event more, and what is told of it.
-use Rattle.std.proofs.Common.{◌≡◌, refl, sym, subst, ◌∙◌, ap, List, [], ◌∷◌, ◌++◌, append_assoc, append-nil}
+use Rattle.std.proofs.Common.{◌≡◌, ℕ, refl, sym, subst, ◌∙◌, ap, true, false, List, [], ◌∷◌, ◌++◌, append_assoc, append-nil}
+use Rattle.std.specs.Prelude.{Bool, ◌||◌}
+use Rattle.std.specs.List.{list_any}
+use Rattle.std.proofs.lemmas.Bool.{false≢true}
+use Rattle.std.proofs.lemmas.List.Folds.{list_any-append}
 use Rattle.key_ids.specs.Uris.{Bases}
 use Rattle.authority_book.specs.declared.commands.Command.{Command}
 use Rattle.editions.specs.Edition.{Edition}
 use Rattle.editions.specs.PublishedState.{PublishedStateValue}
 use Rattle.editions.specs.Step.{Premises, BeginsWith, AreMore, IsMore}
 use Rattle.press_core.specs.Stands.{StandsFor}
-use Rattle.histories.specs.Devices.{Store, new_store}
+use Rattle.histories.specs.Devices.{Signature, Store, new_store, is_signature, are_vouched}
 use Rattle.histories.specs.Events.{Happening, History, after_one, after_all, signing}
 use Rattle.histories.specs.Legal.{IsAllowed, AreAllowed, IsLegal}
 use Rattle.histories.specs.Found.{store_after}
@@ -60,3 +64,15 @@ same_begins list = ([], sym (append-nil list))
 pub same_are_more : (lists : List (List Command)) → AreMore lists lists
 same_are_more [] = tt
 same_are_more (list ∷ lists) = (same_begins list, same_are_more lists)
+
+-- ---- more signatures
+
+true_or : (a b : Bool) → a ≡ true → (a || b) ≡ true
+true_or true b is = refl
+true_or false b is = absurd (false≢true is)
+
+pub still_vouched : (before more : List Signature) (key digest bytes : List ℕ) → are_vouched before key digest bytes ≡ true
+    → are_vouched (before ++ more) key digest bytes ≡ true
+still_vouched before more key digest bytes is =
+    let test = is_signature key digest bytes in
+    list_any-append test before more ∙ true_or (list_any test before) (list_any test more) is

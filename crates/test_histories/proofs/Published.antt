@@ -1,6 +1,7 @@
 -- An edition is published, and the history goes on.
-use Rattle.std.proofs.Common.{◌≡◌, ℕ, ◌<◌, ◌≤◌, refl, sym, subst, ◌∙◌, ap, arith, true, false, List, [], ◌∷◌, ◌++◌, length, get_or, append_assoc, append-nil, Some}
-use Rattle.std.specs.Prelude.{Bool, ◌&&◌, ◌||◌, All, slice_get}
+use Rattle.std.proofs.Common.{◌≡◌, ℕ, ◌<◌, ◌≤◌, refl, sym, subst, ◌∙◌, ap, arith, true, false, List, [], ◌∷◌, ◌++◌, length, get_or, append_assoc, append-nil, Some, inl, inr}
+use Rattle.std.specs.Prelude.{Bool, ◌&&◌, ◌||◌, All, Vec, slice_get, if◌then◌else◌}
+use Rattle.std.specs.declared.alloc.Global.{Global}
 use Rattle.std.specs.List.{list_any}
 use Rattle.std.specs.Str.{bytes_eq}
 use Rattle.std.proofs.lemmas.Bool.{false≢true}
@@ -8,6 +9,7 @@ use Rattle.std.proofs.lemmas.Slice.Eq.{bytes_eq-Decides}
 use Rattle.std.proofs.lemmas.List.Elements.{All-nil, All-cons}
 use Rattle.std.proofs.lemmas.List.Folds.{list_any-append}
 use Rattle.disk_api.specs.declared.memory.MemoryDisk.{MemoryDisk}
+use Rattle.authority_book.specs.declared.commands.Command.{Command}
 use Rattle.authority_book.specs.declared.rows.NameRow.{NameRow}
 use Rattle.desk_core.specs.View.{View}
 use Rattle.entitle.specs.Certified.{names_of}
@@ -34,14 +36,15 @@ use Rattle.press_core.specs.Stands.{StandsFor}
 use Rattle.press_core.specs.Follows.{edition_of, AreBehind, Follows, IsNextEdition}
 use Rattle.histories.specs.Devices.{Signature, Store, is_signature, are_vouched, lists_of}
 use Rattle.histories.specs.Events.{Happening, signing}
-use Rattle.histories.specs.Events.Event.{Publish}
+use Rattle.histories.specs.Events.Event.{Publish, Stop}
 use Rattle.histories.specs.Legal.{IsOfBytes, IsLegal, MayBePublished, ground_of}
 use Rattle.test_histories.specs.declared.done.Done.{Done}
 use Rattle.test_histories.specs.declared.done.Done.TheVariants as told
-use Rattle.test_histories.specs.Told.{IsPublication, AreTold}
+use Rattle.test_histories.specs.Told.{lists_of as lists_told, IsStopPublishing, AreTold}
 use Rattle.test_histories.specs.Gathered.{AreSince}
-use Rattle.test_histories.specs.Standing.{store_of, IsAt}
-use Rattle.test_histories.proofs.More.{MoreStands, left_then, legal_then, told_then, same_are_more}
+use Rattle.test_histories.specs.Standing.{AreOpenedAgain, store_of, IsAt}
+use Rattle.test_histories.proofs.More.{MoreStands, left_then, legal_then, told_then, same_are_more, still_vouched}
+use Rattle.test_histories.proofs.Reopened.{Determined, opened_with}
 use Rattle.test_histories.proofs.Places.{lists_long, desks_long}
 use Rattle.test_histories.proofs.Gathered.{are_gathered, they_go_on, they_are_accepted, their_names, within_cut}
 
@@ -65,10 +68,6 @@ all_three false b c x y z = absurd (false≢true x)
 or_true : (b : Bool) → (b || true) ≡ true
 or_true true = refl
 or_true false = refl
-
-true_or : (a b : Bool) → a ≡ true → (a || b) ≡ true
-true_or true b is = refl
-true_or false b is = absurd (false≢true is)
 
 same_bytes : (bytes : List ℕ) → bytes_eq bytes bytes ≡ true
 same_bytes bytes = (bytes_eq-Decides bytes bytes).1 refl
@@ -99,12 +98,6 @@ vouched_all before (Once signer one ∷ calls) =
     (subst (λ (s : List Signature). All (IsVouchedBy (are_vouched s)) calls) (append_assoc before (signature_of one ∷ []) (signatures calls))
     (vouched_all (before ++ signature_of one ∷ []) calls))
 
-still_vouched : (before more : List Signature) (key digest bytes : List ℕ) → are_vouched before key digest bytes ≡ true
-    → are_vouched (before ++ more) key digest bytes ≡ true
-still_vouched before more key digest bytes is =
-    let test = is_signature key digest bytes in
-    list_any-append test before more ∙ true_or (list_any test before) (list_any test more) is
-
 of_bytes : (change : Change) → CanBeRead change → IsOfBytes change
 of_bytes (Put uri bytes replaces) can = can.bytes
 of_bytes (Withdraw uri hash) can = tt
@@ -125,6 +118,12 @@ module _ (desks : List (View MemoryDisk)) (press : PressValue) (done : List Done
       → get_or press.at.cut number 0 ≤ length desk.records
   within_desks = within_cut desks at.devices press.at.cut at.stand at.published.left.taken_in
 
+  live_in : (state : PublishedStateValue) (new : PressValue) → new.at ≡ state → length new.ring ≡ length press.ring
+      → All (λ (row : KeyRow). row.signer < length press.ring) state.rows → All (λ (row : KeyRow). row.signer < length new.ring) new.at.rows
+  live_in state new same_at same_ring live =
+      subst (λ (n : ℕ). All (λ (row : KeyRow). row.signer < n) new.at.rows) (sym same_ring)
+      (subst (λ (s : PublishedStateValue). All (λ (row : KeyRow). row.signer < length press.ring) s.rows) (sym same_at) live)
+
   module _ (groups : List Gathered) (since : AreSince 0 desks press.at.cut groups) where
     pub gathered : AreGathered press.at.cut groups
     gathered = are_gathered desks press.at.cut groups since
@@ -141,7 +140,7 @@ module _ (desks : List (View MemoryDisk)) (press : PressValue) (done : List Done
 
     -- ---- the edition
 
-    module _ (law : MoreStands) (clock : ℕ) (ring : List SignerState) (prepared : NextValue)
+    module _ (more_stands : MoreStands) (clock : ℕ) (ring : List SignerState) (prepared : NextValue)
         (next : IsNextEdition (start_of press clock groups) ring prepared) where
       abbrev calls : List Call
       calls = calls_for (start_of press clock groups) ring prepared next.is_prepared
@@ -157,7 +156,7 @@ module _ (desks : List (View MemoryDisk)) (press : PressValue) (done : List Done
 
       behind : AreBehind (start_of press clock groups) calls premises at.editions
       behind = record {
-        stands = law (ground_of press.site before) premises at.editions press.at (record {
+        stands = more_stands (ground_of press.site before) premises at.editions press.at (record {
           lists = same_are_more (lists_of at.devices);
           site = refl;
           vouched = still_vouched at.vouched signed;
@@ -213,10 +212,33 @@ module _ (desks : List (View MemoryDisk)) (press : PressValue) (done : List Done
             all = at.all;
             published = subst (λ (site : Bases). StandsFor (ground_of site (store_of at.devices editions vouched)) editions new.at) (sym same_site)
                 (subst (λ (state : PublishedStateValue). StandsFor premises editions state) (sym same_at) follows.stands);
-            live = subst (λ (n : ℕ). All (λ (row : KeyRow). row.signer < n) new.at.rows) (sym same_ring)
-                (subst (λ (state : PublishedStateValue). All (λ (row : KeyRow). row.signer < length press.ring) state.rows) (sym same_at) next.is_prepared.signers);
+            live = live_in prepared.next new same_at same_ring next.is_prepared.signers;
             signers = same_ring ∙ at.signers;
           }
+
+      -- ---- everything stops while it is written
+
+      abbrev in_doubt : Happening
+      in_doubt = record { signed = signed; event = Stop [] (Some edition) }
+
+      doubted : IsStopPublishing (in_doubt ∷ [])
+      doubted = record { signed = signed; edition = edition; is = refl }
+
+      module _ (law : Determined) (news : List (View MemoryDisk)) (lists : List (List Command)) (again : AreOpenedAgain 0 desks news lists)
+          (new : PressValue) (same_site : new.site ≡ press.site) (same_ring : length new.ring ≡ length press.ring) (serial : ℕ)
+          (told_lists : Vec (Vec Command Global) Global) (same : lists_told told_lists ≡ lists) (is_serial : serial ≡ new.at.serial) where
+        pub reopened : (is_found : Bool) → new.at ≡ (if is_found then prepared.next else press.at)
+            → IsAt news new ((done ++ told.StoppedPublishing ∷ []) ++ told.Found told_lists serial ∷ [])
+        reopened true same_at =
+            opened_with law more_stands desks news press done at lists again signed (Some edition) may (at.editions ++ edition ∷ []) (inr (edition, refl, refl))
+            told.StoppedPublishing doubted new same_site
+            (subst (λ (state : PublishedStateValue). StandsFor premises (at.editions ++ edition ∷ []) state) (sym same_at) follows.stands)
+            (live_in prepared.next new same_at same_ring next.is_prepared.signers) (same_ring ∙ at.signers) serial told_lists same is_serial
+        reopened false same_at =
+            opened_with law more_stands desks news press done at lists again signed (Some edition) may at.editions (inl refl)
+            told.StoppedPublishing doubted new same_site
+            (subst (λ (state : PublishedStateValue). StandsFor premises at.editions state) (sym same_at) behind.stands)
+            (live_in press.at new same_at same_ring at.live) (same_ring ∙ at.signers) serial told_lists same is_serial
 
   -- ---- no edition
 
@@ -235,7 +257,6 @@ module _ (desks : List (View MemoryDisk)) (press : PressValue) (done : List Done
     all = at.all;
     published = subst (λ (site : Bases). StandsFor (ground_of site (store_of at.devices at.editions at.vouched)) at.editions new.at) (sym same_site)
         (subst (λ (state : PublishedStateValue). StandsFor (ground_of press.site (store_of at.devices at.editions at.vouched)) at.editions state) (sym same_at) at.published);
-    live = subst (λ (n : ℕ). All (λ (row : KeyRow). row.signer < n) new.at.rows) (sym same_ring)
-        (subst (λ (state : PublishedStateValue). All (λ (row : KeyRow). row.signer < length press.ring) state.rows) (sym same_at) at.live);
+    live = live_in press.at new same_at same_ring at.live;
     signers = same_ring ∙ at.signers;
   }

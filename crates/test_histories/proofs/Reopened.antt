@@ -15,6 +15,7 @@ use Rattle.gate_journal.specs.View.{RecoversTo as Recovers}
 use Rattle.desk_core.specs.View.{View, journal_limit}
 use Rattle.desk_core.specs.Commands.{Records, HasCommands}
 use Rattle.desk_core.specs.Images.{RecoversTo}
+use Rattle.key_ids.specs.Uris.{Bases}
 use Rattle.key_roll.specs.declared.rows.KeyRow.{KeyRow}
 use Rattle.editions.specs.Edition.{Edition}
 use Rattle.editions.specs.PublishedState.{PublishedStateValue, IsFirst, desks as most_desks}
@@ -22,16 +23,16 @@ use Rattle.editions.specs.Step.{Premises, BeginsWith, AreMore}
 use Rattle.press_core.specs.Press.{PressValue}
 use Rattle.press_core.specs.Stands.{StandsFor}
 use Rattle.histories.specs.Devices.{Device, Signature, Store, opened, stopped_from, lists_of}
-use Rattle.histories.specs.Events.{Happening, after_one}
+use Rattle.histories.specs.Events.{Happening, after_one, signing}
 use Rattle.histories.specs.Events.Event.{Stop, Reopen}
-use Rattle.histories.specs.Legal.{IsFound, AreFound, IsLegal, ground_of}
+use Rattle.histories.specs.Legal.{IsFound, AreFound, IsLegal, MayBePublished, ground_of}
 use Rattle.histories.specs.Found.{store_after}
 use Rattle.histories.specs.Worked.{happens}
 use Rattle.test_histories.specs.declared.done.Done.{Done}
 use Rattle.test_histories.specs.declared.done.Done.TheVariants as told
-use Rattle.test_histories.specs.Told.{lists_of as lists_told, IsReopening}
+use Rattle.test_histories.specs.Told.{lists_of as lists_told, IsTold, IsReopening}
 use Rattle.test_histories.specs.Standing.{IsDesk, AreDesks, AreNew, IsOpenedAgain, AreOpenedAgain, store_of, IsAt}
-use Rattle.test_histories.proofs.More.{MoreStands, left_then, legal_then, told_then, same_begins}
+use Rattle.test_histories.proofs.More.{MoreStands, left_then, legal_then, told_then, same_begins, same_are_more, still_vouched}
 use Rattle.test_histories.proofs.Places.{desks_long, lists_opened, opened_long, lists_long, more_long, new_stand}
 
 abbrev pub Determined : Type 0
@@ -162,56 +163,73 @@ module _ (law : Determined) (more_stands : MoreStands) (olds news : List (View M
   abbrev before : Store
   before = store_of at.devices at.editions at.vouched
 
-  abbrev stop : Happening
-  stop = happens (Stop [] None)
-
-  abbrev stopped_store : Store
-  stopped_store = after_one before stop
-
-  abbrev reopen : Happening
-  reopen = happens (Reopen lists at.editions)
-
   abbrev devices : List (Device Command)
   devices = map opened lists
 
   grown : AreMore (lists_of at.devices) lists
   grown = more_again law 0 olds news at.devices lists at.stand again
 
-  stop_left : store_after (at.history ++ stop ∷ []) ≡ stopped_store
-  stop_left = left_then at.history before at.left stop
+  -- with this edition in doubt, or none
+  module _ (signed : List Signature) (edition : Option Edition) (may : IfSome edition (MayBePublished press.site (signing before signed)))
+      (editions : List Edition) (found : IsFound at.editions edition editions) where
+    abbrev pub stop : Happening
+    stop = record { signed = signed; event = Stop [] edition }
 
-  stop_legal : IsLegal press.site (at.history ++ stop ∷ [])
-  stop_legal = legal_then press.site at.history before at.left at.legal stop
-      (record { running = refl; desks = λ desk. tt; press = tt })
+    abbrev stopped_store : Store
+    stopped_store = after_one before stop
+
+    abbrev reopen : Happening
+    reopen = happens (Reopen lists editions)
+
+    abbrev vouched : List Signature
+    vouched = at.vouched ++ signed
+
+    stop_left : store_after (at.history ++ stop ∷ []) ≡ stopped_store
+    stop_left = left_then at.history before at.left stop
+
+    stop_legal : IsLegal press.site (at.history ++ stop ∷ [])
+    stop_legal = legal_then press.site at.history before at.left at.legal stop
+        (record { running = refl; desks = λ desk. tt; press = may })
+
+    pub opened_with : (one : Done) → IsTold one (stop ∷ []) → (new : PressValue) → new.site ≡ press.site
+        → StandsFor (ground_of press.site (signing before signed)) editions new.at
+        → All (λ row. row.signer < length new.ring) new.at.rows → length new.ring ≡ 2
+        → (serial : ℕ) (told_lists : Vec (Vec Command Global) Global) → lists_told told_lists ≡ lists → serial ≡ new.at.serial
+        → IsAt news new ((done ++ one ∷ []) ++ told.Found told_lists serial ∷ [])
+    opened_with one is_told new same_site stands live signers serial told_lists same is_serial =
+        let reopened : IsReopening lists serial (reopen ∷ []) =
+        record { editions = editions; is = refl; last = sym stands.left.serial ∙ sym is_serial } in
+        let legal = legal_then press.site (at.history ++ stop ∷ []) stopped_store stop_left stop_legal reopen
+        (record { desks = are_found law 0 0 olds news at.devices lists at.stand again; press = found }) in
+        record {
+          history = (at.history ++ stop ∷ []) ++ reopen ∷ [];
+          told = told_then (done ++ one ∷ []) (at.history ++ stop ∷ []) (told.Found told_lists serial) (reopen ∷ [])
+              (told_then done at.history one (stop ∷ []) at.told is_told)
+              (subst (λ (l : List (List Command)). IsReopening l serial (reopen ∷ [])) (sym same) reopened);
+          legal = subst (λ (site : Bases). IsLegal site ((at.history ++ stop ∷ []) ++ reopen ∷ [])) (sym same_site) legal;
+          devices = devices;
+          editions = editions;
+          vouched = vouched;
+          left = left_then (at.history ++ stop ∷ []) stopped_store stop_left reopen
+              ∙ ap (λ (v : List Signature). store_of devices editions v) (append-nil vouched);
+          stand = stand_again law 0 olds news at.devices lists at.stand again;
+          all = opened_long lists ∙ (more_long (lists_of at.devices) lists grown ∙ (lists_long at.devices ∙ at.all));
+          published = more_stands (ground_of press.site (signing before signed)) (ground_of new.site (store_of devices editions vouched)) editions new.at
+              (record {
+                lists = subst (AreMore (lists_of at.devices)) (sym (lists_opened lists)) grown;
+                site = same_site;
+                vouched = λ key digest signature is. is;
+              }) stands;
+          live = live;
+          signers = signers;
+        }
 
   pub found_again : (serial : ℕ) (told_lists : Vec (Vec Command Global) Global) → lists_told told_lists ≡ lists → serial ≡ press.at.serial
       → IsAt news press ((done ++ told.Stopped ∷ []) ++ told.Found told_lists serial ∷ [])
   found_again serial told_lists same is_serial =
-      let found : IsReopening lists serial (reopen ∷ []) =
-      record { editions = at.editions; is = refl; last = sym at.published.left.serial ∙ sym is_serial } in
-      record {
-        history = (at.history ++ stop ∷ []) ++ reopen ∷ [];
-        told = told_then (done ++ told.Stopped ∷ []) (at.history ++ stop ∷ []) (told.Found told_lists serial) (reopen ∷ [])
-            (told_then done at.history told.Stopped (stop ∷ []) at.told refl)
-            (subst (λ (l : List (List Command)). IsReopening l serial (reopen ∷ [])) (sym same) found);
-        legal = legal_then press.site (at.history ++ stop ∷ []) stopped_store stop_left stop_legal reopen
-            (record { desks = are_found law 0 0 olds news at.devices lists at.stand again; press = inl refl });
-        devices = devices;
-        editions = at.editions;
-        vouched = at.vouched;
-        left = left_then (at.history ++ stop ∷ []) stopped_store stop_left reopen
-            ∙ ap (λ (v : List Signature). store_of devices at.editions v) (append-nil (at.vouched ++ []) ∙ append-nil at.vouched);
-        stand = stand_again law 0 olds news at.devices lists at.stand again;
-        all = opened_long lists ∙ (more_long (lists_of at.devices) lists grown ∙ (lists_long at.devices ∙ at.all));
-        published = more_stands (ground_of press.site before) (ground_of press.site (store_of devices at.editions at.vouched)) at.editions press.at
-            (record {
-              lists = subst (AreMore (lists_of at.devices)) (sym (lists_opened lists)) grown;
-              site = refl;
-              vouched = λ key digest signature is. is;
-            }) at.published;
-        live = at.live;
-        signers = at.signers;
-      }
+      let still = more_stands (ground_of press.site before) (ground_of press.site (signing before [])) at.editions press.at
+      (record { lists = same_are_more (lists_of at.devices); site = refl; vouched = still_vouched at.vouched [] }) at.published in
+      opened_with [] None tt at.editions (inl refl) told.Stopped refl press refl still at.live at.signers serial told_lists same is_serial
 
 -- ---- a new store
 

@@ -1,5 +1,5 @@
 -- What is told of a history.
-use Rattle.std.specs.Prelude.{◌≡◌, ℕ, List, [], ◌∷◌, ◌++◌, map, None, Vec}
+use Rattle.std.specs.Prelude.{◌≡◌, ℕ, List, [], ◌∷◌, ◌++◌, map, None, Some, Vec}
 use Rattle.std.specs.declared.alloc.Global.{Global}
 use Rattle.authority_book.specs.declared.commands.Command.{Command}
 use Rattle.editions.specs.Edition.{Edition}
@@ -28,6 +28,12 @@ pub record IsPublication (published : Published) (happened : History) : Type 0 w
   pub is : happened ≡ record { signed = signed; event = Publish edition } ∷ []
   pub numbered : IsNumbered published edition
 
+-- Everything stops while the edition is written, for which these signatures were made.
+pub record IsStopPublishing (happened : History) : Type 0 where
+  pub signed : List Signature
+  pub edition : Edition
+  pub is : happened ≡ record { signed = signed; event = Stop [] (Some edition) } ∷ []
+
 -- The store is opened again, and these commands are found, and editions of which that is the last
 -- serial.
 pub record IsReopening (lists : List (List Command)) (serial : ℕ) (happened : History)
@@ -36,14 +42,15 @@ pub record IsReopening (lists : List (List Command)) (serial : ℕ) (happened : 
   pub is : happened ≡ happens (Reopen lists editions) ∷ []
   pub last : latest editions ≡ serial
 
--- What happened, where that is told. A refusal is no event. Where everything stops no call is under
--- way.
+-- What happened, where that is told. A refusal is no event. Where everything stops no command is being
+-- written.
 abbrev pub IsTold : Done → History → Type 0
 IsTold (told.Accepted desk command) happened = happened ≡ happens (Commit desk command) ∷ []
 IsTold (told.Failed desk command) happened = happened ≡ happens (DeskFault desk command) ∷ []
 IsTold (told.Published published) happened = IsPublication published happened
 IsTold (told.Refused code) happened = happened ≡ []
 IsTold told.Stopped happened = happened ≡ happens (Stop [] None) ∷ []
+IsTold told.StoppedPublishing happened = IsStopPublishing happened
 IsTold (told.Found lists serial) happened = IsReopening (lists_of lists) serial happened
 
 -- A history, where all this is told of it, one after another.

@@ -8,11 +8,26 @@ use names::Name;
 #[derive(Drop)]
 pub enum Step {
     /// The command is given to the authority of that name.
-    Command { authority: Name, command: Command },
+    Command {
+        authority: Name,
+        command: Command,
+    },
     /// What the desks have accepted is published, at that clock in seconds since 1970.
-    Publish { clock: u64 },
+    Publish {
+        clock: u64,
+    },
     /// Everything stops, the image of that pick is left of each desk's disk, and the desks are opened again over these.
-    Stop { pick: u64, limit: Option<Limit> },
+    Stop {
+        pick: u64,
+        limit: Option<Limit>,
+    },
+    /// So while what the desks have accepted is published, at that clock: the edition is made, and the press is found with it
+    /// or without it.
+    StopPublishing {
+        pick: u64,
+        clock: u64,
+        is_found: bool,
+    },
 }
 
 /// A disk takes only so many calls.
@@ -46,6 +61,8 @@ pub enum Done {
     },
     /// Everything stopped.
     Stopped,
+    /// Everything stopped while an edition was written.
+    StoppedPublishing,
     /// The store was opened again. These commands of each desk were found, and that was the last serial.
     Found {
         lists: Vec<Vec<Command>>,

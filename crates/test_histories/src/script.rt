@@ -28,7 +28,8 @@ pub fn answer(alloc: Global, steps: &str) -> Result<String> {
     Ok(text)
 }
 
-// A step is a line with a command, `publish CLOCK`, `stop PICK`, or `stop PICK DESK CALLS`.
+// A step is a line with a command, `publish CLOCK`, `stop PICK`, `stop PICK DESK CALLS`, `stop PICK publish CLOCK found` or
+// `stop PICK publish CLOCK lost`.
 fn step_of(alloc: Global, step: &str) -> Result<Step> {
     if step.starts_with("{") {
         return command_of(alloc, step);
@@ -49,8 +50,18 @@ fn step_of(alloc: Global, step: &str) -> Result<Step> {
                 calls: number_of(calls)?,
             }),
         }),
+        ["stop", pick, "publish", clock, "found"] => stop_publishing(pick, clock, true),
+        ["stop", pick, "publish", clock, "lost"] => stop_publishing(pick, clock, false),
         _ => bail!("no such step: {step}"),
     }
+}
+
+fn stop_publishing(pick: &str, clock: &str, is_found: bool) -> Result<Step> {
+    Ok(Step::StopPublishing {
+        pick: number_of(pick)?,
+        clock: number_of(clock)?,
+        is_found,
+    })
 }
 
 fn command_of(alloc: Global, line: &str) -> Result<Step> {
@@ -75,6 +86,7 @@ fn tell(text: &mut String, one: &Done) -> Result<()> {
         )?,
         Done::Refused { code } => write!(text, "\trefused {code}")?,
         Done::Stopped => write!(text, "\tstopped")?,
+        Done::StoppedPublishing => write!(text, "\tstopped with an edition in doubt")?,
         Done::Found { lists, serial } => {
             let commands = commands_in(lists.as_slice());
             write!(text, "\tfound {commands}, serial {serial}")?;

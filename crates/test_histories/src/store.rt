@@ -2,10 +2,12 @@
 //!
 //! A press has no journal yet. It stays in memory over a stop, as one whose journal is found as it was.
 
-ghost use Rattle.std.specs.Prelude.{◌≡◌, ◌<◌, ◌≤◌, ◌++◌, ◌∷◌, [], ℕ, List, Some, All, IfOk, OnOk, IsTrue, length, get_or, slice_get};
+ghost use Rattle.std.specs.Prelude.{◌≡◌, ◌<◌, ◌≤◌, ◌++◌, ◌∷◌, [], ℕ, List, Some, All, IfOk, OnOk, IsTrue, length, get_or, slice_get, if◌then◌else◌};
 ghost use Rattle.disk_api.specs.declared.memory.MemoryDisk.{MemoryDisk};
 ghost use Rattle.desk_core.specs.View.{View};
 ghost use Rattle.editions.specs.PublishedState.{IsFirst};
+ghost use Rattle.press_core.specs.Next.{IsNext};
+ghost use Rattle.press_core.specs.Files.{files_of};
 ghost use Rattle.histories.specs.Events.{History};
 ghost use Rattle.histories.specs.Legal.{IsLegal};
 ghost use Rattle.test_histories.specs.Told.{AreTold};
@@ -23,7 +25,7 @@ use items::Items;
 use key_ids::Site;
 use names::Name;
 use press_core::{
-    Press, PressFault, PressRefused, first_published_state_stands, more_commands_stand,
+    Prepared, Press, PressFault, PressRefused, first_published_state_stands, more_commands_stand,
 };
 use signer_api::Rehearsal;
 use signer_ring::Ring;
@@ -105,6 +107,11 @@ fn take(alloc: Global, store: Store, done: &mut Vec<Done>, step: &Step) -> Resul
             Ok(store)
         }
         Step::Stop { pick, limit } => stop(alloc, store, done, *pick, limit),
+        Step::StopPublishing {
+            pick,
+            clock,
+            is_found,
+        } => stop_publishing(alloc, store, done, *pick, *clock, *is_found),
     }
 }
 
@@ -254,4 +261,59 @@ fn stop(
     note(done, Done::Stopped)?;
     note(done, Done::Found { lists, serial })?;
     Ok(Store { desks, press })
+}
+
+// Everything stops while an edition is written, in which the desks are found as by `stop`, and the press with it or without it.
+fn stop_publishing(
+    alloc: Global,
+    store: Store,
+    done: &mut Vec<Done>,
+    pick: u64,
+    clock: u64,
+    is_found: bool,
+) -> Result<Store>
+    requires { IsAt store.desks.items store.press done.old.items }
+    ensures at { IfOk result (λ new. IsAt new.desks.items new.press done.new.items) }
+    ensures site { IfOk result (λ new. new.press.site ≡ store.press.site) }
+{
+    commands_are_determined();
+    more_commands_stand();
+    if !are_signed(store.desks[ANCHOR].config().names()) {
+        bail!("a name without a signer");
+    }
+    let gathered = gather(alloc, &store)?;
+    let Store { desks, mut press } = store;
+    match press.prepare(alloc, clock, gathered) {
+        Ok(prepared) => {
+            let OpenedAgain { desks, lists } = open_again(alloc, desks, pick, &None)?;
+            settle(&mut press, prepared, is_found);
+            let serial = press.serial();
+            note(done, Done::StoppedPublishing)?;
+            note(done, Done::Found { lists, serial })?;
+            Ok(Store { desks, press })
+        }
+        Err(fault) => {
+            note(
+                done,
+                Done::Refused {
+                    code: code_of(&fault),
+                },
+            )?;
+            Ok(Store { desks, press })
+        }
+    }
+}
+
+// The press is found with the edition that was prepared, or without it.
+fn settle(press: &mut Press<Rehearsal>, prepared: Prepared, is_found: bool)
+    requires next { IsNext press.old.site press.old.at prepared.edition }
+    requires files { prepared.files ≡ files_of press.old.rrdp.session prepared.edition }
+    ensures at { press.new.at ≡ (if is_found then prepared.edition.next else press.old.at) }
+    ensures site { press.new.site ≡ press.old.site }
+    ensures signers { length press.new.ring ≡ length press.old.ring }
+{
+    if is_found {
+        press.commit(prepared);
+        press.retire_keys();
+    }
 }
