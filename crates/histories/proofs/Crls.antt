@@ -4,11 +4,10 @@ use Rattle.std.proofs.lemmas.List.{length-take-le, take-take}
 use Rattle.std.proofs.lemmas.Option.{slice_get_within}
 use Rattle.crl_obj.specs.Values.{SignedCrl}
 use Rattle.key_ids.specs.Uris.{Bases}
-use Rattle.key_roll.specs.declared.rows.RevokedRow.{RevokedRow}
 use Rattle.rp_rules.specs.Objects.{crl_in}
 use Rattle.editions.specs.Edition.{Edition, set_after}
 use Rattle.editions.specs.Step.{Premises, AreSteps}
-use Rattle.editions.specs.Superseded.{AreSuperseded, ListsSuperseded}
+use Rattle.editions.specs.Superseded.{ListsSuperseded}
 use Rattle.histories.specs.Events.{History}
 use Rattle.histories.specs.Legal.{IsLegal}
 use Rattle.histories.specs.Acknowledged.{editions_of, ground_after}
@@ -23,9 +22,9 @@ Listed = (premises : Premises) (editions : List Edition) (edition : Edition) (ur
     → ListsSuperseded (editions ++ edition ∷ []) (length editions) crl
 
 abbrev pub Until : Type 0
-Until = (one other : List Edition) (place : ℕ) (id : List ℕ) (entries : List RevokedRow)
+Until = (one other : List Edition) (place : ℕ) (crl : SignedCrl)
     → place < length one → place < length other → take (place + 1) one ≡ take (place + 1) other
-    → AreSuperseded one place id entries → AreSuperseded other place id entries
+    → ListsSuperseded one place crl → ListsSuperseded other place crl
 
 module _ (stay : Stay) (site : Bases) (history : History) (legal : IsLegal site history) where
   pub crls : Listed → Until → (serial : ℕ) (edition : Edition) → HasEdition history (serial + 1) edition
@@ -48,9 +47,5 @@ module _ (stay : Stay) (site : Bases) (history : History) (legal : IsLegal site 
       let one_more = length-append (take has.place es) (edition ∷ []) in
       let front : take (serial + 1) all ≡ take (serial + 1) es =
       ap (take (serial + 1)) (sym behind) ∙ take-take (serial + 1) (serial + 1) es (omega arith) in
-      record {
-        entries = said.entries;
-        lists = said.lists;
-        superseded = until all es serial crl.crl.issuer said.entries (omega (arith, one_more, counted)) (omega (arith, within, same)) front
-            (subst (λ (n : ℕ). AreSuperseded all n crl.crl.issuer said.entries) counted said.superseded);
-      }
+      until all es serial crl (omega (arith, one_more, counted)) (omega (arith, within, same)) front
+      (subst (λ (n : ℕ). ListsSuperseded all n crl) counted said)

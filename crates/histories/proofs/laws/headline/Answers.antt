@@ -62,5 +62,10 @@ returns-clause-delta_texts c = λ site history session serial edition base uuid 
 
 pub returns-clause-crls : goal.returns-clause-crls
 returns-clause-crls c = λ site history serial edition uri bytes crl legal has.
-    crls c.steps_stay_steps.ensures.one site history legal c.new_crls_list_what_is_superseded.ensures c.superseded_by_then.ensures
+    crls c.steps_stay_steps.ensures.one site history legal c.new_crls_list_what_is_superseded.ensures
+    (λ one other place crl within inside same listed. record {
+      entries = listed.entries;
+      lists = listed.lists;
+      superseded = c.superseded_by_then.ensures one other place crl.crl.issuer listed.entries within inside same listed.superseded;
+    })
     serial edition has uri bytes crl
