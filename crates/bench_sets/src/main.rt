@@ -1,5 +1,5 @@
 //! A program that times sets: of numbers, of objects, of what comes down a tree of authorities, and RRDP's
-//! snapshots of sets of objects. Its modules say what each prints.
+//! snapshots of sets of objects and their export. Its modules say what each prints.
 #![tactic(auto)]
 
 mod published;
@@ -16,7 +16,7 @@ const TURNS: u32 = 21;
 const UPDATES: u32 = 20_000;
 
 const USAGE: &str =
-    "usage: bench_sets small | sets texts|merges|reading | published times | tree times|updates | rrdp set|write|read";
+    "usage: bench_sets small | sets texts|merges|reading | published times | tree times|updates | rrdp set|write|read | export FOLDER";
 
 fn main(rt: HostRuntime) -> Result<()> {
     let mut words = env::args(&rt)?;
@@ -34,7 +34,8 @@ fn small(rt: &HostRuntime) -> Result<()> {
     sets::texts::print_sets(rt)?;
     published::timing::run(rt, 256, 1, false)?;
     tree::timing::small(rt, 16)?;
-    rrdp::timing::small(rt)
+    rrdp::timing::small(rt)?;
+    rrdp::exports::small(rt)
 }
 
 fn measure(rt: &HostRuntime, part: &str, word: &str) -> Result<()> {
@@ -48,6 +49,7 @@ fn measure(rt: &HostRuntime, part: &str, word: &str) -> Result<()> {
         ("rrdp", "set") => rrdp::timing::make(rt),
         ("rrdp", "write") => rrdp::timing::time_writing(rt),
         ("rrdp", "read") => rrdp::timing::time_reading(rt),
+        ("export", folder) => rrdp::exports::time_exports(rt, folder),
         _ => bail!("{USAGE}"),
     }
 }
