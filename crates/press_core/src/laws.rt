@@ -39,9 +39,9 @@ ghost use Rattle.press_core.specs.declared.last_export.LastExport.TheVariants.{D
 
 use editions::{
     accepted_names_are_apart, called_for_by_what_stands, certificates_have_own_serials,
-    editions_are_published, editions_follow_one_another, gathered_commands_go_on, manifests_rise,
-    same_objects_same_set, steps_come_one_by_one, steps_stay_steps, the_plans_keys_are_next,
-    the_table_goes_on, what_is_planned_and_made_follows,
+    editions_are_in_profile, editions_are_published, editions_follow_one_another,
+    gathered_commands_go_on, manifests_rise, same_objects_same_set, steps_come_one_by_one,
+    steps_stay_steps, the_plans_keys_are_next, the_table_goes_on, what_is_planned_and_made_follows,
 };
 
 /// What stands before the first edition is what no editions leave, over whatever commands.
