@@ -1,15 +1,17 @@
 -- What may not come behind a fault or a stop, and what a reopening leaves.
-use Rattle.std.proofs.Common.{◌≡◌, ℕ, zero, suc, refl, subst, ◌∙◌, ap, append_assoc, true, List, [], ◌∷◌, ◌++◌, map, Some, None}
-use Rattle.std.specs.Prelude.{Option}
+use Rattle.std.proofs.Common.{◌≡◌, ℕ, ◌+◌, zero, suc, refl, subst, ◌∙◌, ap, arith, append_assoc, true, false, Bool, List, [], ◌∷◌, ◌++◌, map, Some, None}
+use Rattle.std.specs.Prelude.{Option, slice_get, if◌then◌else◌}
+use Rattle.std.proofs.lemmas.Option.{none-some}
 use Rattle.authority_book.specs.declared.commands.Command.{Command}
 use Rattle.key_ids.specs.Uris.{Bases}
 use Rattle.editions.specs.Edition.{Edition}
-use Rattle.histories.specs.Devices.{Signature, Store, opened, doubt_at, new_store}
+use Rattle.histories.specs.Devices.{Device, Signature, Store, opened, stopped_from, for_desk, doubt_at, new_store}
 use Rattle.histories.specs.Events.{Event, Happening, History, after, after_one, after_all, signing}
 use Rattle.histories.specs.Events.Event.{Commit, Publish, DeskFault, PressFault, Stop, Reopen}
 use Rattle.histories.specs.Legal.{IsAllowed, IsLegal}
 use Rattle.histories.specs.Found.{store_after}
 use Rattle.histories.specs.Refused.{IsReopening, AreNoReopenings}
+use Rattle.histories.proofs.Lists.{same_one}
 use Rattle.histories.proofs.Growing.{ends_legal, starts_legal, after_on}
 use Rattle.histories.proofs.Shut.{not_both, IsInDoubt, IsDeskInDoubt, told_doubt, desk_shut, press_shut, desk_failed, press_failed, desk_until, press_until}
 
@@ -130,3 +132,34 @@ settled history signed lists editions desk =
       ap (λ (store : Store). doubt_at store.desks desk) same ∙ none_opened lists desk,
       ap (λ (store : Store). store.press.doubt) same,
     )
+
+-- What a stop leaves in doubt at a desk whose journal was open.
+stopped_at : (n : ℕ) (doubts : List (Option Command)) (desks : List (Device Command)) (m : ℕ) (device : Device Command)
+    → slice_get desks m ≡ Some device → device.shut ≡ false → doubt_at (stopped_from n doubts desks) m ≡ for_desk doubts (n + m)
+stopped_at n doubts [] m device there unshut = absurd (none-some device there)
+stopped_at n doubts (first ∷ desks) zero device there unshut =
+    let is_open : first.shut ≡ false = ap (λ (d : Device Command). d.shut) (same_one first device there) ∙ unshut in
+    let same : n ≡ n + zero = omega arith in
+    ap (λ (b : Bool). if b then first.doubt else for_desk doubts n) is_open ∙ ap (for_desk doubts) same
+stopped_at n doubts (first ∷ desks) (suc m) device there unshut =
+    let same : (n + 1) + m ≡ n + suc m = omega arith in
+    stopped_at (n + 1) doubts desks m device there unshut ∙ ap (for_desk doubts) same
+
+pub stop_doubts : (history : History) (signed : List Signature) (commands : List (Option Command)) (edition : Option Edition) (desk : ℕ) (device : Device Command)
+    → slice_get (store_after history).desks desk ≡ Some device → device.shut ≡ false
+    → let store = store_after (history ++ record { signed = signed; event = Stop commands edition } ∷ []) in
+    doubt_at store.desks desk ≡ for_desk commands desk
+stop_doubts history signed commands edition desk device there unshut =
+    let stop : Happening = record { signed = signed; event = Stop commands edition } in
+    let same : zero + desk ≡ desk = omega arith in
+    ap (λ (store : Store). doubt_at store.desks desk) (after_on new_store history (stop ∷ []))
+    ∙ (stopped_at zero commands (store_after history).desks desk device there unshut ∙ ap (for_desk commands) same)
+
+pub stop_press_doubts : (history : History) (signed : List Signature) (commands : List (Option Command)) (edition : Option Edition)
+    → (store_after history).press.shut ≡ false
+    → let store = store_after (history ++ record { signed = signed; event = Stop commands edition } ∷ []) in
+    store.press.doubt ≡ edition
+stop_press_doubts history signed commands edition unshut =
+    let stop : Happening = record { signed = signed; event = Stop commands edition } in
+    ap (λ (store : Store). store.press.doubt) (after_on new_store history (stop ∷ []))
+    ∙ ap (λ (b : Bool). if b then (store_after history).press.doubt else edition) unshut

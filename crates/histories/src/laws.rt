@@ -1,6 +1,6 @@
 //! The theorem.
 
-ghost use Rattle.std.specs.Prelude.{◌≡◌, ◌≢◌, ℕ, ◌+◌, ◌<◌, ◌≤◌, ◌++◌, ◌∷◌, [], List, Bool, false, true, Option, None, Some, Ok, drop, get_or, length, slice_get, take};
+ghost use Rattle.std.specs.Prelude.{◌≡◌, ◌≢◌, ℕ, ◌+◌, ◌<◌, ◌≤◌, ◌++◌, ◌∷◌, [], List, Bool, false, true, Option, None, Some, IfSome, Ok, drop, get_or, length, slice_get, take};
 ghost use Rattle.authority_book.specs.declared.commands.Command.{Command};
 ghost use Rattle.key_ids.specs.Base.{IsBase, rsync_scheme};
 ghost use Rattle.key_ids.specs.Uris.{Bases};
@@ -20,7 +20,7 @@ ghost use Rattle.editions.specs.Step.{AreMore, AreSteps, BeginsWith};
 ghost use Rattle.histories.specs.Devices.{Device, Signature, doubt_at, for_desk, new_store};
 ghost use Rattle.histories.specs.Events.{Event, History, signing};
 ghost use Rattle.histories.specs.Events.Event.{Commit, Publish, DeskFault, PressFault, Stop, Reopen};
-ghost use Rattle.histories.specs.Legal.{IsLegal, IsNextCommand, InTurn, MayBePublished, bytes_for, ground_of, most_bytes};
+ghost use Rattle.histories.specs.Legal.{CanBeWritten, IsLegal, IsNextCommand, InTurn, MayBePublished, bytes_for, ground_of, most_bytes};
 ghost use Rattle.histories.specs.Acknowledged.{acknowledged, commands_of, editions_of, ground_after};
 ghost use Rattle.histories.specs.Found.{AreFoundAfter, TakesIn, latest, reopening_by, store_after};
 ghost use Rattle.histories.specs.Refused.{IsReopening, AreNoReopenings};
@@ -143,6 +143,17 @@ pub fn histories_end_at_faults_and_stops()
         (commands : List (Option Command)) (edition : Option Edition) (event : Event)
         → IsLegal site (history ++ record { signed = signed; event = Stop commands edition }
         ∷ record { signed = later; event = event } ∷ []) → IsReopening event }
+    // Behind a stop a journal that was open has in doubt what the stop names there, or nothing.
+    ensures stop_doubts { (history : History) (signed : List Signature) (commands : List (Option Command))
+        (edition : Option Edition) (desk : ℕ) (device : Device Command)
+        → slice_get (store_after history).desks desk ≡ Some device → device.shut ≡ false
+        → let store = store_after (history ++ record { signed = signed; event = Stop commands edition } ∷ []) in
+        doubt_at store.desks desk ≡ for_desk commands desk }
+    ensures stop_press_doubts { (history : History) (signed : List Signature)
+        (commands : List (Option Command)) (edition : Option Edition)
+        → (store_after history).press.shut ≡ false
+        → let store = store_after (history ++ record { signed = signed; event = Stop commands edition } ∷ []) in
+        store.press.doubt ≡ edition }
     ensures settled { (history : History) (signed : List Signature) (lists : List (List Command))
         (editions : List Edition) (desk : ℕ)
         → let store = store_after (history ++ record { signed = signed; event = Reopen lists editions } ∷ []) in
@@ -241,6 +252,24 @@ pub fn legal_histories_go_on()
     ensures choices { (site : Bases) (history : History) (signed : List Signature)
         (desks : ℕ → Bool) (press : Bool) → IsLegal site history
         → IsLegal site (history ++ record { signed = signed; event = reopening_by desks press (store_after history) } ∷ []) }
+    // A command that a desk accepts next may be accepted, and its write may fail, where nothing is stopped, the desk's
+    // journal is open, and it has room.
+    ensures commits { (site : Bases) (history : History) (signed : List Signature) (desk : ℕ)
+        (command : Command) (device : Device Command) → IsLegal site history
+        → let store = store_after history in
+        store.stopped ≡ false → slice_get store.desks desk ≡ Some device → device.shut ≡ false
+        → IsNextCommand desk device.list command
+        → IsLegal site (history ++ record { signed = signed; event = Commit desk command } ∷ [])
+        × IsLegal site (history ++ record { signed = signed; event = DeskFault desk command } ∷ []) }
+    // Everything may stop, with anything in doubt at each journal that may be written there, whatever is in doubt at
+    // the others.
+    ensures stops { (site : Bases) (history : History) (signed : List Signature)
+        (commands : List (Option Command)) (edition : Option Edition) → IsLegal site history
+        → let store = signing (store_after history) signed in
+        store.stopped ≡ false
+        → ((desk : ℕ) → IfSome (for_desk commands desk) (CanBeWritten site store desk))
+        → IfSome edition (MayBePublished site store)
+        → IsLegal site (history ++ record { signed = signed; event = Stop commands edition } ∷ []) }
     // An edition that is planned over those that stand, and made by signers that vouch for it, may be written, and so
     // published, where nothing is stopped and the press's journal is open.
     ensures editions { (site : Bases) (history : History) (signed : List Signature) (clock : ℕ) (edition : Edition)
