@@ -5,7 +5,7 @@ all are tried. --limits tells what relying parties do at their limits, and judge
 program than crates/krillc/out/krillc. Everything goes on in namespaces of its own, without a network. Ends with the
 table of docs/relying-parties.md. Status 0: no object was refused and no payload differs; 1: one was or did; 3:
 something that it needs is missing."""
-import os, signal, sys, tempfile
+import os, signal, sys, tempfile, time
 
 # The folder stays as it is.
 sys.dont_write_bytecode = True
@@ -65,6 +65,9 @@ class Trial:
 
     def publish(self, edition):
         """Publishes an edition. What is exported then, and the payloads that relying parties have to find."""
+        # HTTP tells times in whole seconds: a notification of the second in which the one before it was fetched would
+        # be taken for that one.
+        wait_until(int(time.time()))
         reply = ask_all(self.program, edition)
         origins = self.program.published_origins()
         if origins != {*edition.origins}:
@@ -79,8 +82,8 @@ class Trial:
         """What the one that runs all the time finds in its next round."""
         if self.follower is None:
             self.follower = parties.FortServer(exported, os.path.join(self.folder, "follower"))
-            return self.follower.look(0)
-        return self.follower.look(len(self.follower.rounds()))
+            return self.follower.look(0, exported)
+        return self.follower.look(len(self.follower.rounds()), exported)
 
     def looks(self, exported):
         """Each look at an edition: who looks, and what was found."""

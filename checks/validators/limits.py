@@ -1,11 +1,11 @@
-"""What relying parties do at their limits: chains that are too long, and an edition whose moment hasn't come yet. What they
-do there is told and not judged."""
-import os, time
+"""What relying parties do at their limits: chains that are too long, an edition whose moment hasn't come yet, and a run
+behind the one whose locator they have. What they do there is told and not judged."""
+import dataclasses, os, time
 
 import parties
 from program import Program
 from repository import read_exported
-from samples import authority, chain, edition, update
+from samples import PUBLISH, authority, chain, edition, update
 
 LONG_CHAIN = 40
 # Editions that follow each other at once are each of a second more, whatever the clock says: so many seconds are
@@ -80,8 +80,29 @@ def look_ahead(program, server, folder):
         tell(who, f"{len(found.payloads)} of {number + 2} payloads, {ahead:.1f} seconds before the moment", found)
 
 
+def runs(krillc, server, folder):
+    """What each finds of the next run over a store, whose anchor has a new key, by the locator of the run before."""
+    first = edition([*authority("ta", "isp", ipv4="10.0.0.0/8"), update("isp", ["10.0.0.0/16 => 1"])], [])
+    exported = None
+    for lines in (first.lines, [PUBLISH]):
+        program = Program(krillc, os.path.join(folder, "krill"), 1)
+        try:
+            reply = [program.ask(line) for line in lines][-1]
+            server.folder = program.repository
+            wait_until(reply["moment"])
+            before, exported = exported, read_exported(program.repository)
+            program.close()
+        finally:
+            program.kill()
+        known = dataclasses.replace(exported, locator=(before or exported).locator)
+        for who, found in look_at_all(known, server, folder):
+            tell(who, f"{len(found.payloads)} of 1 payload in the {'second' if before else 'first'} run", found)
+
+
 def try_limits(krillc, server, folder):
     print(f"a chain of {LONG_CHAIN} authorities")
     depths(krillc, server, os.path.join(folder, "depths"))
     print("an edition whose moment is still to come")
     clocks(krillc, server, os.path.join(folder, "clocks"))
+    print("the run behind the one whose locator is known")
+    runs(krillc, server, os.path.join(folder, "runs"))

@@ -114,7 +114,10 @@ class Fort:
         r"| WRN \[Validation\]: ta\.tal: Looking for the TA certificate at the local files\."
         r"| INF \[Validation\]: \S+: HTTP GET: https://"
         r"|(?P<offline>Couldn't fetch data from RRDP repository \S+, trying to fetch data now from)")
-    ONLINE = ["--rsync.enabled=false", "--http.ca-path=/etc/ssl/certs"]
+    # A busy machine may be slow.
+    ONLINE = [
+        "--rsync.enabled=false", "--http.ca-path=/etc/ssl/certs", "--http.connect-timeout=300",
+        "--http.low-speed-limit=1", "--http.low-speed-time=300"]
     OUTPUT = [
         "--tal=ta.tal", "--local-repository=cache", "--output.roa=out.csv", "--validation-log.enabled=true",
         "--validation-log.level=info"]
@@ -152,6 +155,10 @@ class FortServer:
     USUAL = re.compile(
         Fort.USUAL_ONLINE.pattern + r"|^$| INF: (Validation finished:|- (Valid (ROAs|Router Keys)|Serial|Real execution))"
         r"| WRN: First validation cycle successfully ended")
+    # It warns where a notification that it has seen the session of names no delta, and takes the snapshot.
+    USUAL_WITHOUT_DELTAS = re.compile(
+        USUAL.pattern + r"|: There's no delta list to process\.$"
+        r"|: There was an error processing RRDP deltas, using the snapshot instead\.$")
     WORDS = [
         "--mode=server", "--server.address=127.0.0.1", "--server.port=8323", "--server.interval.validation=60",
         f"--http.user-agent={agent}", "--log.level=info"]
@@ -173,14 +180,15 @@ class FortServer:
         rounds = self.rounds()
         return len(rounds) > number and self.ENDED in rounds[number]
 
-    def look(self, number):
-        """What it finds in the round of that number, counted from 0."""
+    def look(self, number, exported):
+        """What it finds in the round of that number, counted from 0, of an edition that stands."""
         until = time.time() + LONGEST
         while not self.has_ended(number) and time.time() < until and self.process.poll() is None:
             time.sleep(0.2)
         complaints = [] if self.has_ended(number) else [f"its round {number} hasn't ended well"]
+        usual = self.USUAL if exported.deltas else self.USUAL_WITHOUT_DELTAS
         for said in self.rounds()[number : number + 1]:
-            complaints += unusual_lines(said, self.USUAL)
+            complaints += unusual_lines(said, usual)
         return Fort.found(self.folder, complaints)
 
     def close(self):

@@ -5,6 +5,8 @@ TOP = os.path.dirname(os.path.dirname(os.path.dirname(os.path.abspath(__file__))
 SIGNER = os.path.join(TOP, "signer", "krill-signer")
 # The longest that a session may take, in seconds. A publication of 1,024 origins makes as many keys.
 LONGEST = 1800
+# The keys that a signer makes ahead: all processors make them, and few are made for nothing.
+POOL = "16"
 
 
 class Failed(Exception):
@@ -12,12 +14,12 @@ class Failed(Exception):
 
 
 class Program:
-    """krillc over an empty store in a folder of its own, with so many signers."""
+    """krillc over the store in a folder of its own, which is empty at first, with so many signers."""
 
     def __init__(self, program, folder, signers):
         self.folder = folder
         self.data = os.path.join(folder, "krill-data")
-        os.makedirs(self.data)
+        os.makedirs(self.data, exist_ok=True)
         self.signers = [self._start_signer(number) for number in range(signers)]
         self.krillc = subprocess.Popen(
             [program, "run"], cwd=folder, stdin=subprocess.PIPE, stdout=subprocess.PIPE, text=True)
@@ -28,9 +30,11 @@ class Program:
         """A signer at its FIFOs, which stand before either program starts."""
         path = os.path.join(self.data, f"signer-{number}")
         for end in (".in", ".out"):
-            os.mkfifo(path + end, 0o600)
+            if not os.path.exists(path + end):
+                os.mkfifo(path + end, 0o600)
         keys = os.path.join(self.folder, f"keys-{number}")
-        return subprocess.Popen([sys.executable, SIGNER, "--keys", keys, "--fifos", path, "--one-run"])
+        words = ["--keys", keys, "--fifos", path, "--one-run", "--pool", POOL]
+        return subprocess.Popen([sys.executable, SIGNER, *words])
 
     @property
     def repository(self):
