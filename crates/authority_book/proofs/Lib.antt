@@ -11,5 +11,6 @@ mod Placed
 mod Removed
 mod ChildPlaces
 mod Limits
+mod Rollovers
 mod Same
 mod Gap

@@ -8,7 +8,7 @@ use Rattle.std.specs.Str.{bytes_eq}
 use Rattle.origins.specs.declared.Origin.{Origin}
 use Rattle.authority_book.specs.declared.rows.Child.{Child}
 use Rattle.authority_book.specs.declared.commands.Command.{Command}
-use Rattle.authority_book.specs.declared.commands.Command.TheVariants.{Add, Delete, AddParent, AddChild, UpdateChild, RemoveChild, SuspendChild, UnsuspendChild, UpdateRoas}
+use Rattle.authority_book.specs.declared.commands.Command.TheVariants.{Add, Delete, AddParent, AddChild, UpdateChild, RemoveChild, SuspendChild, UnsuspendChild, UpdateRoas, InitRoll, ActivateRoll}
 use Rattle.authority_book.specs.declared.refusals.Refusal.{Refusal}
 use Rattle.authority_book.specs.declared.refusals.Refusal.TheVariants.{Deleted, NameTaken, TooManyAuthorities, ChildThere, TooManyChildren, AnchorOnly, OriginThere, OriginTwice, NoSuchOrigin, TooManyOrigins}
 use Rattle.authority_book.specs.Origins.{origin_cmp, without, with_one, with_each, first_repeated, IsAscending}
@@ -23,7 +23,7 @@ use Rattle.authority_book.proofs.Changes.{none_first, accepted-distinct, ascendi
 use Rattle.authority_book.proofs.Ascending.{ascending-with_each}
 use Rattle.authority_book.proofs.Sorted.{ascending-nil}
 
-not_refused : (cause : Bool) (refusal : Refusal) → refused_if cause refusal ≡ None → cause ≡ false
+pub not_refused : (cause : Bool) (refusal : Refusal) → refused_if cause refusal ≡ None → cause ≡ false
 not_refused true refusal none = absurd (cc)
 not_refused false refusal none = refl
 
@@ -31,7 +31,7 @@ below_limit : (limit n : ℕ) → nat_le limit n ≡ false → n + 1 ≤ limit
 below_limit limit n h = grind arith
 
 -- The causes behind the first aren't there either.
-in_force : (settings : Settings) (command : Command) → IsAccepted settings command → refusal_in_force settings command None ≡ None
+pub in_force : (settings : Settings) (command : Command) → IsAccepted settings command → refusal_in_force settings command None ≡ None
 in_force settings command accepted =
     (none_first (refused_if settings.deleted Deleted) (refusal_in_force settings command None) accepted).1
 
@@ -156,6 +156,8 @@ kept-after s (UpdateRoas added removed) kept named accepted =
       few_origins = changed_few s.origins added removed roas;
       ascending = changed_up s.origins added removed kept.ascending roas;
     }
+kept-after s InitRoll kept named accepted = kept
+kept-after s ActivateRoll kept named accepted = kept
 
 up-after : (s : Settings) (command : Command) → IsAscending s.origins → IsAccepted s command → IsAscending (after s command).origins
 up-after s (Add name signer) up accepted = up
@@ -167,6 +169,8 @@ up-after s (RemoveChild child) up accepted = up
 up-after s (SuspendChild child) up accepted = up
 up-after s (UnsuspendChild child) up accepted = up
 up-after s (UpdateRoas added removed) up accepted = changed_up s.origins added removed up (in_force s (UpdateRoas added removed) accepted)
+up-after s InitRoll up accepted = up
+up-after s ActivateRoll up accepted = up
 
 up-all : (s : Settings) (commands : List Command) → IsAscending s.origins → AcceptedInTurn s commands → IsAscending (after_all s commands).origins
 up-all s [] up accepted = up

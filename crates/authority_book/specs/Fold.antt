@@ -2,7 +2,7 @@
 use Rattle.std.specs.Prelude.{ℕ, ◌+◌, ◌-◌, ◌^◌, ◌==◌, false, true, min, List, length, [], ◌∷◌, ◌++◌, None, Some, codes, if◌then◌else◌}
 use Rattle.authority_book.specs.declared.rows.NameRow.{NameRow}
 use Rattle.authority_book.specs.declared.commands.Command.{Command}
-use Rattle.authority_book.specs.declared.commands.Command.TheVariants.{Add, Delete, AddParent, AddChild, UpdateChild, RemoveChild, SuspendChild, UnsuspendChild, UpdateRoas}
+use Rattle.authority_book.specs.declared.commands.Command.TheVariants.{Add, Delete, AddParent, AddChild, UpdateChild, RemoveChild, SuspendChild, UnsuspendChild, UpdateRoas, InitRoll, ActivateRoll}
 use Rattle.authority_book.specs.Origins.{without, with_each}
 use Rattle.authority_book.specs.Listed.{without_child, with_changed, granted, suspended_as}
 use Rattle.authority_book.specs.Settings.{Settings, Room}
@@ -11,6 +11,10 @@ use Rattle.authority_book.specs.Verdict.{IsAccepted}
 -- One more, up to the last number of 64 bits, where the count stands still.
 abbrev pub counted : ℕ → ℕ
 counted count = min (count + 1) (2 ^ 64 - 1)
+
+-- One rollover more, up to the last number of 32 bits, where their number stands still.
+abbrev pub rolled : ℕ → ℕ
+rolled rolls = min (rolls + 1) (2 ^ 32 - 1)
 
 -- What a command changes, but for the count. A change of the origins removes first, and adds then.
 abbrev pub changed : Settings → Command → Settings
@@ -37,6 +41,8 @@ changed settings (UnsuspendChild child) = record settings {
 changed settings (UpdateRoas added removed) = record settings {
   origins = with_each (without settings.origins removed) added;
 }
+changed settings InitRoll = record settings { inits = rolled settings.inits }
+changed settings ActivateRoll = record settings { activates = rolled settings.activates }
 
 -- A configuration with one command applied.
 abbrev pub after : Settings → Command → Settings

@@ -6,7 +6,7 @@ use Rattle.authority_book.specs.declared.rows.Child.{Child}
 
 -- The configuration of a desk: its number; the names of the tree, which the anchor's alone has;
 -- whether the authority is deleted; its parent; its children in the order in which they came; its
--- route origins in ascending order; how often a key roll was begun and activated; and how many
+-- route origins in ascending order; how often a key rollover was begun and activated; and how many
 -- commands it accepted.
 pub record Settings : Type 0 where
   pub desk : ℕ

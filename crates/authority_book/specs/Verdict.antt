@@ -3,9 +3,9 @@ use Rattle.std.specs.Prelude.{◌≡◌, ℕ, ◌+◌, Bool, false, not, ◌&&�
 use Rattle.origins.specs.declared.Origin.{Origin}
 use Rattle.authority_book.specs.declared.rows.Child.{Child}
 use Rattle.authority_book.specs.declared.commands.Command.{Command}
-use Rattle.authority_book.specs.declared.commands.Command.TheVariants.{Add, Delete, AddParent, AddChild, UpdateChild, RemoveChild, SuspendChild, UnsuspendChild, UpdateRoas}
+use Rattle.authority_book.specs.declared.commands.Command.TheVariants.{Add, Delete, AddParent, AddChild, UpdateChild, RemoveChild, SuspendChild, UnsuspendChild, UpdateRoas, InitRoll, ActivateRoll}
 use Rattle.authority_book.specs.declared.refusals.Refusal.{Refusal}
-use Rattle.authority_book.specs.declared.refusals.Refusal.TheVariants.{Deleted, NameTaken, TooManyAuthorities, NoSuchSigner, HasParent, ChildThere, NoSuchChild, TooManyChildren, Suspended, NotSuspended, OriginThere, OriginTwice, NoSuchOrigin, TooManyOrigins, AnchorOnly, NotForAnchor}
+use Rattle.authority_book.specs.declared.refusals.Refusal.TheVariants.{Deleted, NameTaken, TooManyAuthorities, NoSuchSigner, HasParent, NoParent, ChildThere, NoSuchChild, TooManyChildren, Suspended, NotSuspended, OriginThere, OriginTwice, NoSuchOrigin, TooManyOrigins, RollGoing, NoRoll, AnchorOnly, NotForAnchor}
 use Rattle.authority_book.specs.Origins.{is_there, without, first_repeated}
 use Rattle.authority_book.specs.Listed.{is_listed, is_child, child_of}
 use Rattle.authority_book.specs.Settings.{Settings}
@@ -100,6 +100,19 @@ roas_refusal configured added removed =
     (first_cause (refused_at NoSuchOrigin (missing configured removed))
     (too_many (count_with configured added removed)))))
 
+-- A rollover may begin where there is a parent, and none is going: each that was begun is activated.
+abbrev pub init_refusal : Settings → Option Refusal
+init_refusal settings =
+    first_cause (refused_if (is_anchor settings) NotForAnchor)
+    (first_cause (refused_if (not (is_some settings.parent)) NoParent)
+    (refused_if (nat_lt settings.activates settings.inits) RollGoing))
+
+-- One may be activated where one was begun that isn't.
+abbrev pub activate_refusal : Settings → Option Refusal
+activate_refusal settings =
+    first_cause (refused_if (is_anchor settings) NotForAnchor)
+    (refused_if (settings.inits == settings.activates) NoRoll)
+
 -- The first cause to refuse a command to an authority that isn't deleted.
 abbrev pub refusal_in_force : Settings → Command → Option ℕ → Option Refusal
 refusal_in_force settings (Add name signer) signers = add_refusal settings name signer signers
@@ -114,6 +127,8 @@ refusal_in_force settings (UnsuspendChild child) signers =
     unsuspend_refusal (child_of settings.children child)
 refusal_in_force settings (UpdateRoas added removed) signers =
     roas_refusal settings.origins added removed
+refusal_in_force settings InitRoll signers = init_refusal settings
+refusal_in_force settings ActivateRoll signers = activate_refusal settings
 
 -- The first cause to refuse the command where so many signers are at hand, or where it isn't asked
 -- how many there are.

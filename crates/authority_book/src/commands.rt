@@ -50,6 +50,10 @@ pub enum Command {
         added: OriginList,
         removed: OriginList,
     },
+    /// Begins a rollover of the authority's key (RFC 6489 section 2). The trust anchor's isn't rolled.
+    InitRoll,
+    /// Has the new key take the place of the current one, once its staging period is over.
+    ActivateRoll,
 }
 
 impl Command {
@@ -79,6 +83,8 @@ impl Command {
                 added: added.copy(alloc)?,
                 removed: removed.copy(alloc)?,
             },
+            Command::InitRoll => Command::InitRoll,
+            Command::ActivateRoll => Command::ActivateRoll,
         })
     }
 }

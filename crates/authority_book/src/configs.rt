@@ -7,6 +7,7 @@ ghost use Rattle.authority_book.specs.Listed.{place_of, child_of};
 ghost use Rattle.authority_book.specs.inner.Limits.{AreKept, AddsName};
 ghost use Rattle.names.specs.Name.{IsName};
 ghost use Rattle.authority_book.specs.Settings.{ConfigValue, Covers, plus};
+ghost use Rattle.authority_book.specs.Fold.{rolled};
 
 use crate::children::{copy_children, push_child, remove_child, set_grant, set_suspended};
 use crate::commands::{Command, adds_name};
@@ -159,14 +160,14 @@ impl Config {
         self.origins().binary_search(origin).is_ok()
     }
 
-    /// How often a key roll was begun.
+    /// How often a key rollover was begun. It stands still at 2^32 - 1.
     pub fn inits(&self) -> u32
         ensures { result ≡ self.now.settings.inits }
     {
         self.inits
     }
 
-    /// How often a key roll was activated.
+    /// How often a key rollover was activated. It stands still at 2^32 - 1.
     pub fn activates(&self) -> u32
         ensures { result ≡ self.now.settings.activates }
     {
@@ -251,7 +252,16 @@ impl Config {
             Command::UpdateRoas { added, removed } => {
                 self.origins.update(&added, &removed);
             }
+            Command::InitRoll => count_rollover(&mut self.inits),
+            Command::ActivateRoll => count_rollover(&mut self.activates),
         }
         self.count = self.count.saturating_add(1);
     }
+}
+
+// One rollover more, up to the last number of the type.
+fn count_rollover(rollovers: &mut u32)
+    ensures { rollovers.new ≡ rolled rollovers.old }
+{
+    *rollovers = rollovers.saturating_add(1);
 }

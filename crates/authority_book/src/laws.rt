@@ -1,6 +1,6 @@
 //! Laws of the definitions that the contracts cite.
 
-ghost use Rattle.std.specs.Prelude.{◌≡◌, ◌↔◌, ℕ, IsTrue, List};
+ghost use Rattle.std.specs.Prelude.{◌≡◌, ◌≤◌, ◌+◌, ◌↔◌, ℕ, IsTrue, List};
 ghost use Rattle.std.specs.List.{Contains};
 ghost use Rattle.origins.specs.declared.Origin.{Origin};
 ghost use Rattle.authority_book.specs.declared.commands.Command.{Command};
@@ -18,4 +18,11 @@ pub fn membership_is_by_equality()
 pub fn accepted_origins_ascend()
     ensures { (desk : ℕ) (commands : List Command) → Taken desk commands
         → IsAscending (fold_of desk commands).origins }
+{}
+
+/// Rollovers are begun and activated in turn: as many are activated as begun, or one fewer.
+pub fn rollovers_take_turns()
+    ensures { (desk : ℕ) (commands : List Command) → Taken desk commands
+        → ((fold_of desk commands).activates ≤ (fold_of desk commands).inits)
+        × ((fold_of desk commands).inits ≤ (fold_of desk commands).activates + 1) }
 {}

@@ -14,7 +14,7 @@ mod verdicts;
 
 pub use commands::Command;
 pub use configs::Config;
-pub use laws::{accepted_origins_ascend, membership_is_by_equality};
+pub use laws::{accepted_origins_ascend, membership_is_by_equality, rollovers_take_turns};
 pub use origin_lists::OriginList;
 pub use refusals::Refusal;
 pub use rows::{Child, NameRow};

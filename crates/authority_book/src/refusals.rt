@@ -18,6 +18,8 @@ pub enum Refusal {
     NoSuchSigner,
     /// The authority has a parent already.
     HasParent,
+    /// The authority has no parent.
+    NoParent,
     /// The child is there already.
     ChildThere,
     /// There is no such child.
@@ -36,6 +38,10 @@ pub enum Refusal {
     NoSuchOrigin { origin: Origin },
     /// More than 1,024 origins would be configured: so many.
     TooManyOrigins { after: u64 },
+    /// A key rollover was begun and isn't activated yet.
+    RollGoing,
+    /// Every key rollover that was begun is activated.
+    NoRoll,
     /// The anchor alone takes this command.
     AnchorOnly,
     /// The anchor doesn't take this command.
@@ -53,6 +59,7 @@ impl Refusal {
             Refusal::TooManyAuthorities => 3,
             Refusal::NoSuchSigner => 4,
             Refusal::HasParent => 5,
+            Refusal::NoParent => 6,
             Refusal::ChildThere => 7,
             Refusal::NoSuchChild => 8,
             Refusal::TooManyChildren => 9,
@@ -62,6 +69,8 @@ impl Refusal {
             Refusal::OriginTwice { .. } => 13,
             Refusal::NoSuchOrigin { .. } => 14,
             Refusal::TooManyOrigins { .. } => 15,
+            Refusal::RollGoing => 16,
+            Refusal::NoRoll => 17,
             Refusal::AnchorOnly => 18,
             Refusal::NotForAnchor => 19,
         }
@@ -77,6 +86,7 @@ impl Refusal {
             Refusal::TooManyAuthorities => "TooManyAuthorities",
             Refusal::NoSuchSigner => "NoSuchSigner",
             Refusal::HasParent => "HasParent",
+            Refusal::NoParent => "NoParent",
             Refusal::ChildThere => "ChildThere",
             Refusal::NoSuchChild => "NoSuchChild",
             Refusal::TooManyChildren => "TooManyChildren",
@@ -86,6 +96,8 @@ impl Refusal {
             Refusal::OriginTwice { .. } => "OriginTwice",
             Refusal::NoSuchOrigin { .. } => "NoSuchOrigin",
             Refusal::TooManyOrigins { .. } => "TooManyOrigins",
+            Refusal::RollGoing => "RollGoing",
+            Refusal::NoRoll => "NoRoll",
             Refusal::AnchorOnly => "AnchorOnly",
             Refusal::NotForAnchor => "NotForAnchor",
         }

@@ -4,7 +4,7 @@ ghost use Rattle.std.specs.Prelude.{◌≡◌, Some, None, OnOk};
 ghost use Rattle.authority_book.specs.Origins.{first_repeated};
 ghost use Rattle.authority_book.specs.Listed.{child_of};
 ghost use Rattle.authority_book.specs.Listed as listed;
-ghost use Rattle.authority_book.specs.Verdict.{verdict_of, add_refusal, delete_refusal, parent_refusal, add_child_refusal, change_refusal, suspend_refusal, unsuspend_refusal, roas_refusal, refused_or_ok, there_already, missing, count_with, IsAccepted};
+ghost use Rattle.authority_book.specs.Verdict.{verdict_of, add_refusal, delete_refusal, parent_refusal, add_child_refusal, change_refusal, suspend_refusal, unsuspend_refusal, roas_refusal, init_refusal, activate_refusal, refused_or_ok, there_already, missing, count_with, IsAccepted};
 ghost use Rattle.authority_book.specs.Verdict as verdict;
 
 use crate::commands::Command;
@@ -63,6 +63,8 @@ fn verdict_with(config: &Config, command: &Command, signers: Option<u32>) -> Res
         Command::SuspendChild { child } => suspend_verdict(config, child),
         Command::UnsuspendChild { child } => unsuspend_verdict(config, child),
         Command::UpdateRoas { added, removed } => roas_verdict(config, added, removed),
+        Command::InitRoll => init_verdict(config),
+        Command::ActivateRoll => activate_verdict(config),
     }
 }
 
@@ -235,4 +237,31 @@ fn count_after(config: &Config, added: &OriginList, removed: &OriginList) -> u64
     ensures { result ≡ count_with config.now.settings.origins added.now removed.now }
 {
     config.origins().len() as u64 - removed.len() as u64 + added.len() as u64
+}
+
+fn init_verdict(config: &Config) -> Result<(), Refusal>
+    ensures { result ≡ refused_or_ok (init_refusal config.now.settings) }
+{
+    if is_anchor(config) {
+        return Err(Refusal::NotForAnchor);
+    }
+    if config.parent().is_none() {
+        return Err(Refusal::NoParent);
+    }
+    if config.inits() > config.activates() {
+        return Err(Refusal::RollGoing);
+    }
+    Ok(())
+}
+
+fn activate_verdict(config: &Config) -> Result<(), Refusal>
+    ensures { result ≡ refused_or_ok (activate_refusal config.now.settings) }
+{
+    if is_anchor(config) {
+        return Err(Refusal::NotForAnchor);
+    }
+    if config.inits() == config.activates() {
+        return Err(Refusal::NoRoll);
+    }
+    Ok(())
 }

@@ -11,7 +11,7 @@ use Rattle.res_sets.specs.declared.holdings.Resources.{Resources}
 use Rattle.res_sets.specs.Numbers.{family_end, any_spans}
 use Rattle.res_sets.specs.laws.SetLaws.{same_range, same_resources}
 use Rattle.authority_book.specs.declared.commands.Command.{Command}
-use Rattle.authority_book.specs.declared.commands.Command.TheVariants.{Add, Delete, AddParent, AddChild, UpdateChild, RemoveChild, SuspendChild, UnsuspendChild, UpdateRoas}
+use Rattle.authority_book.specs.declared.commands.Command.TheVariants.{Add, Delete, AddParent, AddChild, UpdateChild, RemoveChild, SuspendChild, UnsuspendChild, UpdateRoas, InitRoll, ActivateRoll}
 use Rattle.cmd_codec.specs.Spelling.{Part, IsSound, IsRecordable, row, granted, spelling, family_byte, bytes_32, bytes_128, origin_spelling, range_spelling, part_spelling}
 use Rattle.cmd_codec.specs.Spelling.Part.{TheNumber, TheName, TheOrigins, TheRanges}
 use Rattle.cmd_codec.specs.Fault.{Kind, kinds_of}
@@ -161,6 +161,8 @@ same_rows (RemoveChild n) (RemoveChild m) first parts = ap (λ (t : List ℕ). R
 same_rows (UpdateRoas a b) (UpdateRoas d e) first parts = let x : a ≡ d = cc in let y : b ≡ e = cc in (λ i. UpdateRoas (x i) (y i))
 same_rows (SuspendChild n) (SuspendChild m) first parts = ap (λ (t : List ℕ). SuspendChild t) (same_name n m [] [] parts).0
 same_rows (UnsuspendChild n) (UnsuspendChild m) first parts = ap (λ (t : List ℕ). UnsuspendChild t) (same_name n m [] [] parts).0
+same_rows InitRoll InitRoll first parts = refl
+same_rows ActivateRoll ActivateRoll first parts = refl
 same_rows one other first parts = absurd (omega arith)
 
 some_same : (a b : List Kind) → Some a ≡ Some b → a ≡ b

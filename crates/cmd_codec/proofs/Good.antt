@@ -11,7 +11,7 @@ use Rattle.res_sets.specs.declared.numbers.Range.{Range}
 use Rattle.res_sets.specs.declared.holdings.Resources.{Resources}
 use Rattle.res_sets.specs.Numbers.{family_end, any_spans, RisesFrom}
 use Rattle.authority_book.specs.declared.commands.Command.{Command}
-use Rattle.authority_book.specs.declared.commands.Command.TheVariants.{Add, Delete, AddParent, AddChild, UpdateChild, RemoveChild, SuspendChild, UnsuspendChild, UpdateRoas}
+use Rattle.authority_book.specs.declared.commands.Command.TheVariants.{Add, Delete, AddParent, AddChild, UpdateChild, RemoveChild, SuspendChild, UnsuspendChild, UpdateRoas, InitRoll, ActivateRoll}
 use Rattle.cmd_codec.specs.Spelling.{Part, IsSound, IsRecordable, row, granted, spelling, family_byte, bytes_32, bytes_128, origin_spelling, range_spelling, part_spelling}
 use Rattle.cmd_codec.specs.Spelling.Part.{TheNumber, TheName, TheOrigins, TheRanges}
 use Rattle.cmd_codec.specs.Fault.{Place, Way, Kind, and_then, field, front_32, front_128, is_any, is_name_length, is_name_text, is_origin, are_of_origin, is_range, origin_fields, range_fields, part, parts, parts_if, kinds_of, grant_kinds, fields, bad_of, first_bad}
@@ -218,6 +218,8 @@ row_kinds (RemoveChild child) = refl
 row_kinds (UpdateRoas added removed) = refl
 row_kinds (SuspendChild child) = refl
 row_kinds (UnsuspendChild child) = refl
+row_kinds InitRoll = refl
+row_kinds ActivateRoll = refl
 
 pub spelled_good : (command : Command) → IsRecordable command → first_bad (spelling command) ≡ None
 unfolding spelling fields

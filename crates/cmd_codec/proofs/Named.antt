@@ -6,7 +6,7 @@ use Rattle.std.proofs.lemmas.List.Elements.{All-nil, All-cons, All-push}
 use Rattle.std.proofs.lemmas.List.Sums.{AllPass-from_list_all}
 use Rattle.names.specs.Name.{IsName, is_name_byte}
 use Rattle.authority_book.specs.declared.commands.Command.{Command}
-use Rattle.authority_book.specs.declared.commands.Command.TheVariants.{Add, Delete, AddParent, AddChild, UpdateChild, RemoveChild, SuspendChild, UnsuspendChild, UpdateRoas}
+use Rattle.authority_book.specs.declared.commands.Command.TheVariants.{Add, Delete, AddParent, AddChild, UpdateChild, RemoveChild, SuspendChild, UnsuspendChild, UpdateRoas, InitRoll, ActivateRoll}
 use Rattle.authority_book.specs.declared.rows.NameRow.{NameRow}
 use Rattle.authority_book.specs.Settings.{Settings}
 use Rattle.authority_book.specs.Fold.{after, after_all, empty_settings, fold_of}
@@ -33,6 +33,8 @@ named_after settings (RemoveChild child) all held = all
 named_after settings (SuspendChild child) all held = all
 named_after settings (UnsuspendChild child) all held = all
 named_after settings (UpdateRoas added removed) all held = all
+named_after settings InitRoll all held = all
+named_after settings ActivateRoll all held = all
 
 named_through : (settings : Settings) (commands : List Command) → All IsNamed settings.names → AllByRecursion IsRecordable commands
     → All IsNamed (after_all settings commands).names

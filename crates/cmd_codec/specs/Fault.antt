@@ -120,6 +120,8 @@ kinds_of first =
     if first == 7 then Some (OriginsPart ∷ OriginsPart ∷ []) else
     if first == 8 then Some (NamePart ∷ []) else
     if first == 9 then Some (NamePart ∷ []) else
+    if first == 10 then Some [] else
+    if first == 11 then Some [] else
     None
 
 -- The parts, where there is such a record, and else the first byte is bad.

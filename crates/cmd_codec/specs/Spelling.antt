@@ -8,7 +8,7 @@ use Rattle.res_sets.specs.declared.numbers.Range.{Range}
 use Rattle.res_sets.specs.declared.holdings.Resources.{Resources}
 use Rattle.res_sets.specs.Sets.{RangeSet, IsCanonical}
 use Rattle.authority_book.specs.declared.commands.Command.{Command}
-use Rattle.authority_book.specs.declared.commands.Command.TheVariants.{Add, Delete, AddParent, AddChild, UpdateChild, RemoveChild, SuspendChild, UnsuspendChild, UpdateRoas}
+use Rattle.authority_book.specs.declared.commands.Command.TheVariants.{Add, Delete, AddParent, AddChild, UpdateChild, RemoveChild, SuspendChild, UnsuspendChild, UpdateRoas, InitRoll, ActivateRoll}
 
 -- A number in 4 bytes, and in 16.
 unfoldable pub bytes_32 : ℕ → List ℕ
@@ -39,6 +39,8 @@ row (RemoveChild child) = (6, TheName child ∷ [])
 row (UpdateRoas added removed) = (7, TheOrigins added ∷ TheOrigins removed ∷ [])
 row (SuspendChild child) = (8, TheName child ∷ [])
 row (UnsuspendChild child) = (9, TheName child ∷ [])
+row InitRoll = (10, [])
+row ActivateRoll = (11, [])
 
 -- The address family: 1 for IPv6, 0 for IPv4.
 abbrev pub family_byte : Bool → ℕ

@@ -18,6 +18,10 @@ pub const SUSPEND_CHILD: u8 = 8;
 
 pub const UNSUSPEND_CHILD: u8 = 9;
 
+pub const INIT_ROLL: u8 = 10;
+
+pub const ACTIVATE_ROLL: u8 = 11;
+
 /// How many bytes a number, a length or a count has.
 pub const NUMBER_SIZE: usize = 4;
 

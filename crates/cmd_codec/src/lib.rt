@@ -11,6 +11,7 @@
 //! | 6 | `RemoveChild` | child |
 //! | 7 | `UpdateRoas` | added origins, removed origins |
 //! | 8, 9 | `SuspendChild`, `UnsuspendChild` | child |
+//! | 10, 11 | `InitRoll`, `ActivateRoll` | none |
 //!
 //! A name is its length in 4 bytes and its bytes. Numbers are a count in 4 bytes and for each range its
 //! first and last in 16 bytes each. Origins are a count in 4 bytes and 23 bytes each: the family (1 for

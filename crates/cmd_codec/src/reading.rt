@@ -12,8 +12,8 @@ ghost use Rattle.cmd_codec.specs.Outcome.{IsUnlessMemory, Answers, ReadsParts, R
 use crate::cursor::Cursor;
 use crate::faults::RecordFault;
 use crate::format::{
-    ADD, ADD_CHILD, ADD_PARENT, DELETE, REMOVE_CHILD, SUSPEND_CHILD, UNSUSPEND_CHILD, UPDATE_CHILD,
-    UPDATE_ROAS,
+    ACTIVATE_ROLL, ADD, ADD_CHILD, ADD_PARENT, DELETE, INIT_ROLL, REMOVE_CHILD, SUSPEND_CHILD,
+    UNSUSPEND_CHILD, UPDATE_CHILD, UPDATE_ROAS,
 };
 use authority_book::Command;
 use names::Name;
@@ -80,6 +80,8 @@ fn command_of(alloc: Global, first: u8, cursor: &mut Cursor<'_>) -> Result<Comma
         UNSUSPEND_CHILD => Ok(Command::UnsuspendChild {
             child: cursor.name()?,
         }),
+        INIT_ROLL => Ok(Command::InitRoll),
+        ACTIVATE_ROLL => Ok(Command::ActivateRoll),
         _ => Err(RecordFault::BadRecord { at: 0 }),
     }
 }

@@ -7,8 +7,8 @@ ghost use Rattle.cmd_codec.specs.Spelling.{granted, row, origin_spelling, range_
 ghost use Rattle.cmd_codec.specs.Spelling.Part.{TheName, TheNumber, TheOrigins, TheRanges};
 
 use crate::format::{
-    ADD, ADD_CHILD, ADD_PARENT, DELETE, NUMBER_SIZE, ORIGIN_SIZE, RANGE_SIZE, REMOVE_CHILD,
-    SUSPEND_CHILD, UNSUSPEND_CHILD, UPDATE_CHILD, UPDATE_ROAS,
+    ACTIVATE_ROLL, ADD, ADD_CHILD, ADD_PARENT, DELETE, INIT_ROLL, NUMBER_SIZE, ORIGIN_SIZE,
+    RANGE_SIZE, REMOVE_CHILD, SUSPEND_CHILD, UNSUSPEND_CHILD, UPDATE_CHILD, UPDATE_ROAS,
 };
 use authority_book::{Command, OriginList};
 use names::Name;
@@ -48,7 +48,7 @@ fn parts_len(command: &Command) -> u64
 {
     match command {
         Command::Add { name, signer } => name_len(name) + number_len(*signer),
-        Command::Delete => 0,
+        Command::Delete | Command::InitRoll | Command::ActivateRoll => 0,
         Command::AddParent { parent: name }
         | Command::RemoveChild { child: name }
         | Command::SuspendChild { child: name }
@@ -114,6 +114,8 @@ fn first_byte(command: &Command) -> u8
         Command::UpdateRoas { .. } => UPDATE_ROAS,
         Command::SuspendChild { .. } => SUSPEND_CHILD,
         Command::UnsuspendChild { .. } => UNSUSPEND_CHILD,
+        Command::InitRoll => INIT_ROLL,
+        Command::ActivateRoll => ACTIVATE_ROLL,
     }
 }
 
@@ -127,7 +129,7 @@ fn push_parts(bytes: &mut Vec<u8>, command: &Command) -> Result<(), AllocError>
             push_name(bytes, name)?;
             push_number(bytes, *signer)
         }
-        Command::Delete => Ok(()),
+        Command::Delete | Command::InitRoll | Command::ActivateRoll => Ok(()),
         Command::AddParent { parent: name }
         | Command::RemoveChild { child: name }
         | Command::SuspendChild { child: name }

@@ -7,9 +7,12 @@ use Rattle.authority_book.specs.declared.rows.NameRow.{NameRow}
 use Rattle.entitle.specs.Certified.{names_of}
 use Rattle.key_roll.specs.declared.rows.Role.TheVariants.{New, Current, Old}
 use Rattle.key_roll.specs.declared.rows.KeyRow.{KeyRow}
+use Rattle.key_roll.specs.declared.stages.Stage.{Stage}
+use Rattle.key_roll.specs.declared.stages.StepEnd.{StepEnd}
+use Rattle.key_roll.specs.Stages.{step_of}
 use Rattle.issue_plan.specs.declared.keys.NextKey.{NextKey}
 use Rattle.issue_plan.specs.declared.keys.Asked.{Asked}
-use Rattle.issue_plan.specs.Keys.{Basis, keys_of, keys_at, keys_of_first, keys_after, asked_at, row_of, holds_nothing, list_of, inits_of, activates_of}
+use Rattle.issue_plan.specs.Keys.{Basis, keys_of, keys_at, keys_of_first, keys_after, keys_at_end, stage_of, asked_at, row_of, holds_nothing, list_of, inits_of, activates_of}
 
 pub unnamed : (basis : Basis) (desk : ℕ) (keys : List NextKey) → slice_get (names_of basis.configs) desk ≡ None →
     keys ≡ keys ++ keys_at basis desk
@@ -71,7 +74,11 @@ desk_more basis desk before after is more =
     let next : suc desk ≡ desk + 1 = omega arith in
     subst (λ n. after ≡ keys_of_first basis n) next (more ∙ ap (λ l. l ++ keys_at basis desk) is)
 
-pub keys_staged : (asked : Asked) (new current old : Option KeyRow) (n c : KeyRow) (keys : List NextKey) → Some n ≡ new →
-    Some c ≡ current → ((o : Option KeyRow) → keys ≡ keys_after asked (Some n) (Some c) o) → keys ≡ keys_after asked new current old
-keys_staged asked new current old n c keys at_new at_current is =
-    is old ∙ (ap (λ o. keys_after asked o (Some c) old) at_new ∙ ap (λ o. keys_after asked new o old) at_current)
+-- The keys with which a step by the table ends.
+pub keys_stepped : (asked : Asked) (new current old : Option KeyRow) (c : KeyRow) (stage : Stage) (end : StepEnd) (keys : List NextKey) →
+    Some c ≡ current → stage ≡ stage_of new c old → end ≡ step_of stage asked.inits asked.activates c.done asked.moment →
+    keys ≡ keys_at_end asked new c end → keys ≡ keys_after asked new current old
+keys_stepped asked new current old c stage end keys at_current stage_is end_is is =
+    let stepped : end ≡ step_of (stage_of new c old) asked.inits asked.activates c.done asked.moment =
+    end_is ∙ ap (λ (s : Stage). step_of s asked.inits asked.activates c.done asked.moment) stage_is in
+    is ∙ (ap (λ (e : StepEnd). keys_at_end asked new c e) stepped ∙ ap (λ (o : Option KeyRow). keys_after asked new o old) at_current)

@@ -1,4 +1,3 @@
-pub mod AnswerLemmas
 pub mod KeyLemmas
 pub mod UriLemmas
 pub mod Filters

@@ -1,6 +1,6 @@
 -- The keys of the next edition: what the stages of a key rollover make of the live ones (RFC 6489
 -- section 2).
-use Rattle.std.specs.Prelude.{ℕ, ◌+◌, zero, suc, ◌==◌, Bool, true, false, ◌&&◌, List, [], ◌∷◌, ◌++◌, length, find, slice_get, Option, None, Some, if◌then◌else◌}
+use Rattle.std.specs.Prelude.{ℕ, zero, suc, ◌==◌, Bool, true, false, ◌&&◌, List, [], ◌∷◌, ◌++◌, length, find, slice_get, Option, None, Some, if◌then◌else◌}
 use Rattle.sha1.specs.Sha1.{sha1}
 use Rattle.key_ids.specs.declared.identifier.KeyId.{KeyId}
 use Rattle.res_sets.specs.declared.holdings.Resources.{Resources}
@@ -13,7 +13,10 @@ use Rattle.key_roll.specs.declared.rows.Role.TheVariants.{New, Current, Old}
 use Rattle.key_roll.specs.declared.rows.KeyRow.{KeyRow}
 use Rattle.key_roll.specs.Roles.{is_role}
 use Rattle.key_roll.specs.declared.work.KeyName.TheVariants.{Live, Fresh}
-use Rattle.key_roll.specs.Stages.{is_begun, is_activated}
+use Rattle.key_roll.specs.declared.stages.Stage.{Stage}
+use Rattle.key_roll.specs.declared.stages.Stage.TheVariants.{Steady, Staged, Retiring}
+use Rattle.key_roll.specs.declared.stages.StepEnd.{StepEnd}
+use Rattle.key_roll.specs.Stages.{since_of, step_of}
 use Rattle.issue_plan.specs.declared.keys.NextKey.{NextKey}
 use Rattle.issue_plan.specs.declared.keys.Asked.{Asked}
 
@@ -59,22 +62,35 @@ abbrev pub list_of : Option NextKey → List NextKey
 list_of None = []
 list_of (Some key) = key ∷ []
 
--- The keys of an authority that holds something, by their roles. One without a key gets its first,
--- which counts all rollovers so far as done. A current key alone goes on, beside a new one where a
--- rollover begins. A new key waits, and at its activation becomes the current one, and the current
--- one old. An old key ends.
+-- The stage of an authority that has a current key, by the other keys that it has.
+abbrev pub stage_of : Option KeyRow → KeyRow → Option KeyRow → Stage
+stage_of (Some new) current old = Staged current.since
+stage_of None current (Some old) = Retiring
+stage_of None current None = Steady
+
+-- The keys with which a step ends, where a new key waited or none did, beside the current one. A key
+-- that is made waits. A new key that is activated becomes the current one, and the current one old.
+-- An old key doesn't stay.
+abbrev pub keys_at_end : Asked → Option KeyRow → KeyRow → StepEnd → List NextKey
+keys_at_end asked (Some new) current end =
+    if end.activated
+    then turned new Current (since_of end.stage) end.done
+    ∷ turned current Old (since_of end.stage) end.done ∷ []
+    else kept new ∷ kept current ∷ []
+keys_at_end asked None current end =
+    if end.made
+    then made asked.desk asked.signer New (since_of end.stage) end.done
+    ∷ turned current Current (since_of end.stage) end.done ∷ []
+    else kept current ∷ []
+
+-- The keys of an authority that holds something, by their roles: those with which a step by the
+-- table of stages ends. One without a current key gets its first, which counts all rollovers so far
+-- as done.
 abbrev pub keys_after : Asked → Option KeyRow → Option KeyRow → Option KeyRow → List NextKey
 keys_after asked new None old = made asked.desk asked.signer Current 0 asked.inits ∷ []
-keys_after asked (Some new) (Some current) old =
-    if is_activated asked.activates current.done current.since asked.moment
-    then turned new Current 0 (current.done + 1) ∷ turned current Old 0 (current.done + 1) ∷ []
-    else kept new ∷ kept current ∷ []
-keys_after asked None (Some current) (Some old) = kept current ∷ []
-keys_after asked None (Some current) None =
-    if is_begun asked.inits current.done
-    then made asked.desk asked.signer New asked.moment current.done
-    ∷ turned current Current asked.moment current.done ∷ []
-    else kept current ∷ []
+keys_after asked new (Some current) old =
+    keys_at_end asked new current
+    (step_of (stage_of new current old) asked.inits asked.activates current.done asked.moment)
 
 abbrev pub inits_of : Option Settings → ℕ
 inits_of None = 0

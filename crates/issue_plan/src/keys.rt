@@ -1,18 +1,17 @@
 //! The keys of the next edition (RFC 6489 section 2).
 
-ghost use Rattle.std.specs.Prelude.{◌≡◌, ◌++◌, ◌∷◌, [], ◌+◌, Some, None, Option, length, option_map, slice_get, IfOk, OnOk};
+ghost use Rattle.std.specs.Prelude.{◌≡◌, ◌++◌, ◌∷◌, [], Some, None, length, option_map, slice_get, IfOk, OnOk};
 ghost use Rattle.key_roll.specs.declared.rows.Role.TheVariants.{New, Current, Old};
-ghost use Rattle.key_roll.specs.declared.rows.KeyRow.{KeyRow};
-ghost use Rattle.key_roll.specs.Stages as stages;
+ghost use Rattle.issue_plan.specs.declared.keys.Asked.{Asked};
 ghost use Rattle.entitle.specs.Certified.{settings_of, names_of};
 ghost use Rattle.issue_plan.specs.Keys as spec;
-ghost use Rattle.issue_plan.specs.Keys.{Basis, keys_after, keys_at, list_of};
+ghost use Rattle.issue_plan.specs.Keys.{Basis, keys_at_end, keys_after, keys_at, list_of};
 
 use crate::lookups::{name_at, set_at};
 use authority_book::{Config, NameRow};
 use entitle::Tree;
 use key_ids::KeyId;
-use key_roll::{KeyName, KeyRow, Role, is_role};
+use key_roll::{KeyName, KeyRow, Role, Stage, StepEnd, is_role, step};
 use res_sets::Resources;
 use std::alloc::{AllocError, Global};
 
@@ -44,9 +43,6 @@ pub struct Asked {
     /// In seconds since 1970.
     pub moment: u64,
 }
-
-// In seconds.
-const STAGING_PERIOD: u64 = 86_400;
 
 /// The identifier of a live key.
 pub fn id_of(row: &KeyRow) -> KeyId
@@ -105,37 +101,43 @@ fn made(asked: &Asked, role: Role, since: u64, done: u32) -> NextKey
     }
 }
 
-fn is_activated(asked: &Asked, current: &KeyRow) -> bool
-    ensures { result ≡ stages.is_activated asked.now.activates current.now.done current.now.since asked.now.moment }
+// The stage of an authority that has a current key.
+fn stage_of(new: Option<&KeyRow>, current: &KeyRow, old: Option<&KeyRow>) -> Stage
+    ensures { result ≡ spec.stage_of (option_map (λ row. row.now) new.entry) current.now (option_map (λ row. row.now) old.entry) }
 {
-    current.done < asked.activates
-        && STAGING_PERIOD <= asked.moment
-        && current.since <= asked.moment - STAGING_PERIOD
+    match (new, old) {
+        (Some(_), _) => Stage::Staged {
+            since: current.since,
+        },
+        (None, Some(_)) => Stage::Retiring,
+        (None, None) => Stage::Steady,
+    }
 }
 
-// The keys where a new one waits beside the current one.
-fn staged(asked: &Asked, new: &KeyRow, current: &KeyRow) -> (NextKey, Option<NextKey>)
-    ensures { (old : Option KeyRow) → result.0 ∷ list_of result.1 ≡ keys_after asked.now (Some new.now) (Some current.now) old }
+// The keys with which a step ends, where a new one waited beside the current one.
+fn staged(new: &KeyRow, current: &KeyRow, end: &StepEnd) -> (NextKey, Option<NextKey>)
+    ensures { (asked : Asked) → result.0 ∷ list_of result.1 ≡ keys_at_end asked (Some new.now) current.now end.now }
 {
-    if is_activated(asked, current) {
-        let done = current.done + 1;
+    if end.activated {
+        let since = end.stage.since();
         (
-            turned(new, Role::Current, 0, done),
-            Some(turned(current, Role::Old, 0, done)),
+            turned(new, Role::Current, since, end.done),
+            Some(turned(current, Role::Old, since, end.done)),
         )
     } else {
         (kept(new), Some(kept(current)))
     }
 }
 
-// The keys where there is a current one alone.
-fn steady(asked: &Asked, current: &KeyRow) -> (NextKey, Option<NextKey>)
-    ensures { result.0 ∷ list_of result.1 ≡ keys_after asked.now None (Some current.now) None }
+// The same where none waited.
+fn unstaged(asked: &Asked, current: &KeyRow, end: &StepEnd) -> (NextKey, Option<NextKey>)
+    ensures { result.0 ∷ list_of result.1 ≡ keys_at_end asked.now None current.now end.now }
 {
-    if current.done < asked.inits {
+    if end.made {
+        let since = end.stage.since();
         (
-            made(asked, Role::New, asked.moment, current.done),
-            Some(turned(current, Role::Current, asked.moment, current.done)),
+            made(asked, Role::New, since, end.done),
+            Some(turned(current, Role::Current, since, end.done)),
         )
     } else {
         (kept(current), None)
@@ -150,13 +152,20 @@ fn keys_after(rows: &[KeyRow], asked: &Asked) -> (NextKey, Option<NextKey>)
     let Some(current) = row_of(rows, asked.desk, Role::Current) else {
         return (made(asked, Role::Current, 0, asked.inits), None);
     };
-    if let Some(new) = row_of(rows, asked.desk, Role::New) {
-        return staged(asked, new, current);
+    let new = row_of(rows, asked.desk, Role::New);
+    let old = row_of(rows, asked.desk, Role::Old);
+    let stage = stage_of(new, current, old);
+    let end = step(
+        stage,
+        asked.inits,
+        asked.activates,
+        current.done,
+        asked.moment,
+    );
+    match new {
+        Some(new) => staged(new, current, &end),
+        None => unstaged(asked, current, &end),
     }
-    if row_of(rows, asked.desk, Role::Old).is_some() {
-        return (kept(current), None);
-    }
-    steady(asked, current)
 }
 
 // Whether the set has no number.

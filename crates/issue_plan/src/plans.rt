@@ -122,7 +122,7 @@ pub fn plan(
         moment,
         new_keys: Items::new(new_keys(alloc, &keys)?),
         roles: Items::new(roles(alloc, &keys)?),
-        certs: Items::new(certificates(alloc, configs, tree, &keys)?),
+        certs: Items::new(certificates(alloc, rows, configs, tree, &keys)?),
         roas: Items::new(roas(alloc, &keys, owed)?),
         points: Items::new(points(alloc, &keys)?),
         withdrawn: Items::new(withdrawn(alloc, &wanted, issued.rows.as_slice())?),

@@ -1,17 +1,19 @@
 //! What an edition wants to stand: certificates, ROAs and publication points (RFC 6487, RFC 9582,
 //! RFC 9286).
 
-ghost use Rattle.std.specs.Prelude.{◌≡◌, map, IfOk};
+ghost use Rattle.std.specs.Prelude.{◌≡◌, ◌==◌, map, filter, IfOk};
 ghost use Rattle.std.specs.List.{filter_map};
 ghost use Rattle.entitle.specs.Certified.{settings_of, names_of};
+ghost use Rattle.issue_plan.specs.Keys as keys_spec;
 ghost use Rattle.issue_plan.specs.Wanted as spec;
 ghost use Rattle.issue_plan.specs.Wanted.{wanted_certificates, wanted_roas, wanted_points};
 
-use crate::keys::NextKey;
+use crate::keys::{NextKey, id_of};
 use crate::lookups::{parent_at, set_at};
 use authority_book::Config;
 use entitle::{Owed, Tree};
-use key_roll::{CertWork, KeyName, PointWork, RoaWork, Role, is_role};
+use key_ids::KeyId;
+use key_roll::{CertWork, KeyName, KeyRow, PointWork, RoaWork, Role, is_role};
 use provision::{Class, Reply, Request};
 use res_sets::Resources;
 use std::alloc::{AllocError, Global};
@@ -43,15 +45,32 @@ fn issuer_of(configs: &[Config], keys: &[NextKey], key: &NextKey) -> Option<KeyN
     current_of(keys, parents_desk(configs, key.desk)?)
 }
 
+// The keys of the desk that have a certificate: its live ones.
+fn certified_keys(alloc: Global, rows: &[KeyRow], desk: u32) -> Result<Vec<KeyId>, AllocError>
+    ensures { IfOk result (λ keys. keys.items
+        ≡ map keys_spec.id_of (filter (λ row. row.desk == desk) rows.now)) }
+{
+    rows.iter()
+        .filter(|row| row.desk == desk)
+        .map(|row| id_of(row))
+        .collect(alloc)
+}
+
 // What a certificate of the key is to hold, as the parent tells the authority that asks for it. One
 // that has no key yet asks which classes there are.
-fn certified_for(alloc: Global, set: &Resources, key: &KeyName) -> Result<Resources, AllocError>
+fn certified_for(
+    alloc: Global,
+    rows: &[KeyRow],
+    set: &Resources,
+    key: &NextKey,
+) -> Result<Resources, AllocError>
     ensures { IfOk result (λ held. held ≡ set.now) }
 {
     let class = Class {
         resources: set.copy(alloc)?,
+        keys: certified_keys(alloc, rows, key.desk)?,
     };
-    let request = match key {
+    let request = match &key.name {
         KeyName::Live { id } => Request::Issue {
             class: String::from_str(alloc, "0")?,
             key: *id,
@@ -61,12 +80,13 @@ fn certified_for(alloc: Global, set: &Resources, key: &KeyName) -> Result<Resour
     match provision::answer(alloc, &class, &request)? {
         Reply::Class { resources } | Reply::Issued { resources, .. } => Ok(resources),
         // An authority without resources has no key.
-        Reply::NoClass | Reply::Error { .. } => set.copy(alloc),
+        Reply::NoClass | Reply::Revoked { .. } | Reply::Error { .. } => set.copy(alloc),
     }
 }
 
 fn certificate_of(
     alloc: Global,
+    rows: &[KeyRow],
     configs: &[Config],
     tree: &Tree,
     keys: &[NextKey],
@@ -81,7 +101,7 @@ fn certificate_of(
     let Some(set) = set_at(tree, key.desk) else {
         return Ok(None);
     };
-    let held = certified_for(alloc, set, &key.name)?;
+    let held = certified_for(alloc, rows, set, key)?;
     Ok(Some(CertWork {
         subject: key.name,
         issuer,
@@ -89,9 +109,11 @@ fn certificate_of(
     }))
 }
 
-/// A certificate for each key (RFC 6487 section 4).
+/// A certificate for each key (RFC 6487 section 4). `rows` has the keys that are live before the
+/// edition.
 pub fn certificates(
     alloc: Global,
+    rows: &[KeyRow],
     configs: &[Config],
     tree: &Tree,
     keys: &[NextKey],
@@ -101,7 +123,7 @@ pub fn certificates(
 {
     let mut certificates = Vec::new(alloc);
     for key in keys {
-        if let Some(certificate) = certificate_of(alloc, configs, tree, keys, key)? {
+        if let Some(certificate) = certificate_of(alloc, rows, configs, tree, keys, key)? {
             certificates.push(certificate)?;
         }
     }

@@ -9,7 +9,7 @@ use Rattle.cert_obj.specs.Values.{CertValue}
 use Rattle.cert_obj.specs.Formats as certificates
 use Rattle.crl_obj.specs.Values.{CrlValue}
 use Rattle.crl_obj.specs.Formats as crls
-use Rattle.issue_sign.specs.Signed.{IsEnd}
+use Rattle.issue_sign.specs.Signed.{framed, IsEnd, IsCertificate}
 use Rattle.issue_keys.specs.declared.fault.MakeFault.{MakeFault}
 use Rattle.issue_keys.specs.Faults.{fault_of}
 use Rattle.issue_drafts.specs.Certificates.{IssueInput}
@@ -18,12 +18,14 @@ use Rattle.issue_drafts.specs.declared.draft.KeyAt.{KeyAt}
 use Rattle.issue_drafts.specs.declared.draft.Draft as code
 use Rattle.issue_drafts.specs.declared.draft.DraftKind.{DraftKind}
 use Rattle.issue_drafts.specs.declared.draft.DraftKind.TheVariants as kinds
+use Rattle.issue_sign.specs.declared.object.Object.{Object}
 use Rattle.issue_sign.specs.declared.firsts.Half.{Half}
+use Rattle.issue_sign.specs.declared.firsts.Half.TheVariants.{Made}
 use Rattle.issue_sign.specs.Objects.{Answers, Signed, certificate_with, crl_of}
 use Rattle.issue_sign.specs.Calls.{by_issuer, first_call, second_calls}
 use Rattle.issue_sign.specs.SignInput.{SignInputValue}
 use Rattle.issue_sign.specs.Made.{signed, of_drafts, IsShort, IsStop}
-use Rattle.issue_sign.specs.inner.Steps.{AreCalled, IsHalt}
+use Rattle.issue_sign.specs.inner.Steps.{IsCalled, AreCalled, IsHalt, IsObjectOf}
 use Rattle.issue_sign.specs.inner.Steps.{half_answers, IsHalf, IsFirst, IsDraft, Pairs, AreHalves}
 use Rattle.issue_sign.proofs.Lists.{pairs-nil, pairs-push}
 use Rattle.issue_sign.proofs.Going.{Stays, first-called-more, first-none, first-short, first-stop}
@@ -32,6 +34,23 @@ use Rattle.issue_sign.proofs.Places.{draft-here}
 use Rattle.issue_sign.proofs.Said.{certificate-is}
 
 -- ---- one draft
+
+pub certificate-first : (s : IssueInput) (b : SignInputValue) (d : code.Draft) (given : ℕ) (subject : KeyAt) (held : Bor Resources) (cert : CertValue)
+    (o : Object) (old new : List SignerState) → d.kind ≡ kinds.Authority subject held → IsDraft b d given
+    → cert ≡ certificate_with s b.keys d.issuer.row.now subject.row.now held.now given
+    → IsObjectOf (framed (certificates.signed_bytes cert) o.signature.bytes) (IsCertificate cert o.signature.bytes) o
+    → IsCalled old new (by_issuer d.issuer.row.now (certificates.signed_bytes cert) o.signature.bytes)
+    → IsFirst s b (draft_of d) (kind_of d.kind) (Made o) old new
+certificate-first s b d given subject held cert o old new e is made object called =
+    let at = certificate-is s b d subject held given cert e is made in
+    subst (λ (k : DraftKind). IsFirst s b (draft_of d) (kind_of k) (Made o) old new) (sym e)
+    (record {
+      half = (
+        refl,
+        subst (λ (v : CertValue). IsObjectOf (framed (certificates.signed_bytes v) o.signature.bytes) (IsCertificate v o.signature.bytes) o) at object,
+      );
+      called = subst (λ (v : CertValue). IsCalled old new (by_issuer d.issuer.row.now (certificates.signed_bytes v) o.signature.bytes)) at called;
+    })
 
 -- A halt at a call that is the first one of the draft's kind.
 halt-at : (s : IssueInput) (b : SignInputValue) (d : code.Draft) (k : DraftKind) (call : Answers → Call) (old new : List SignerState) (fault : MakeFault)

@@ -13,7 +13,10 @@ use Rattle.origins.specs.declared.Origin.{Origin}
 use Rattle.cert_obj.specs.declared.values.Cert.{Cert}
 use Rattle.cert_obj.specs.Values.{CertValue, cert_value}
 use Rattle.cert_obj.specs.Formats as certificates
-use Rattle.issue_sign.specs.Signed.{IsEnd}
+use Rattle.cms_obj.specs.declared.values.ObjectKind.TheVariants as ObjectKinds
+use Rattle.payloads.specs.RoaFormats.{IsRoa}
+use Rattle.issue_values.specs.Bodies.{roa_of}
+use Rattle.issue_sign.specs.Signed.{object_bytes, IsEnd, IsObject}
 use Rattle.issue_keys.specs.declared.fault.MakeFault.{MakeFault}
 use Rattle.issue_keys.specs.declared.fault.MakeFault.TheVariants.{Memory}
 use Rattle.issue_keys.specs.Faults.{fault_of}
@@ -27,14 +30,15 @@ use Rattle.issue_sign.specs.declared.object.Object.{Object}
 use Rattle.issue_sign.specs.declared.object.SignedContent.{SignedContent}
 use Rattle.issue_sign.specs.declared.firsts.Half.{Half}
 use Rattle.issue_sign.specs.declared.firsts.Half.TheVariants.{Made, Begun}
-use Rattle.issue_sign.specs.Objects.{Answers, Signed, roa_certificate}
+use Rattle.issue_sign.specs.Objects.{Answers, Signed, bytes_by, roa_content, roa_certificate}
 use Rattle.issue_sign.specs.Calls.{by_issuer, first_call, second_call}
 use Rattle.issue_sign.specs.SignInput.{SignInputValue, IsSignInput}
+use Rattle.issue_sign.specs.Spelled.{IsSpelled}
 use Rattle.issue_sign.specs.Made.{answers_of, signed, of_drafts, AreMade, IsStop}
-use Rattle.issue_sign.specs.inner.Steps.{content_answers, half_answers, IsHalf, IsDraft}
+use Rattle.issue_sign.specs.inner.Steps.{IsCalled, AreCalled, IsObjectOf, content_answers, half_answers, IsHalf, IsDraft}
 use Rattle.issue_sign.specs.inner.Steps.{AreHalves, IsFinished, IsFinishHalt}
 use Rattle.issue_sign.proofs.Lists.{with_answers}
-use Rattle.issue_sign.proofs.Going.{Stays, IsSpread, with_last, called-as}
+use Rattle.issue_sign.proofs.Going.{Stays, IsSpread, with_last, called-one, called-as}
 use Rattle.issue_sign.proofs.Halts.{halt-as, halt-of-end}
 use Rattle.issue_sign.proofs.Places.{draft-here, IsTurn}
 use Rattle.issue_sign.proofs.Halves.{first_of, seconds_of}
@@ -51,10 +55,56 @@ answers-of-once o c e =
       last = o.signature.bytes;
     } in a) e
 
+-- What is to be shown of a ROA, by its kind and what was answered.
+record IsDone (s : IssueInput) (b : SignInputValue) (d : Draft) (c : SignedContent) (o : Object) (old new : List SignerState) (kind : Kind) (a : Answers) : Type 0 where
+  same : first_call s b.keys b.all b.entries d kind a ≡ first_call s b.keys b.all b.entries d kind (content_answers c)
+  calls : AreCalled old new (option_to_list (second_call s b.keys b.all d kind a))
+  object : IsObjectOf (bytes_by s b.keys b.all b.entries d kind a) (IsSpelled s b d kind a) o
+
+roa-done : (s : IssueInput) (b : SignInputValue) (d : Draft) (kind : Kind) (origin : Origin) (c : SignedContent) (o : Object) (cert : CertValue)
+    (old new : List SignerState) → kind ≡ Roa origin → IsRoa (roa_of origin) → c.content.items ≡ roa_content origin
+    → cert ≡ roa_certificate s b.keys b.all d origin c.once.key.bytes → o.once ≡ Some c.once
+    → IsObjectOf (object_bytes ObjectKinds.Roa c.content.items cert o.signature.bytes c.once.key.bytes c.once.signature.bytes)
+    (IsObject ObjectKinds.Roa c.content.items cert o.signature.bytes c.once.key.bytes c.once.signature.bytes) o
+    → IsCalled old new (by_issuer d.issuer (certificates.signed_bytes cert) o.signature.bytes) → IsFinished s b d kind (Begun origin c) o old new
+roa-done s b d kind origin c o cert old new e roa content value once object called =
+    let a = with_last (content_answers c) (answers_of o) in
+    let v = roa_certificate s b.keys b.all d origin c.once.key.bytes in
+    let key = c.once.key.bytes in
+    let signature = c.once.signature.bytes in
+    let read = subst (λ (w : CertValue). IsObjectOf (object_bytes ObjectKinds.Roa (roa_content origin) w o.signature.bytes key signature)
+    (IsObject ObjectKinds.Roa (roa_content origin) w o.signature.bytes key signature) o) value
+    (subst (λ (l : List ℕ). IsObjectOf (object_bytes ObjectKinds.Roa l cert o.signature.bytes key signature)
+    (IsObject ObjectKinds.Roa l cert o.signature.bytes key signature) o) content object) in
+    let at-roa : IsDone s b d c o old new (Roa origin) a = record {
+      same = refl;
+      calls = called-one old new (by_issuer d.issuer (certificates.signed_bytes v) o.signature.bytes)
+          (subst (λ (w : CertValue). IsCalled old new (by_issuer d.issuer (certificates.signed_bytes w) o.signature.bytes)) value called);
+      object = record { bytes = read.bytes; hash = read.hash; known = (roa, read.known) };
+    } in
+    let all : IsDone s b d c o old new kind (answers_of o) =
+    subst (λ (x : Answers). IsDone s b d c o old new kind x) (sym (answers-of-once o c once))
+    (subst (λ (k : Kind). IsDone s b d c o old new k a) (sym e) at-roa) in
+    record { same = all.same; calls = all.calls; object = all.object }
+
 -- What is known of the certificate of a ROA, whichever basis it is of.
 abbrev pub IsRoaCert : SignInput → code.Draft → ℕ → Origin → List ℕ → Cert → Type 0
 IsRoaCert sign_input draft given origin key cert = (b : SignInputValue) → IsSignInput sign_input b → IsDraft b draft given → kind_of draft.kind ≡ Roa origin
     → cert_value cert ≡ roa_certificate (input_of sign_input.input.now) b.keys b.all (draft_of draft) origin key
+
+pub roa-finished : (sign_input : SignInput) (draft : code.Draft) (given : ℕ) (half : Half) (origin : Origin) (c : SignedContent) (cert : Cert) (o : Object)
+    (old new : List SignerState) → half ≡ Begun origin c → IsRoaCert sign_input draft given origin c.once.key.bytes cert
+    → IsObjectOf (object_bytes ObjectKinds.Roa c.content.items (cert_value cert) o.signature.bytes c.once.key.bytes c.once.signature.bytes)
+    (IsObject ObjectKinds.Roa c.content.items (cert_value cert) o.signature.bytes c.once.key.bytes c.once.signature.bytes) o → o.once ≡ Some c.once
+    → IsCalled old new (by_issuer draft.issuer.row.now (certificates.signed_bytes (cert_value cert)) o.signature.bytes) → (b : SignInputValue)
+    → IsSignInput sign_input b → IsDraft b draft given → IsHalf (input_of sign_input.input.now) b (draft_of draft) (kind_of draft.kind) half
+    → IsFinished (input_of sign_input.input.now) b (draft_of draft) (kind_of draft.kind) half o old new
+roa-finished sign_input draft given half origin c cert o old new e value object once called = λ b basis is was.
+    let s = input_of sign_input.input.now in
+    let begun = subst (λ (h : Half). IsHalf s b (draft_of draft) (kind_of draft.kind) h) e was in
+    subst (λ (h : Half). IsFinished s b (draft_of draft) (kind_of draft.kind) h o old new) (sym e)
+    (roa-done s b (draft_of draft) (kind_of draft.kind) origin c o (cert_value cert) old new begun.0 begun.1 begun.2 (value b basis is begun.0) once object
+    called)
 
 pub roa-stopped : (sign_input : SignInput) (draft : code.Draft) (given : ℕ) (half : Half) (origin : Origin) (c : SignedContent) (cert : Cert)
     (old new : List SignerState) (fault : CallFault) → half ≡ Begun origin c → IsRoaCert sign_input draft given origin c.once.key.bytes cert

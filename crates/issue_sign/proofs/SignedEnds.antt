@@ -4,6 +4,7 @@ use Rattle.sha1.specs.Sha1.{sha1}
 use Rattle.sha2.specs.Sha256.{sha256}
 use Rattle.der.specs.Object.{Spells}
 use Rattle.signer_api.specs.State.{SignerState}
+use Rattle.signer_api.specs.declared.values.OneUse.{OneUse}
 use Rattle.signer_api.specs.declared.values.Signature.{Signature}
 use Rattle.signer_ring.specs.Calls.{after_call, IsStopped, IsVouched}
 use Rattle.signer_ring.specs.declared.call_fault.CallFault.{CallFault}
@@ -14,7 +15,7 @@ use Rattle.crl_obj.specs.Values.{CrlValue}
 use Rattle.crl_obj.specs.Formats as crls
 use Rattle.cms_obj.specs.declared.values.ObjectKind.{ObjectKind}
 use Rattle.cms_obj.specs.Formats.{signed_object, object_of}
-use Rattle.issue_sign.specs.Signed.{by_key, framed, object_bytes, IsSigned, IsSignedOnce, IsEnd, IsCertificate, IsCrlOf}
+use Rattle.issue_sign.specs.Signed.{by_key, framed, object_bytes, IsSigned, IsSignedOnce, IsEnd, IsCertificate, IsCrlOf, IsObject}
 use Rattle.issue_sign.specs.declared.object.Object.{Object}
 use Rattle.issue_sign.specs.declared.signed_bytes.SignedBytes.{SignedBytes}
 use Rattle.issue_sign.specs.inner.Steps.{IsObjectOf}
@@ -61,6 +62,19 @@ pub object-of : (signed : SignedBytes) (o : Object) (spelling : List ℕ → Lis
 object-of signed o spelling Known bytes hash signature made known =
     subst (λ (g : Signature). IsObjectOf (spelling g.bytes) (Known g.bytes) o) (sym signature)
     (record { bytes = bytes ∙ made; hash = hash ∙ ap sha256 made; known = known })
+
+-- The same of a signed object, whose content was seen as a slice.
+pub object-with : (kind : ObjectKind) (seen content : List ℕ) (cert : CertValue) (once : OneUse) (signed : SignedBytes) (o : Object) → seen ≡ content
+    → o.bytes ≡ signed.bytes.items → o.hash ≡ sha256 signed.bytes.items → o.signature ≡ signed.signature
+    → signed.bytes.items ≡ object_bytes kind seen cert signed.signature.bytes once.key.bytes once.signature.bytes
+    → IsObject kind seen cert signed.signature.bytes once.key.bytes once.signature.bytes
+    → IsObjectOf (object_bytes kind content cert o.signature.bytes once.key.bytes once.signature.bytes)
+    (IsObject kind content cert o.signature.bytes once.key.bytes once.signature.bytes) o
+object-with kind seen content cert once signed o e bytes hash signature made known =
+    subst (λ (l : List ℕ). IsObjectOf (object_bytes kind l cert o.signature.bytes once.key.bytes once.signature.bytes)
+    (IsObject kind l cert o.signature.bytes once.key.bytes once.signature.bytes) o) e
+    (object-of signed o (λ last. object_bytes kind seen cert last once.key.bytes once.signature.bytes)
+    (λ last. IsObject kind seen cert last once.key.bytes once.signature.bytes) bytes hash signature made known)
 
 pub object-as : (kind : ObjectKind) (content : List ℕ) (cert : CertValue) (certificate id last once signature out : List ℕ) (moment : ℕ) → out ≡ signed_object.spelling (object_of kind content certificate id moment signature) → certificate ≡ framed (certificates.signed_bytes cert) last → id ≡ sha1 once → moment ≡ cert.not_before → out ≡ object_bytes kind content cert last once signature
 object-as kind content cert certificate id last once signature out moment is made named at =

@@ -39,6 +39,10 @@ table row.ChildrenUnsuspend = entry (codes "children unsuspend") (required Ca �
     (λ ca child. line.Command ca (commands.UnsuspendChild child))
 table row.RoasUpdate = entry (codes "roas update") (required Ca ∷ optional field.Add [] ∷ optional Remove [] ∷ [])
     (λ ca added removed. line.Command ca (commands.UpdateRoas added removed))
+table row.KeyrollInit = entry (codes "keyroll init") (required Ca ∷ [])
+    (λ ca. line.Command ca commands.InitRoll)
+table row.KeyrollActivate = entry (codes "keyroll activate") (required Ca ∷ [])
+    (λ ca. line.Command ca commands.ActivateRoll)
 table row.Publish = entry (codes "publish") []
     line.Publish
 table row.Serial = entry (codes "serial") []
@@ -52,6 +56,8 @@ table row.RoasList = entry (codes "roas list") (required Ca ∷ [])
 table row.HistoryCommands = entry (codes "history commands") (required Ca ∷ [])
     (λ ca. line.History ca)
 
+-- The rows that a line may name. Those of key rollovers aren't among them yet: a history shows such
+-- commands, and no line gives one.
 abbrev pub rows : List Row
 rows =
     row.Add ∷ row.Delete ∷ row.ParentsAdd ∷ row.ChildrenAdd ∷ row.ChildrenUpdate ∷ row.ChildrenRemove ∷ row.ChildrenSuspend

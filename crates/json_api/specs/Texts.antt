@@ -130,6 +130,8 @@ members_of ca (commands.RemoveChild child) = named_line field.Ca ca ∷ named_li
 members_of ca (commands.SuspendChild child) = named_line field.Ca ca ∷ named_line field.Child child ∷ row_line row.ChildrenSuspend ∷ []
 members_of ca (commands.UnsuspendChild child) = named_line field.Ca ca ∷ named_line field.Child child ∷ row_line row.ChildrenUnsuspend ∷ []
 members_of ca (commands.UpdateRoas added removed) = origins_line field.Add added ∷ named_line field.Ca ca ∷ row_line row.RoasUpdate ∷ origins_line field.Remove removed ∷ []
+members_of ca commands.InitRoll = named_line field.Ca ca ∷ row_line row.KeyrollInit ∷ []
+members_of ca commands.ActivateRoll = named_line field.Ca ca ∷ row_line row.KeyrollActivate ∷ []
 
 unfoldable pub line_text : List ℕ → Command → List ℕ
 line_text ca command = codes "{" ++ commas (members_of ca command) ++ codes "}"

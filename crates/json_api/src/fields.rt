@@ -44,6 +44,8 @@ pub enum Row {
     ChildrenSuspend,
     ChildrenUnsuspend,
     RoasUpdate,
+    KeyrollInit,
+    KeyrollActivate,
     Publish,
     Serial,
     List,
@@ -126,7 +128,7 @@ impl Field {
 }
 
 impl Row {
-    /// The row of that command.
+    /// The row of that command, where a line may name it: those of key rollovers no line names yet.
     pub(crate) fn named(text: &str) -> Option<Row>
         ensures { result ≡ row_named text.now }
     {
@@ -164,6 +166,8 @@ impl Row {
             Row::ChildrenSuspend => "children suspend",
             Row::ChildrenUnsuspend => "children unsuspend",
             Row::RoasUpdate => "roas update",
+            Row::KeyrollInit => "keyroll init",
+            Row::KeyrollActivate => "keyroll activate",
             Row::Publish => "publish",
             Row::Serial => "serial",
             Row::List => "list",

@@ -127,6 +127,8 @@ fn push_line(
                 &[added, ca, row_member(Row::RoasUpdate), removed],
             )
         }
+        Command::InitRoll => push_members(alloc, out, &[ca, row_member(Row::KeyrollInit)]),
+        Command::ActivateRoll => push_members(alloc, out, &[ca, row_member(Row::KeyrollActivate)]),
     }
 }
 

@@ -65,6 +65,8 @@ impl Row {
                 let removed = slots.origins(alloc, Field::Remove)?;
                 command(name, Command::UpdateRoas { added, removed })
             }
+            Row::KeyrollInit => command(slots.name(Field::Ca)?, Command::InitRoll),
+            Row::KeyrollActivate => command(slots.name(Field::Ca)?, Command::ActivateRoll),
             Row::Publish => Line::Publish,
             Row::Serial => Line::Serial,
             Row::List => Line::List,

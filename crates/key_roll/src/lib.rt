@@ -4,8 +4,10 @@
 
 mod issued;
 mod rows;
+mod stages;
 mod work;
 
 pub use issued::{Issued, IssuedRow, What};
 pub use rows::{KeyRow, RevokedRow, Role, is_role};
+pub use stages::{Stage, StepEnd, step};
 pub use work::{CertWork, KeyName, NewKey, PointWork, RoaWork, RoleWork, Work};

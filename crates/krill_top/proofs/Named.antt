@@ -5,7 +5,7 @@ use Rattle.std.proofs.lemmas.Bool.{leb-false}
 use Rattle.std.proofs.lemmas.Option.{none-some}
 use Rattle.std.proofs.lemmas.List.Elements.{All-push}
 use Rattle.authority_book.specs.declared.commands.Command.{Command}
-use Rattle.authority_book.specs.declared.commands.Command.TheVariants.{Add, Delete, AddParent, AddChild, UpdateChild, RemoveChild, SuspendChild, UnsuspendChild, UpdateRoas}
+use Rattle.authority_book.specs.declared.commands.Command.TheVariants.{Add, Delete, AddParent, AddChild, UpdateChild, RemoveChild, SuspendChild, UnsuspendChild, UpdateRoas, InitRoll, ActivateRoll}
 use Rattle.authority_book.specs.declared.refusals.Refusal.{Refusal}
 use Rattle.authority_book.specs.declared.refusals.Refusal.TheVariants.{Deleted, NameTaken, TooManyAuthorities, NoSuchSigner, AnchorOnly}
 use Rattle.authority_book.specs.declared.rows.NameRow.{NameRow}
@@ -52,6 +52,8 @@ names_after settings (RemoveChild child) signers is all = all
 names_after settings (SuspendChild child) signers is all = all
 names_after settings (UnsuspendChild child) signers is all = all
 names_after settings (UpdateRoas added removed) signers is all = all
+names_after settings InitRoll signers is all = all
+names_after settings ActivateRoll signers is all = all
 
 fold_push : (settings : Settings) (commands : List Command) (command : Command) → after_all settings (commands ++ command ∷ []) ≡ after (after_all settings commands) command
 fold_push settings [] command = refl

@@ -12,3 +12,5 @@ pub mod Told
 pub mod Shown
 pub mod AfterExports
 pub mod FilesNext
+pub mod Recording
+pub mod Recorded

@@ -10,4 +10,5 @@ pub mod Files
 pub mod Exports
 pub mod Met
 pub mod Faults
+pub mod Records
 pub mod inner

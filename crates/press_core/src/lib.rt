@@ -11,6 +11,7 @@ mod next_edition;
 mod prepared;
 mod preparing;
 mod press;
+mod record_laws;
 mod setup;
 
 pub use editions::{Gathered, Published};
@@ -25,3 +26,6 @@ pub use laws::{
 };
 pub use prepared::Prepared;
 pub use press::{Press, PressRefused};
+pub use record_laws::{
+    prepared_editions_can_be_recorded, recorded_editions_leave_what_editions_leave,
+};

@@ -11,12 +11,14 @@ use Rattle.key_roll.specs.declared.rows.Role.{Role}
 use Rattle.key_roll.specs.declared.rows.Role.TheVariants.{New, Current, Old}
 use Rattle.key_roll.specs.declared.work.KeyName.{KeyName}
 use Rattle.key_roll.specs.declared.work.KeyName.TheVariants.{Live, Fresh}
+use Rattle.key_roll.specs.declared.stages.Stage.TheVariants.{Steady, Staged}
+use Rattle.key_roll.specs.Stages as stages
 use Rattle.key_roll.specs.Stages.{is_begun, is_activated}
 use Rattle.issue_keys.specs.Keys.{id_of}
 use Rattle.issue_make.specs.Trace.{rank}
 use Rattle.issue_plan.specs.declared.keys.NextKey.{NextKey}
 use Rattle.issue_plan.specs.declared.keys.Asked.{Asked}
-use Rattle.issue_plan.specs.Keys.{Basis, row_of, kept, turned, made, keys_after, holds_nothing, asked_at, keys_of, keys_at, keys_of_first, next_keys}
+use Rattle.issue_plan.specs.Keys.{Basis, row_of, kept, turned, made, keys_at_end, keys_after, holds_nothing, asked_at, keys_of, keys_at, keys_of_first, next_keys}
 use Rattle.key_roll.specs.Roles.{is_role}
 use Rattle.items.specs.laws.ElementLaws.{found-in}
 use Rattle.items.specs.laws.PairLaws.{Each, Twos, each-at, each-append, each-weaker, twos-append}
@@ -127,9 +129,8 @@ module _ (rows : List KeyRow) (apart : AllPairs (λ a b. id_of a ≢ id_of b) ro
   after-staged asked new current first second old =
       by (is_activated asked.activates current.done current.since asked.moment)
     where
-      by : (b : Bool) → AtDesk asked.desk (cond b
-          (turned new Current 0 (current.done + 1) ∷ turned current Old 0 (current.done + 1) ∷ [])
-          (kept new ∷ kept current ∷ []))
+      by : (b : Bool) → AtDesk asked.desk (keys_at_end asked (Some new) current
+          (cond b (stages.activates current.done) (stages.stays (Staged current.since) current.done)))
       by true = (
         (
           turned-from asked.desk New Current 0 (current.done + 1) new first,
@@ -168,10 +169,8 @@ module _ (rows : List KeyRow) (apart : AllPairs (λ a b. id_of a ≢ id_of b) ro
       → AtDesk asked.desk (keys_after asked None (Some current) None)
   after-alone asked current is = by (is_begun asked.inits current.done)
     where
-      by : (b : Bool) → AtDesk asked.desk (cond b
-          (made asked.desk asked.signer New asked.moment current.done
-          ∷ turned current Current asked.moment current.done ∷ [])
-          (kept current ∷ []))
+      by : (b : Bool) → AtDesk asked.desk (keys_at_end asked None current
+          (cond b (stages.begins asked.moment current.done) (stages.stays Steady current.done)))
       by true = (
         (
           (refl, refl),

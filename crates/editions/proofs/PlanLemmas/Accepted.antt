@@ -9,7 +9,7 @@ use Rattle.std.proofs.lemmas.Option.{slice_get-get_or, get_or_from_slice_get, sl
 use Rattle.authority_book.specs.declared.rows.NameRow.{NameRow}
 use Rattle.authority_book.specs.declared.refusals.Refusal.{Refusal}
 use Rattle.authority_book.specs.declared.commands.Command.{Command}
-use Rattle.authority_book.specs.declared.commands.Command.TheVariants.{Add, Delete, AddParent, AddChild, UpdateChild, RemoveChild, SuspendChild, UnsuspendChild, UpdateRoas}
+use Rattle.authority_book.specs.declared.commands.Command.TheVariants.{Add, Delete, AddParent, AddChild, UpdateChild, RemoveChild, SuspendChild, UnsuspendChild, UpdateRoas, InitRoll, ActivateRoll}
 use Rattle.authority_book.specs.Listed.{is_listed}
 use Rattle.authority_book.specs.Settings.{Settings}
 use Rattle.authority_book.specs.Verdict.{first_cause, refused_if, IsAccepted}
@@ -37,15 +37,15 @@ none-listed (row ∷ names) name none (suc k) d inside =
 
 -- ---- causes
 
-no_cause : (a b : Option Refusal) → first_cause a b ≡ None → a ≡ None
+pub no_cause : (a b : Option Refusal) → first_cause a b ≡ None → a ≡ None
 no_cause None b h = refl
 no_cause (Some r) b h = cc
 
-no_other : (a b : Option Refusal) → first_cause a b ≡ None → b ≡ None
+pub no_other : (a b : Option Refusal) → first_cause a b ≡ None → b ≡ None
 no_other None b h = h
 no_other (Some r) b h = cc
 
-not_so : (b : Bool) (r : Refusal) → refused_if b r ≡ None → b ≡ false
+pub not_so : (b : Bool) (r : Refusal) → refused_if b r ≡ None → b ≡ false
 not_so true r h = cc
 not_so false r h = refl
 
@@ -76,6 +76,8 @@ tree-after settings (RemoveChild child) accepted tree = tree
 tree-after settings (SuspendChild child) accepted tree = tree
 tree-after settings (UnsuspendChild child) accepted tree = tree
 tree-after settings (UpdateRoas added removed) accepted tree = tree
+tree-after settings InitRoll accepted tree = tree
+tree-after settings ActivateRoll accepted tree = tree
 
 tree-all : (settings : Settings) (commands : List Command) → AcceptedInTurn settings commands → AreTree settings.names → AreTree (after_all settings commands).names
 tree-all settings [] accepted tree = tree

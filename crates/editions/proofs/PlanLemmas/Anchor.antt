@@ -1,47 +1,78 @@
 -- The trust anchor has one next key, its current one.
-use Rattle.std.proofs.Common.{◌≡◌, ◌≢◌, ℕ, zero, suc, ◌+◌, ◌<◌, ◌&&◌, eqb, Bool, true, false, cond, Option, None, Some, List, [], ◌∷◌, length, refl, sym, ap, subst, ◌∙◌, arith, ◌⊎◌, inl, inr}
+use Rattle.std.proofs.Common.{◌≡◌, ◌≢◌, ℕ, zero, suc, ◌+◌, ◌<◌, ◌&&◌, eqb, eq-eqb, Bool, true, false, cond, Option, None, Some, List, [], ◌∷◌, length, refl, sym, ap, subst, ◌∙◌, arith, ◌⊎◌, inl, inr}
 use Rattle.std.specs.List.{All, slice_get}
 use Rattle.std.specs.Option.{IfSome}
-use Rattle.std.proofs.lemmas.Bool.{and_parts, eqb-true, ltb-true}
+use Rattle.std.proofs.lemmas.Bool.{and_parts, eqb-true, false≢true, ltb-true}
 use Rattle.res_sets.specs.declared.holdings.Resources.{Resources}
 use Rattle.authority_book.specs.declared.rows.NameRow.{NameRow}
 use Rattle.authority_book.specs.declared.commands.Command.{Command}
-use Rattle.authority_book.specs.declared.commands.Command.TheVariants.{Add, Delete, AddParent, AddChild, UpdateChild, RemoveChild, SuspendChild, UnsuspendChild, UpdateRoas}
+use Rattle.authority_book.specs.declared.commands.Command.TheVariants.{Add, Delete, AddParent, AddChild, UpdateChild, RemoveChild, SuspendChild, UnsuspendChild, UpdateRoas, InitRoll, ActivateRoll}
 use Rattle.authority_book.specs.Settings.{Settings}
-use Rattle.authority_book.specs.Fold.{after, after_all, empty_settings, fold_of}
+use Rattle.authority_book.specs.declared.refusals.Refusal.TheVariants.{NotForAnchor}
+use Rattle.authority_book.specs.Verdict.{is_anchor, IsAccepted}
+use Rattle.authority_book.specs.Fold.{after, after_all, empty_settings, fold_of, AcceptedInTurn, Taken}
 use Rattle.entitle.specs.Certified.{names_of}
 use Rattle.key_roll.specs.declared.rows.KeyRow.{KeyRow}
 use Rattle.key_roll.specs.declared.rows.Role.{Role}
 use Rattle.key_roll.specs.declared.rows.Role.TheVariants.{New, Current, Old}
+use Rattle.key_roll.specs.declared.stages.Stage.TheVariants.{Steady, Staged}
+use Rattle.key_roll.specs.Stages as stages
 use Rattle.key_roll.specs.Stages.{is_begun, is_activated}
 use Rattle.issue_plan.specs.declared.keys.NextKey.{NextKey}
 use Rattle.issue_plan.specs.declared.keys.Asked.{Asked}
-use Rattle.issue_plan.specs.Keys.{Basis, row_of, inits_of, kept, turned, made, keys_after, asked_at, keys_of, keys_at, keys_of_first, next_keys, holds_nothing}
+use Rattle.issue_plan.specs.Keys.{Basis, row_of, inits_of, kept, turned, made, keys_at_end, keys_after, asked_at, keys_of, keys_at, keys_of_first, next_keys, holds_nothing}
 use Rattle.key_roll.specs.Roles.{is_role}
 use Rattle.items.specs.laws.AmongLaws.{In, in-all, in-parts, found-in}
+use Rattle.editions.proofs.PlanLemmas.Accepted.{no_cause, no_other, not_so}
 use Rattle.editions.proofs.PlanLemmas.Pairs.{Twos, twos-append}
 use Rattle.editions.specs.laws.RowLaws.{role-is}
 
 -- ---- no rollover begins
 
-same-inits : (settings : Settings) (command : Command) → (after settings command).inits ≡ settings.inits
-same-inits settings (Add name signer) = refl
-same-inits settings Delete = refl
-same-inits settings (AddParent parent) = refl
-same-inits settings (AddChild child grant) = refl
-same-inits settings (UpdateChild child grant) = refl
-same-inits settings (RemoveChild child) = refl
-same-inits settings (SuspendChild child) = refl
-same-inits settings (UnsuspendChild child) = refl
-same-inits settings (UpdateRoas added removed) = refl
+same-desk : (settings : Settings) (command : Command) → (after settings command).desk ≡ settings.desk
+same-desk settings (Add name signer) = refl
+same-desk settings Delete = refl
+same-desk settings (AddParent parent) = refl
+same-desk settings (AddChild child grant) = refl
+same-desk settings (UpdateChild child grant) = refl
+same-desk settings (RemoveChild child) = refl
+same-desk settings (SuspendChild child) = refl
+same-desk settings (UnsuspendChild child) = refl
+same-desk settings (UpdateRoas added removed) = refl
+same-desk settings InitRoll = refl
+same-desk settings ActivateRoll = refl
 
-all-inits : (settings : Settings) (commands : List Command) → (after_all settings commands).inits ≡ settings.inits
-all-inits settings [] = refl
-all-inits settings (command ∷ commands) = all-inits (after settings command) commands ∙ same-inits settings command
+-- The anchor doesn't take a command to begin one.
+refused : (settings : Settings) → settings.desk ≡ 0 → IsAccepted settings InitRoll → ⊥
+refused settings at accepted =
+    let other : is_anchor settings ≡ false = not_so (is_anchor settings) NotForAnchor (no_cause _ _ (no_other _ _ accepted)) in
+    let anchor : is_anchor settings ≡ true = eq-eqb settings.desk 0 at in
+    false≢true (sym other ∙ anchor)
 
--- No command begins a rollover of the trust anchor's key.
-pub none-begun : (commands : List Command) → (fold_of 0 commands).inits ≡ 0
-none-begun commands = all-inits (empty_settings 0) commands
+same-inits : (settings : Settings) (command : Command) → settings.desk ≡ 0 → IsAccepted settings command
+    → (after settings command).inits ≡ settings.inits
+same-inits settings (Add name signer) at accepted = refl
+same-inits settings Delete at accepted = refl
+same-inits settings (AddParent parent) at accepted = refl
+same-inits settings (AddChild child grant) at accepted = refl
+same-inits settings (UpdateChild child grant) at accepted = refl
+same-inits settings (RemoveChild child) at accepted = refl
+same-inits settings (SuspendChild child) at accepted = refl
+same-inits settings (UnsuspendChild child) at accepted = refl
+same-inits settings (UpdateRoas added removed) at accepted = refl
+same-inits settings InitRoll at accepted = absurd (refused settings at accepted)
+same-inits settings ActivateRoll at accepted = refl
+
+all-inits : (settings : Settings) (commands : List Command) → settings.desk ≡ 0 → AcceptedInTurn settings commands
+    → (after_all settings commands).inits ≡ settings.inits
+all-inits settings [] at accepted = refl
+all-inits settings (command ∷ commands) at accepted =
+    all-inits (after settings command) commands (same-desk settings command ∙ at) accepted.1
+    ∙ same-inits settings command at accepted.0
+
+-- No accepted command begins a rollover of the trust anchor's key.
+pub none-begun : (commands : List Command) → Taken 0 commands → (fold_of 0 commands).inits ≡ 0
+none-begun commands taken = all-inits (empty_settings 0) commands refl taken
 
 -- ---- desks
 
@@ -78,15 +109,15 @@ module _ (desk : ℕ) where
   desk-after asked is (Some new) (Some current) old n c k at =
       by (is_activated asked.activates current.done current.since asked.moment) at
     where
-      by : (b : Bool) → In k (cond b (turned new Current 0 (current.done + 1) ∷ turned current Old 0 (current.done + 1) ∷ [])
-          (kept new ∷ kept current ∷ [])) → k.desk ≡ desk
+      by : (b : Bool) → In k (keys_at_end asked (Some new) current
+          (cond b (stages.activates current.done) (stages.stays (Staged current.since) current.done))) → k.desk ≡ desk
       by true here = at-two Here k (turned new Current 0 (current.done + 1)) (turned current Old 0 (current.done + 1)) n c here
       by false here = at-two Here k (kept new) (kept current) n c here
   desk-after asked is None (Some current) (Some old) n c k at = at-first Here k (kept current) c at
   desk-after asked is None (Some current) None n c k at = by (is_begun asked.inits current.done) at
     where
-      by : (b : Bool) → In k (cond b (made asked.desk asked.signer New asked.moment current.done
-          ∷ turned current Current asked.moment current.done ∷ []) (kept current ∷ [])) → k.desk ≡ desk
+      by : (b : Bool) → In k (keys_at_end asked None current
+          (cond b (stages.begins asked.moment current.done) (stages.stays Steady current.done))) → k.desk ≡ desk
       by true here = at-two Here k (made asked.desk asked.signer New asked.moment current.done)
           (turned current Current asked.moment current.done) is c here
       by false here = at-first Here k (kept current) c here
@@ -143,8 +174,8 @@ module _ (basis : Basis) (begun : inits_of (slice_get basis.configs 0) ≡ 0)
   lone-after asked none (Some current) None h = by (is_begun asked.inits current.done) refl
     where
       by : (b : Bool) → is_begun asked.inits current.done ≡ b
-          → Lone (cond b (made asked.desk asked.signer New asked.moment current.done
-          ∷ turned current Current asked.moment current.done ∷ []) (kept current ∷ []))
+          → Lone (keys_at_end asked None current
+          (cond b (stages.begins asked.moment current.done) (stages.stays Steady current.done)))
       by true e =
           let begins : is_begun 0 current.done ≡ true = ap (λ (n : ℕ). is_begun n current.done) (sym none) ∙ e in
           let less = ltb-true current.done 0 begins in

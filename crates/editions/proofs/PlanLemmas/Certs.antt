@@ -15,6 +15,8 @@ use Rattle.entitle.specs.Certified.{names_of}
 use Rattle.issue_values.specs.Publishers.{roa_uri}
 use Rattle.key_roll.specs.declared.rows.KeyRow.{KeyRow}
 use Rattle.key_roll.specs.declared.rows.Role.TheVariants.{New, Current, Old}
+use Rattle.key_roll.specs.declared.stages.Stage.TheVariants.{Steady, Staged}
+use Rattle.key_roll.specs.Stages as stages
 use Rattle.key_roll.specs.Stages.{is_begun, is_activated}
 use Rattle.key_roll.specs.declared.work.CertWork.{CertWork}
 use Rattle.key_roll.specs.declared.work.RoaWork.{RoaWork}
@@ -31,7 +33,7 @@ use Rattle.issue_drafts.specs.Drafts.Kind.{Certificate, Roa, Crl, Manifest}
 use Rattle.issue_make.specs.Trace.{AreKeys}
 use Rattle.issue_plan.specs.declared.keys.NextKey.{NextKey}
 use Rattle.issue_plan.specs.Keys as plan
-use Rattle.issue_plan.specs.Keys.{next_keys, row_of, kept, turned, made, keys_after, asked_at, keys_of, keys_at, keys_of_first}
+use Rattle.issue_plan.specs.Keys.{next_keys, row_of, kept, turned, made, keys_at_end, keys_after, asked_at, keys_of, keys_at, keys_of_first}
 use Rattle.key_roll.specs.Roles.{is_role}
 use Rattle.issue_plan.specs.Wanted as wanted
 use Rattle.issue_plan.specs.Wanted.{PlanInput, fits, current_of, current_at, parents_desk, issuer_of, certificate, certificate_of, wanted_certificates}
@@ -68,15 +70,15 @@ current-after basis desk name new None old n c r = (made desk name.signer Curren
 current-after basis desk name (Some new) (Some current) old n c r =
     by (is_activated (asked_at basis desk name).activates current.done current.since basis.moment)
   where
-    by : (b : Bool) → (k : NextKey) × In k (cond b (turned new Current 0 (current.done + 1) ∷ turned current Old 0 (current.done + 1) ∷ [])
-        (kept new ∷ kept current ∷ [])) × IsCurrent desk k
+    by : (b : Bool) → (k : NextKey) × In k (keys_at_end (asked_at basis desk name) (Some new) current
+        (cond b (stages.activates current.done) (stages.stays (Staged current.since) current.done))) × IsCurrent desk k
     by true = (turned new Current 0 (current.done + 1), inl refl, (n, refl))
     by false = (kept current, inr (inl refl), (c, r))
 current-after basis desk name None (Some current) (Some old) n c r = (kept current, inl refl, (c, r))
 current-after basis desk name None (Some current) None n c r = by (is_begun (asked_at basis desk name).inits current.done)
   where
-    by : (b : Bool) → (k : NextKey) × In k (cond b (made desk name.signer New basis.moment current.done
-        ∷ turned current Current basis.moment current.done ∷ []) (kept current ∷ [])) × IsCurrent desk k
+    by : (b : Bool) → (k : NextKey) × In k (keys_at_end (asked_at basis desk name) None current
+        (cond b (stages.begins basis.moment current.done) (stages.stays Steady current.done))) × IsCurrent desk k
     by true = (turned current Current basis.moment current.done, inr (inl refl), (c, refl))
     by false = (kept current, inl refl, (c, r))
 

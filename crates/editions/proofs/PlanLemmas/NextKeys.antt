@@ -10,9 +10,11 @@ use Rattle.entitle.specs.Certified.{names_of}
 use Rattle.key_roll.specs.declared.rows.KeyRow.{KeyRow}
 use Rattle.key_roll.specs.declared.rows.Role.{Role}
 use Rattle.key_roll.specs.declared.rows.Role.TheVariants.{New, Current, Old}
+use Rattle.key_roll.specs.declared.stages.Stage.TheVariants.{Steady, Staged}
+use Rattle.key_roll.specs.Stages as stages
 use Rattle.key_roll.specs.Stages.{is_begun, is_activated}
 use Rattle.issue_plan.specs.declared.keys.NextKey.{NextKey}
-use Rattle.issue_plan.specs.Keys.{Basis, row_of, kept, turned, made, keys_after, asked_at, keys_of, keys_at, keys_of_first, next_keys, holds_nothing}
+use Rattle.issue_plan.specs.Keys.{Basis, row_of, kept, turned, made, keys_at_end, keys_after, asked_at, keys_of, keys_at, keys_of_first, next_keys, holds_nothing}
 use Rattle.key_roll.specs.Roles.{is_role}
 use Rattle.items.specs.laws.AmongLaws.{In, in-all, found-in}
 
@@ -56,15 +58,15 @@ module _ (basis : Basis) (P : NextKey → Type 0)
   after desk name at (Some new) (Some current) old n c =
       by (is_activated (asked_at basis desk name).activates current.done current.since basis.moment)
     where
-      by : (b : Bool) → All P (cond b (turned new Current 0 (current.done + 1) ∷ turned current Old 0 (current.done + 1) ∷ [])
-          (kept new ∷ kept current ∷ []))
+      by : (b : Bool) → All P (keys_at_end (asked_at basis desk name) (Some new) current
+          (cond b (stages.activates current.done) (stages.stays (Staged current.since) current.done)))
       by true = two _ _ (turns desk name at new n Current 0 (current.done + 1)) (turns desk name at current c Old 0 (current.done + 1))
       by false = two _ _ (keeps desk name at new n) (keeps desk name at current c)
   after desk name at None (Some current) (Some old) n c = one _ (keeps desk name at current c)
   after desk name at None (Some current) None n c = by (is_begun (asked_at basis desk name).inits current.done)
     where
-      by : (b : Bool) → All P (cond b (made desk name.signer New basis.moment current.done
-          ∷ turned current Current basis.moment current.done ∷ []) (kept current ∷ []))
+      by : (b : Bool) → All P (keys_at_end (asked_at basis desk name) None current
+          (cond b (stages.begins basis.moment current.done) (stages.stays Steady current.done)))
       by true = two _ _ (makes desk name at New basis.moment current.done) (turns desk name at current c Current basis.moment current.done)
       by false = one _ (keeps desk name at current c)
 

@@ -107,7 +107,7 @@ first-tree [] cut long taken = absurd (omega (arith, long))
 first-tree (config ∷ configs) cut long taken =
     let w = taken 0 config refl in (
       subst (λ (c : Settings). AreTree c.names) (sym w.is) (accepted-tree w.commands w.taken),
-      ap (λ (c : Settings). c.inits) w.is ∙ none-begun w.commands,
+      ap (λ (c : Settings). c.inits) w.is ∙ none-begun w.commands w.taken,
     )
 
 module _ (at : PublishedStateValue) (site : Bases) (signers : ℕ) (basis : Basis) (work : Work)

@@ -11,10 +11,12 @@ use Rattle.entitle.specs.Certified.{names_of}
 use Rattle.key_roll.specs.declared.rows.KeyRow.{KeyRow}
 use Rattle.key_roll.specs.declared.rows.Role.{Role}
 use Rattle.key_roll.specs.declared.rows.Role.TheVariants.{New, Current, Old}
+use Rattle.key_roll.specs.declared.stages.Stage.TheVariants.{Steady, Staged}
+use Rattle.key_roll.specs.Stages as stages
 use Rattle.key_roll.specs.Stages.{is_begun, is_activated}
 use Rattle.issue_plan.specs.declared.keys.NextKey.{NextKey}
 use Rattle.issue_plan.specs.Keys as plan
-use Rattle.issue_plan.specs.Keys.{Basis, row_of, kept, turned, made, keys_after, asked_at, keys_of, keys_at, keys_of_first, next_keys, holds_nothing}
+use Rattle.issue_plan.specs.Keys.{Basis, row_of, kept, turned, made, keys_at_end, keys_after, asked_at, keys_of, keys_at, keys_of_first, next_keys, holds_nothing}
 use Rattle.key_roll.specs.Roles.{is_role}
 use Rattle.editions.specs.inner.KeyTree.{IsDesk}
 use Rattle.items.specs.laws.AmongLaws.{In, in-front, in-behind, in-parts, found-in}
@@ -80,9 +82,8 @@ module _ (basis : Basis) where
   after desk name (Some new) (Some current) old n c =
       by (is_activated (asked_at basis desk name).activates current.done current.since basis.moment)
     where
-      by : (b : Bool) → AreOf rows desk (cond b
-          (turned new Current 0 (current.done + 1) ∷ turned current Old 0 (current.done + 1) ∷ [])
-          (kept new ∷ kept current ∷ []))
+      by : (b : Bool) → AreOf rows desk (keys_at_end (asked_at basis desk name) (Some new) current
+          (cond b (stages.activates current.done) (stages.stays (Staged current.since) current.done)))
       by true = record {
         each = both rows desk (turned new Current 0 (current.done + 1))
             (turned current Old 0 (current.done + 1))
@@ -105,10 +106,8 @@ module _ (basis : Basis) where
   after desk name None (Some current) None n c =
       by (is_begun (asked_at basis desk name).inits current.done)
     where
-      by : (b : Bool) → AreOf rows desk (cond b
-          (made desk name.signer New basis.moment current.done
-          ∷ turned current Current basis.moment current.done ∷ [])
-          (kept current ∷ []))
+      by : (b : Bool) → AreOf rows desk (keys_at_end (asked_at basis desk name) None current
+          (cond b (stages.begins basis.moment current.done) (stages.stays Steady current.done)))
       by true = record {
         each = both rows desk (made desk name.signer New basis.moment current.done)
             (turned current Current basis.moment current.done)

@@ -3,7 +3,7 @@ use Rattle.std.proofs.Common.{◌≡◌, ℕ, Bool, true, false, refl, sym}
 use Rattle.std.proofs.lemmas.Option.{none-some}
 use Rattle.std.specs.Prelude.{Option, None, Some, Ok, not, length, nat_le}
 use Rattle.authority_book.specs.declared.commands.Command.{Command}
-use Rattle.authority_book.specs.declared.commands.Command.TheVariants.{Add, Delete, AddParent, AddChild, UpdateChild, RemoveChild, SuspendChild, UnsuspendChild, UpdateRoas}
+use Rattle.authority_book.specs.declared.commands.Command.TheVariants.{Add, Delete, AddParent, AddChild, UpdateChild, RemoveChild, SuspendChild, UnsuspendChild, UpdateRoas, InitRoll, ActivateRoll}
 use Rattle.authority_book.specs.declared.refusals.Refusal.{Refusal}
 use Rattle.authority_book.specs.declared.refusals.Refusal.TheVariants.{Deleted, NameTaken, TooManyAuthorities, NoSuchSigner, AnchorOnly}
 use Rattle.authority_book.specs.Listed.{is_listed}
@@ -34,3 +34,5 @@ granted_accepted settings (RemoveChild child) signers is = accepted_of _ is
 granted_accepted settings (SuspendChild child) signers is = accepted_of _ is
 granted_accepted settings (UnsuspendChild child) signers is = accepted_of _ is
 granted_accepted settings (UpdateRoas added removed) signers is = accepted_of _ is
+granted_accepted settings InitRoll signers is = accepted_of _ is
+granted_accepted settings ActivateRoll signers is = accepted_of _ is

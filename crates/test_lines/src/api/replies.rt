@@ -75,6 +75,7 @@ fn refusal_of(arguments: &str) -> Result<Refusal> {
     let (code, detail) = arguments.split_once(' ').context("a detail is missing")?;
     match code {
         "1" => Ok(Refusal::Deleted),
+        "6" => Ok(Refusal::NoParent),
         "12" => Ok(Refusal::OriginThere {
             origin: origin_of(detail)?,
         }),
@@ -87,6 +88,8 @@ fn refusal_of(arguments: &str) -> Result<Refusal> {
         "15" => Ok(Refusal::TooManyOrigins {
             after: detail.parse::<u64>()?,
         }),
+        "16" => Ok(Refusal::RollGoing),
+        "17" => Ok(Refusal::NoRoll),
         "19" => Ok(Refusal::NotForAnchor),
         _ => bail!("an unknown number"),
     }

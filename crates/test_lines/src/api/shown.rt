@@ -2,7 +2,7 @@
 
 use crate::api::replies::{name_of, text_of};
 use anyhow::{Context, Result, bail};
-use authority_book::Child;
+use authority_book::{Child, Command};
 use json_api::{
     Line, ListLine, RoaLine, RoaWord, Shown, StageWord, history_text, list_text, read_line,
     roas_text, show_text,
@@ -129,16 +129,24 @@ fn roa_of(entry: &str) -> Result<RoaLine> {
     Ok(RoaLine { origin, state })
 }
 
-// A name, and the lines of its commands with tabs between them.
+// A name, and its commands with tabs between them.
 fn history(alloc: Global, arguments: &str) -> Result<String> {
     let mut commands = Vec::new(alloc);
     let mut fields = arguments.split('\t');
     let authority = name_of(fields.next().context("no name")?)?;
-    for line in fields {
-        match read_line(alloc, line.as_bytes()) {
-            Ok(Line::Command { command, .. }) => commands.push(command)?,
-            _ => bail!("no command"),
-        }
+    for field in fields {
+        commands.push(command_of(alloc, field)?)?;
     }
     text_of(history_text(alloc, &authority, &commands)?)
+}
+
+// The command of a line, or of a record in hex behind the word `record`.
+fn command_of(alloc: Global, field: &str) -> Result<Command> {
+    if let Some(record) = field.strip_prefix("record ") {
+        return Ok(cmd_codec::read(alloc, &hex::decode(alloc, record)?)?);
+    }
+    match read_line(alloc, field.as_bytes()) {
+        Ok(Line::Command { command, .. }) => Ok(command),
+        _ => bail!("no command"),
+    }
 }

@@ -21,6 +21,8 @@ pub fn push_command(alloc: Global, text: &mut String, command: &Command) -> Resu
             push_origins(alloc, text, " +", added)?;
             push_origins(alloc, text, " -", removed)?;
         }
+        Command::InitRoll => text.push_str(" begins a rollover")?,
+        Command::ActivateRoll => text.push_str(" activates a rollover")?,
     }
     Ok(())
 }

@@ -28,6 +28,8 @@ pub fn text_of(alloc: Global, command: &Command) -> Result<String> {
             push_origins(alloc, &mut text, added)?;
             push_origins(alloc, &mut text, removed)?;
         }
+        Command::InitRoll => text.push_str("InitRoll")?,
+        Command::ActivateRoll => text.push_str("ActivateRoll")?,
     }
     Ok(text)
 }

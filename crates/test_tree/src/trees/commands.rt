@@ -13,6 +13,8 @@ pub fn command_of(alloc: Global, text: &str) -> Result<Command> {
     let (kind, fields) = text.split_once(';').unwrap_or((text, ""));
     Ok(match kind {
         "Delete" => Command::Delete,
+        "InitRoll" => Command::InitRoll,
+        "ActivateRoll" => Command::ActivateRoll,
         "AddParent" => Command::AddParent {
             parent: name_of(fields)?,
         },
