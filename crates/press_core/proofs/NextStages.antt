@@ -18,10 +18,12 @@ use Rattle.key_roll.specs.declared.rows.Role.{Role}
 use Rattle.key_roll.specs.declared.rows.Role.TheVariants.{New, Current, Old}
 use Rattle.key_roll.specs.declared.work.KeyName.{KeyName}
 use Rattle.key_roll.specs.declared.work.KeyName.TheVariants.{Live, Fresh}
+use Rattle.key_roll.specs.declared.stages.Stage.TheVariants.{Steady, Staged}
+use Rattle.key_roll.specs.Stages as roll
 use Rattle.key_roll.specs.Stages.{is_begun, is_activated}
 use Rattle.issue_plan.specs.declared.keys.NextKey.{NextKey}
 use Rattle.issue_plan.specs.declared.keys.Asked.{Asked}
-use Rattle.issue_plan.specs.Keys.{Basis, id_of, row_of, kept, turned, made, keys_after, holds_nothing, no_ranges, asked_at, keys_of, keys_at, keys_of_first, next_keys}
+use Rattle.issue_plan.specs.Keys.{Basis, id_of, row_of, kept, turned, made, keys_at_end, keys_after, holds_nothing, no_ranges, asked_at, keys_of, keys_at, keys_of_first, next_keys}
 use Rattle.key_roll.specs.Roles.{is_role}
 use Rattle.press_records.specs.Rows.{RowValue, row_value}
 use Rattle.press_records.specs.Stages.{is_alone, are_two, are_stages, are_staged}
@@ -104,9 +106,8 @@ module _ (rows : List KeyRow) where
   two-of asked new current first second since done old =
       by (is_activated asked.activates current.done current.since asked.moment)
     where
-      by : (b : Bool) → After rows asked.desk (cond b
-          (turned new Current 0 (current.done + 1) ∷ turned current Old 0 (current.done + 1) ∷ [])
-          (kept new ∷ kept current ∷ []))
+      by : (b : Bool) → After rows asked.desk (keys_at_end asked (Some new) current
+          (cond b (roll.activates current.done) (roll.stays (Staged current.since) current.done)))
       by true = (
         record {
           group = (first.at, second.at, ended-two (next_value (turned new Current 0 (current.done + 1))) (next_value (turned current Old 0 (current.done + 1))) refl refl refl refl refl);
@@ -126,9 +127,8 @@ module _ (rows : List KeyRow) where
       → After rows asked.desk (keys_after asked None (Some current) None)
   begun-of asked current is since = by (is_begun asked.inits current.done)
     where
-      by : (b : Bool) → After rows asked.desk (cond b
-          (made asked.desk asked.signer New asked.moment current.done ∷ turned current Current asked.moment current.done ∷ [])
-          (kept current ∷ []))
+      by : (b : Bool) → After rows asked.desk (keys_at_end asked None current
+          (cond b (roll.begins asked.moment current.done) (roll.stays Steady current.done)))
       by true = (
         record {
           group = (refl, is.at, begun-two (next_value (made asked.desk asked.signer New asked.moment current.done)) (next_value (turned current Current asked.moment current.done)) refl refl refl refl);
