@@ -35,7 +35,6 @@ use editions::{
     new_crls_list_what_is_superseded, steps_count_up, steps_stay_steps, superseded_by_then,
     what_is_planned_and_made_follows,
 };
-use issue_values::origin_texts_are_ascii;
 use rrdp_text::texts_are_read_back;
 
 /// What holds after every history of a store, whatever was done, failed or stopped in it, and however often.
@@ -104,7 +103,6 @@ pub fn headline()
     listed_names_are_names();
     manifests_rise();
     new_crls_list_what_is_superseded();
-    origin_texts_are_ascii();
     steps_count_up();
     steps_stay_steps();
     superseded_by_then();
@@ -235,7 +233,6 @@ pub fn snapshots_tell_their_serials()
 {
     accepted_names_are_apart();
     listed_names_are_names();
-    origin_texts_are_ascii();
     steps_count_up();
     steps_stay_steps();
     texts_are_read_back();

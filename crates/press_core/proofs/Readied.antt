@@ -44,6 +44,7 @@ use Rattle.press_core.specs.Next.{NextValue}
 use Rattle.press_core.specs.Staged.{AreStaged, HasStages}
 use Rattle.press_core.specs.Planned.{IsInRange, IsCalled, IsPlanned, IsPrepared, basis_for, issue_input_for}
 use Rattle.press_core.specs.Signers.{HoldKeys}
+use Rattle.press_core.proofs.Ranges.{least-moment, most-moment}
 use Rattle.press_core.proofs.Holding.{hold-calls, hold-fault, hold-further}
 use Rattle.press_core.specs.declared.fault.PressFault.TheVariants as press
 use Rattle.press_core.specs.Faults.{IsPressFault}
@@ -83,7 +84,11 @@ can-follow start setup work ready typed = record {
   taken = ready.set_up.taken;
   certified = subst (λ (c : List Settings). AreCertified c setup.tree.sets.items) (sym ready.set_up.configs) ready.called.certified;
   typed = typed;
-  moment = ready.set_up.dated;
+  moment =
+      let least = least-moment start.clock start.at.moment ready.in_range.dated in
+      let most = most-moment start.clock start.at.moment ready.in_range.dated in
+      let at = ready.set_up.moment in
+      record { from = omega (arith, least, at); to = omega (arith, most, at) };
   later = let less = ready.set_up.later in omega (arith, less);
   live_signers = ready.able.live_signers;
   name_signers = subst (λ (c : List Settings). All (λ (name : NameRow). name.signer < length start.ring) (names_of c)) (sym ready.set_up.configs) ready.able.name_signers;

@@ -1,6 +1,6 @@
 -- A prepared edition can be recorded, over what editions leave that left what stood.
 use Rattle.std.proofs.Common.{◌≡◌, ◌≢◌, ℕ, ◌+◌, ◌^◌, ◌<◌, ◌≤◌, ◌&&◌, leb, ltb, eqb, Bool, true, false, cond, List, [], ◌∷◌, length, map, refl, sym, ap, subst, ◌∙◌, arith}
-use Rattle.std.specs.Prelude.{All, AllPairs, Contains, option_map}
+use Rattle.std.specs.Prelude.{AllPairs, Contains, get_or, option_map}
 use Rattle.std.specs.List.{AllByRecursion, list_all}
 use Rattle.std.specs.Str.{is_utf8}
 use Rattle.std.proofs.Math.Path.{fun_ext}
@@ -21,7 +21,6 @@ use Rattle.pub_set.specs.declared.steps.Change.{Change}
 use Rattle.sha2.specs.Sha256.{sha256}
 use Rattle.pub_set.specs.Objects.{found_at, content_at}
 use Rattle.pub_set.specs.Changes.{Contents, uri_of}
-use Rattle.issue_values.specs.Bodies.{AreRevoked}
 use Rattle.issue_keys.specs.Keys.{id_of}
 use Rattle.issue_plan.specs.declared.keys.NextKey.{NextKey}
 use Rattle.issue_plan.specs.Keys.{next_keys}
@@ -32,7 +31,6 @@ use Rattle.issue_drafts.specs.Drafts.{serial_behind, is_numbered}
 use Rattle.issue_drafts.specs.Finding.{Keys, all_keys}
 use Rattle.issue_drafts.specs.Firsts.{AreFirsts}
 use Rattle.issue_drafts.specs.Revoking.{has_point, candidates}
-use Rattle.issue_sign.specs.Objects.{Signed}
 use Rattle.issue_make.specs.Trace.{IssuingTrace, AreKeys, all_of, puts_of, row_after}
 use Rattle.editions.specs.Keys.{IsNextBy, AreEach}
 use Rattle.editions.specs.Edition.{Edition, State, first_state, after_edition, state_from, state_after}
@@ -42,7 +40,7 @@ use Rattle.press_records.specs.Rows.{row_value, rise}
 use Rattle.press_records.specs.Stages.{are_staged}
 use Rattle.press_records.specs.Recordable.{IsTyped, IsTypedRow, IsRowOver, IsChangeOver, IsRecordable}
 use Rattle.press_records.specs.Changes.{uris_rise}
-use Rattle.press_records.specs.Edition.{StandingValue, IsAlike, nothing_stands, first_moment, last_moment, is_next, is_dated, grows, is_cut, is_settled, are_live, may_follow}
+use Rattle.press_records.specs.Edition.{StandingValue, IsAlike, nothing_stands, first_moment, last_moment, is_next, is_dated, grows, is_cut, are_past, is_settled, are_live, may_follow}
 use Rattle.press_records.specs.laws.RiseLaws.{at-its-uri, rise-tested}
 use Rattle.press_core.specs.PrepareInput.{PrepareInput}
 use Rattle.press_core.specs.Next.{NextValue}
@@ -122,13 +120,28 @@ module _ (keys-law : IsKeysLaw) (start : PrepareInput) (ring : List SignerState)
       omega (arith, early, behind, same)
 
   rising : (row : KeyRow) → Contains rows row → rise row.revoked ≡ true
-  rising row c = rises start.at.moment row.revoked (All-contains (λ (r : KeyRow). AreRevoked start.at.moment r.revoked) rows row kept.live.revoked c)
+  rising row c =
+      ap (λ (r : KeyRow). rise r.revoked) (sym c.2)
+      ∙ rises (get_or rows c.0 row).revoked (kept.live.revoked c.0 row c.1).rising
 
-  revoked-of : (key : KeyRow) → Contains of-plan.keys key → AreRevoked prepared.next.moment (trace.entries key)
-  revoked-of key c =
-      All-contains (λ (r : KeyRow). AreRevoked prepared.next.moment r.revoked) after (after-key s trace key)
-      (subst (λ (l : List KeyRow). All (λ (r : KeyRow). AreRevoked prepared.next.moment r.revoked) l) rows-are is.next.kept.live.revoked)
+  at-end : (key : KeyRow) → Contains of-plan.keys key → Contains prepared.next.rows (after-key s trace key)
+  at-end key c =
+      subst (λ (l : List KeyRow). Contains l (after-key s trace key)) (sym rows-are)
       (into-map (after-key s trace) of-plan.keys key c)
+
+  rising-at-end : (key : KeyRow) → Contains of-plan.keys key → rise (trace.entries key) ≡ true
+  rising-at-end key c =
+      let at = at-end key c in
+      ap (λ (r : KeyRow). rise r.revoked) (sym at.2)
+      ∙ rises (get_or prepared.next.rows at.0 (after-key s trace key)).revoked
+      (is.next.kept.live.revoked at.0 (after-key s trace key) at.1).rising
+
+  past-at-end : (key : KeyRow) → Contains of-plan.keys key → are_past prepared.next.moment (row_value (after-key s trace key)) ≡ true
+  past-at-end key c =
+      let at = at-end key c in
+      ap (λ (r : KeyRow). are_past prepared.next.moment (row_value r)) (sym at.2)
+      ∙ past-entries prepared.next.moment (get_or prepared.next.rows at.0 (after-key s trace key)).revoked
+      (is.next.kept.live.revoked at.0 (after-key s trace key) at.1).dated
 
   firsts-of : (key : KeyRow) → Contains of-plan.keys key → AreFirsts (candidates s trace.keys (puts_of s trace) key) (trace.entries key)
   firsts-of key c =
@@ -139,8 +152,8 @@ module _ (keys-law : IsKeysLaw) (start : PrepareInput) (ring : List SignerState)
 
   few : length (all_of s trace) < 2 ^ 62
   few =
-      let one = length_permutation (all_of s trace) (map (λ (x : Signed). x.draft) trace.objects) is.made.is_made.is_trace.objects.permutation in
-      let two = length-map trace.objects (λ (x : Signed). x.draft) in
+      let one = length_permutation (all_of s trace) (map (λ x. x.draft) trace.objects) is.made.is_made.is_trace.objects.permutation in
+      let two = length-map trace.objects (λ x. x.draft) in
       let three = length-append trace.objects trace.listed in
       let four = is.made.is_made.count in
       let five = is.made.few in
@@ -163,7 +176,7 @@ module _ (keys-law : IsKeysLaw) (start : PrepareInput) (ring : List SignerState)
     next_serial = subst (λ (k : KeyRow). k.next_serial < 2 ^ 62) (sym by.row) (omega arith);
   }
 
-  settled-row : (key : KeyRow) → IsSmall key → AreRevoked prepared.next.moment (trace.entries key)
+  settled-row : (key : KeyRow) → IsSmall key → are_past prepared.next.moment (row_value (after-key s trace key)) ≡ true
       → is_settled prepared.next.moment (row_value (after-key s trace key)) ≡ true
   settled-row key small past =
       let number = small.number in
@@ -173,10 +186,10 @@ module _ (keys-law : IsKeysLaw) (start : PrepareInput) (ring : List SignerState)
       (and_from (leb (key.number + 1) (2 ^ 63)) (leb (serial_behind (all_of s trace) key + 1) (2 ^ 63))
       (le-leb (key.number + 1) (2 ^ 63) (omega (arith, number)))
       (le-leb (serial_behind (all_of s trace) key + 1) (2 ^ 63) (omega (arith, serial, count, few))))
-      (past-entries prepared.next.moment (trace.entries key) past.dated)
+      past
 
   settled-rows : (nexts : List NextKey) (keys : List KeyRow) → AreEach rows nexts keys
-      → ((key : KeyRow) → Contains keys key → AreRevoked prepared.next.moment (trace.entries key))
+      → ((key : KeyRow) → Contains keys key → are_past prepared.next.moment (row_value (after-key s trace key)) ≡ true)
       → list_all (is_settled prepared.next.moment) (map row_value (map (after-key s trace) keys)) ≡ true
   settled-rows [] [] each past = refl
   settled-rows [] (key ∷ keys) each past = absurd each
@@ -189,7 +202,7 @@ module _ (keys-law : IsKeysLaw) (start : PrepareInput) (ring : List SignerState)
   settled-all : list_all (is_settled prepared.next.moment) (map row_value prepared.next.rows) ≡ true
   settled-all =
       ap (λ (l : List KeyRow). list_all (is_settled prepared.next.moment) (map row_value l)) rows-are
-      ∙ settled-rows (next_keys planned_input.basis) of-plan.keys of-plan.next.each revoked-of
+      ∙ settled-rows (next_keys planned_input.basis) of-plan.keys of-plan.next.each past-at-end
 
   -- ---- all of it
 
@@ -198,7 +211,7 @@ module _ (keys-law : IsKeysLaw) (start : PrepareInput) (ring : List SignerState)
     rows-fit =
         subst (λ (l : List KeyRow). AllByRecursion (IsRowOver (map row_value rows)) (map row_value l)) (sym rows-are)
         (rows-over s trace rows kept.live.apart later rising (next_keys planned_input.basis) of-plan.keys of-plan.next.each
-        of-plan.pointed firsts-of (λ key c. rises prepared.next.moment (trace.entries key) (revoked-of key c))
+        of-plan.pointed firsts-of rising-at-end
         (subst (λ (l : List KeyRow). AllByRecursion IsTypedRow (map row_value l)) rows-are typed.rows))
 
     changes-fit : AllByRecursion (IsChangeOver (content_at start.at.set)) prepared.changes

@@ -16,18 +16,19 @@ use Rattle.key_roll.specs.declared.rows.KeyRow.{KeyRow}
 use Rattle.key_roll.specs.declared.rows.RevokedRow.{RevokedRow}
 use Rattle.key_roll.specs.declared.work.KeyName.{KeyName}
 use Rattle.key_roll.specs.declared.work.KeyName.TheVariants.{Live, Fresh}
+use Rattle.crl_obj.specs.declared.values.CrlEntry.{CrlEntry}
+use Rattle.crl_obj.specs.Values.{are_rising}
 use Rattle.pub_set.specs.declared.steps.Change.{Change}
 use Rattle.pub_set.specs.declared.steps.Change.TheVariants.{Withdraw}
-use Rattle.pub_set.specs.Objects.{is_same, found_at}
+use Rattle.pub_set.specs.Objects.{found_at}
 use Rattle.pub_set.specs.Changes.{Contents, uri_of, change_at}
-use Rattle.issue_values.specs.Bodies.{AreRevoked}
 use Rattle.issue_keys.specs.Keys.{id_of}
 use Rattle.issue_plan.specs.declared.keys.NextKey.{NextKey}
 use Rattle.issue_drafts.specs.Drafts.{serial_behind}
 use Rattle.issue_drafts.specs.Certificates.{IssueInput}
 use Rattle.issue_drafts.specs.Firsts.{AreFirsts}
 use Rattle.issue_drafts.specs.Revoking.{has_point, is_listed, candidates, revoked_row, is_superseded}
-use Rattle.issue_sign.specs.Objects.{Signed}
+use Rattle.issue_drafts.specs.laws.UriOrder.{found-some}
 use Rattle.issue_make.specs.Trace.{IssuingTrace, all_of, made_of, puts_of, hash_at, put_of, withdrawal_at, or_else, wanted_at, row_after}
 use Rattle.editions.specs.Keys.{IsNextBy, AreEach}
 use Rattle.press_records.specs.Rows.{RowValue, row_value, row_of_key, lasting, carried, carried_by, added, merged, rise_behind, rise}
@@ -47,14 +48,17 @@ apart-same rows apart a b one two same =
 
 -- ---- the entries of CRLs
 
+-- As a CRL has it.
+abbrev listed : RevokedRow → CrlEntry
+listed row = record { serial = row.serial; revoked_at = row.revoked_at }
+
 -- Entries that a CRL can have rise.
-pub rises : (moment : ℕ) (entries : List RevokedRow) → AreRevoked moment entries → rise entries ≡ true
-rises moment [] is = refl
-rises moment (entry ∷ []) is = refl
-rises moment (entry ∷ next ∷ entries) is =
-    let p = and_parts (ltb entry.serial next.serial) _ is.rising in
-    and_from (ltb entry.serial next.serial) (rise_behind next.serial entries) p.0
-    (rises moment (next ∷ entries) (record { rising = p.1; dated = is.dated.1 }))
+pub rises : (entries : List RevokedRow) → are_rising (map listed entries) ≡ true → rise entries ≡ true
+rises [] up = refl
+rises (entry ∷ []) up = refl
+rises (entry ∷ next ∷ entries) up =
+    let p = and_parts (ltb entry.serial next.serial) _ up in
+    and_from (ltb entry.serial next.serial) (rise_behind next.serial entries) p.0 (rises (next ∷ entries) p.1)
 
 -- The row of a live key's bytes is its own.
 other-bytes : (a b : KeyRow) → id_of a ≢ id_of b → bytes_eq a.key.bytes b.key.bytes ≡ false
@@ -214,17 +218,6 @@ same-change a b e = cc
 
 module _ (s : IssueInput) (trace : IssuingTrace) (held : Contents)
     (hashes : (uri : List ℕ) → hash_at s uri ≡ option_map sha256 (held uri)) where
-  found-put : (uri : List ℕ) (change : Change) (made : List Signed) → found_at (λ x. x.draft.uri) (put_of s trace) made uri ≡ some-change change
-      → (x : Signed) × (put_of s trace x ≡ change)
-  found-put uri change [] e = absurd cc
-  found-put uri change (x ∷ made) e = by (is_same x.draft.uri uri) (found-put uri change made) e
-    where
-      by : (b : Bool) → (found_at (λ x. x.draft.uri) (put_of s trace) made uri ≡ some-change change → (x : Signed) × (put_of s trace x ≡ change))
-          → cond b (some-change (put_of s trace x)) (found_at (λ x. x.draft.uri) (put_of s trace) made uri) ≡ some-change change
-          → (x : Signed) × (put_of s trace x ≡ change)
-      by true rest h = (x, same-change (put_of s trace x) change h)
-      by false rest h = rest h
-
   withdrawal-over : (uri : List ℕ) (change : Change) (hash : Option (List ℕ)) → hash_at s uri ≡ hash
       → option_map (λ h. Withdraw uri h) hash ≡ some-change change → is_utf8 (uri_of change) ≡ true → IsChangeOver held change
   withdrawal-over uri change None is e text = absurd cc
@@ -242,8 +235,8 @@ module _ (s : IssueInput) (trace : IssuingTrace) (held : Contents)
       by : (o : Option Change) → found_at (λ x. x.draft.uri) (put_of s trace) (made_of trace) uri ≡ o
           → or_else o (withdrawal_at s uri) ≡ some-change change → IsChangeOver held change
       by (Some put) e h =
-          let found = found-put uri change (made_of trace) (e ∙ h) in
-          subst (IsChangeOver held) found.1 (ap is_utf8 (ap uri_of found.1) ∙ text, hashes found.0.draft.uri)
+          let found = found-some (λ x. x.draft.uri) (put_of s trace) (made_of trace) uri change (e ∙ h) in
+          subst (IsChangeOver held) found.3 (ap is_utf8 (ap uri_of found.3) ∙ text, hashes found.0.draft.uri)
       by None e h = withdrawn (list_any (λ w. bytes_eq w uri) s.work.withdrawn) h
 
   pub changes-over : (changes some : List Change) → ((uri : List ℕ) → change_at changes uri ≡ wanted_at s trace uri)

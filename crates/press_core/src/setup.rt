@@ -6,7 +6,6 @@ ghost use Rattle.key_ids.specs.Uris.{Bases};
 ghost use Rattle.entitle.specs.Certified.{settings_of, AreCertified};
 ghost use Rattle.entitle.specs.Owed.{AreOwed};
 ghost use Rattle.issue_plan.specs.Work.{IsPlan};
-ghost use Rattle.issue_values.specs.Certificates.{IsEditionMoment};
 ghost use Rattle.editions.specs.declared.gathered.Gathered.{Gathered};
 ghost use Rattle.editions.specs.Moments.{moment_behind};
 ghost use Rattle.editions.specs.Gathering.{AreGathered, AreAccepted};
@@ -44,7 +43,6 @@ pub struct EditionInput {
 /// 1970. `ClockRange` is asked before `SerialEnd`.
 pub fn moment_of(at: &PublishedState, now: u64) -> Result<u64, PressFault>
     ensures moment { IfOk result (λ moment. moment ≡ moment_behind now at.now.moment) }
-    ensures dated { IfOk result IsEditionMoment }
     ensures in_range { IfOk result (λ _. IsInRange at.now now) }
     ensures refused { IfErr result (λ fault. (site : Bases) (ring : List SignerState) (gathered : List Gathered)
         → IsPressFault (started site at.now ring now gathered) ring fault) }
@@ -74,7 +72,6 @@ pub fn set_up(
 ) -> Result<EditionInput, AllocError>
     requires gathered { AreGathered at.now.cut gathered.items }
     requires accepted { AreAccepted at.now.configs gathered.items }
-    requires dated { IsEditionMoment moment }
     ensures certified { IfOk result (λ setup. AreCertified (settings_of setup.configs.items) setup.tree.sets.items) }
     ensures owes { IfOk result (λ setup. AreOwed (settings_of setup.configs.items) setup.owed.items) }
     ensures set_up { IfOk result (λ setup. (site : Bases) (ring : List SignerState) (clock : ℕ)

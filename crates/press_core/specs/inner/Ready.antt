@@ -12,7 +12,6 @@ use Rattle.pub_set.specs.Changes.{uri_of, IsApplied}
 use Rattle.editions.specs.Edition.{cut_at}
 use Rattle.issue_plan.specs.Keys.{Basis}
 use Rattle.issue_plan.specs.Work.{IsPlan}
-use Rattle.issue_values.specs.Certificates.{IsEditionMoment}
 use Rattle.issue_keys.specs.declared.fault.MakeFault.{MakeFault}
 use Rattle.issue_keys.specs.declared.fault.MakeFault.TheVariants as why
 use Rattle.key_roll.specs.declared.issued.IssuedRow.{IssuedRow}
@@ -61,7 +60,6 @@ pub record IsSetUp (start : PrepareInput) (setup : EditionInput) : Type 0 where
   pub moment : setup.moment ≡ moment_behind start.clock start.at.moment
   pub cut : setup.cut.items ≡ cut_with start.at.cut start.gathered
   pub configs : settings_of setup.configs.items ≡ configs_with start.at.configs start.gathered
-  pub dated : IsEditionMoment setup.moment
   pub later : start.at.moment < setup.moment
   pub cut_desks : length setup.cut.items ≡ desks
   pub config_desks : length (settings_of setup.configs.items) ≡ desks

@@ -1,3 +1,4 @@
+use Rattle.origins.specs.laws.TextLaws.{text-ascii}
 use Rattle.histories.specs.Devices.{new_store}
 use Rattle.histories.proofs.Growing.{starts_legal}
 use Rattle.histories.proofs.Holds.{found, commands_stand, editions_stand, commands, limits, steps, number, published, cuts, deltas, manifests}
@@ -50,13 +51,13 @@ returns-clause-certificates c = λ site history id legal.
 
 pub returns-clause-snapshots : goal.returns-clause-snapshots
 returns-clause-snapshots c = λ site history session serial edition base uuid legal has.
-    snapshots c.steps_stay_steps.ensures.one c.accepted_names_are_apart.ensures c.listed_names_are_names.ensures c.origin_texts_are_ascii.ensures
+    snapshots c.steps_stay_steps.ensures.one c.accepted_names_are_apart.ensures c.listed_names_are_names.ensures text-ascii
     site base history legal c.steps_count_up.ensures.serials c.editions_leave_a_set.ensures c.texts_are_read_back.ensures.snapshots
     session uuid serial edition has
 
 pub returns-clause-delta_texts : goal.returns-clause-delta_texts
 returns-clause-delta_texts c = λ site history session serial edition base uuid legal has.
-    delta_texts c.steps_stay_steps.ensures.one c.accepted_names_are_apart.ensures c.listed_names_are_names.ensures c.origin_texts_are_ascii.ensures
+    delta_texts c.steps_stay_steps.ensures.one c.accepted_names_are_apart.ensures c.listed_names_are_names.ensures text-ascii
     site base history legal c.steps_count_up.ensures.serials c.texts_are_read_back.ensures.deltas
     session uuid serial edition has
 

@@ -22,7 +22,6 @@ returns-clause-set_up c = λ site ring clock is.
       moment = is;
       cut = cut;
       configs = configs;
-      dated = c.requires.dated;
       later = omega (arith, is);
       cut_desks = ap length cut ∙ (cut-long 0 at.cut gathered ∙ kept.cut);
       config_desks = ap length configs ∙ (configs-long 0 at.configs gathered ∙ kept.configs);
