@@ -73,5 +73,5 @@ is_live_in id edition = list_any (λ row. bytes_eq (id_of row) id) edition.rows
 pub record IsInLife (id : List ℕ) (editions : List Edition) (from to : ℕ) : Type 0 where
   pub ordered : from ≤ to
   pub within : to < length editions
-  pub unbroken : (place : ℕ) (edition : Edition) → from ≤ place → place ≤ to
-      → slice_get editions place ≡ Some edition → IsTrue (is_live_in id edition)
+  pub unbroken : (position : ℕ) (edition : Edition) → from ≤ position → position ≤ to
+      → slice_get editions position ≡ Some edition → IsTrue (is_live_in id edition)

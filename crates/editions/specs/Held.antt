@@ -25,9 +25,10 @@ pub record IsHeld (held : Contents) (id : List ℕ) (certificate : SignedCert) :
   pub has : HasCertificate bytes certificate
   pub issuer : certificate.cert.issuer ≡ id
 
--- The edition at that place holds the certificate under the key.
+-- The edition at that position holds the certificate under the key.
 abbrev pub Holds : List Edition → ℕ → List ℕ → SignedCert → Type 0
-Holds editions place id certificate = IsHeld (set_after (take (place + 1) editions)) id certificate
+Holds editions position id certificate =
+    IsHeld (set_after (take (position + 1) editions)) id certificate
 
 -- The certificates that the editions of one life of a key hold have serials of their own (RFC 5280
 -- section 4.1.2.2).

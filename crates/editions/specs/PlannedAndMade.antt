@@ -10,7 +10,7 @@ use Rattle.key_roll.specs.declared.work.Work.{Work}
 use Rattle.entitle.specs.declared.trees.Owed.{Owed}
 use Rattle.entitle.specs.Certified.{names_of, AreCertified}
 use Rattle.entitle.specs.Owed.{AreOwed}
-use Rattle.issue_make.specs.declared.outcome.Made.{Made}
+use Rattle.issue_make.specs.declared.made.Made.{Made}
 use Rattle.issue_plan.specs.Keys.{next_keys}
 use Rattle.issue_plan.specs.Wanted.{PlanInput}
 use Rattle.issue_plan.specs.Work as plan

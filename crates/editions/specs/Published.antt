@@ -19,7 +19,7 @@ use Rattle.rp_rules.specs.Sound.{IsSoundBy}
 use Rattle.rp_rules.specs.Yield.{Yielded, yield}
 use Rattle.issue_values.specs.Bodies.{roa_entry}
 use Rattle.issue_plan.specs.Keys.{row_of}
-use Rattle.issue_drafts.specs.Certificates.{name_at}
+use Rattle.issue_drafts.specs.Publishers.{name_at}
 use Rattle.editions.specs.Edition.{Edition}
 use Rattle.editions.specs.Step.{Premises, configs_at}
 

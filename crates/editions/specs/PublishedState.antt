@@ -16,7 +16,7 @@ use Rattle.issue_values.specs.Bodies.{AreRevoked}
 use Rattle.issue_keys.specs.Keys.{id_of}
 use Rattle.editions.specs.Edition.{cut_at}
 use Rattle.editions.specs.declared.published_state.StateParts.{StateParts}
-use Rattle.editions.specs.declared.published_state.Published.{Published}
+use Rattle.editions.specs.declared.published_state.PublishedNumbers.{PublishedNumbers}
 
 -- The serial and the moment of an edition; how many commands of each desk it takes in; its live
 -- keys; the table of what stands, and what stands; and at its cut the configuration of each desk,
@@ -104,7 +104,7 @@ pub record IsFirst (published_state : PublishedStateValue) : Type 0 where
 
 -- ---- what an edition is known by
 
-abbrev pub published_of : PublishedStateValue → Published
+abbrev pub published_of : PublishedStateValue → PublishedNumbers
 published_of published_state = record {
   serial = published_state.serial;
   moment = published_state.moment;

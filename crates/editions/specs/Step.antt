@@ -118,9 +118,9 @@ plan_input_at premises before edition sets owed issued = record {
 
 -- The CRL of each key that gets a new one lists just what is superseded under it.
 abbrev pub AreRevoked : List Edition → ℕ → PlanInput → List KeyRow → Entries → Type 0
-AreRevoked editions place plan_input keys entries =
+AreRevoked editions position plan_input keys entries =
     All (λ key. keeps_point plan_input keys key ≡ false
-    → AreSuperseded editions place (id_of key) (entries key)) keys
+    → AreSuperseded editions position (id_of key) (entries key)) keys
 
 -- So the edition that follows the others.
 abbrev pub AreRevokedBy : List Edition → Edition → PlanInput → List KeyRow → Entries → Type 0
@@ -177,6 +177,6 @@ IsStep premises clock editions edition = IsStepBy AreRevokedBy premises clock ed
 
 -- Each of the editions follows those before it, at some clock.
 abbrev pub AreSteps : Premises → List Edition → Type 0
-AreSteps premises editions = (place : ℕ) (edition : Edition) → slice_get editions place
+AreSteps premises editions = (position : ℕ) (edition : Edition) → slice_get editions position
     ≡ Some edition
-    → (clock : ℕ) × IsStep premises clock (take place editions) edition
+    → (clock : ℕ) × IsStep premises clock (take position editions) edition

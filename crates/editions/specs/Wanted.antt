@@ -8,8 +8,8 @@ use Rattle.entitle.specs.Certified.{names_of}
 use Rattle.issue_plan.specs.Keys.{kept}
 use Rattle.issue_plan.specs.Wanted.{PlanInput, Certificate, Roa, Point, fits, point_of}
 use Rattle.issue_plan.specs.Wanted.{wanted_certificates, wanted_roas, wanted_points}
-use Rattle.issue_drafts.specs.Finding.{Keys}
-use Rattle.issue_drafts.specs.Certificates.{IssueInput}
+use Rattle.issue_drafts.specs.WorkKeys.{Keys}
+use Rattle.issue_drafts.specs.IssueInput.{IssueInput}
 use Rattle.issue_drafts.specs.Drafts.{Draft, drafts, manifests}
 
 -- Keys that are all there, and named by their identifiers.

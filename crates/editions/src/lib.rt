@@ -43,7 +43,7 @@ pub use plan_laws::{
 pub use published_laws::{
     editions_are_in_profile, editions_are_published, keys_are_of_a_tree, wanted_objects_have_drafts,
 };
-pub use published_state::{Published, PublishedState, StateParts};
+pub use published_state::{PublishedNumbers, PublishedState, StateParts};
 pub use standing::{next_set, next_table};
 pub use state_laws::{
     called_for_by_what_stands, gathered_commands_are_taken_in, gathered_commands_go_on,

@@ -10,7 +10,7 @@ ghost use Rattle.rp_rules.specs.Objects.{certificate_in, crl_in, object_in};
 ghost use Rattle.pub_set.specs.declared.steps.Change.{Change};
 ghost use Rattle.pub_set.specs.Objects.{Rise};
 ghost use Rattle.pub_set.specs.Changes.{Contents, uri_of, change_at, after_all};
-ghost use Rattle.issue_drafts.specs.Certificates.{IssueInput};
+ghost use Rattle.issue_drafts.specs.IssueInput.{IssueInput};
 ghost use Rattle.issue_make.specs.Trace.{
   IssuingTrace,
   AreKeys,
@@ -33,7 +33,7 @@ ghost use Rattle.rp_rules.specs.Certificates.{Vouched};
 ghost use Rattle.editions.specs.Objects.{Issuance, moment_of, IsObject};
 ghost use Rattle.editions.specs.VouchedCalls.{IsVouchedBy};
 ghost use Rattle.editions.specs.inner.Vouched.{AreVouched};
-ghost use Rattle.issue_drafts.specs.Finding.{Keys, all_keys};
+ghost use Rattle.issue_drafts.specs.WorkKeys.{Keys, all_keys};
 ghost use Rattle.std.specs.List.Sorted.{IsSortedBy};
 ghost use Rattle.std.specs.Prelude.{IsPermutation};
 ghost use Rattle.key_roll.specs.declared.work.Work.{Work};

@@ -40,7 +40,7 @@ pub struct StateParts {
 
 /// What an edition is known by once it is published. Its serial counts editions from 1.
 #[derive(Clone, Copy, Debug, PartialEq, Eq)]
-pub struct Published {
+pub struct PublishedNumbers {
     pub serial: u64,
     /// In seconds since 1970.
     pub moment: u64,
@@ -106,10 +106,10 @@ impl PublishedState {
     }
 
     /// What its edition is known by.
-    pub fn published(&self) -> Published
+    pub fn published(&self) -> PublishedNumbers
         ensures { result ≡ published_of self.now }
     {
-        Published {
+        PublishedNumbers {
             serial: self.parts.serial,
             moment: self.parts.moment,
             objects: self.parts.set.len() as u64,

@@ -28,9 +28,9 @@ pub fn editions_follow_one_another()
 pub fn steps_count_up()
     ensures serials { (premises : Premises) (editions : List Edition) → AreSteps premises editions
         → (state_after editions).serial ≡ length editions }
-    ensures moments { (premises : Premises) (editions : List Edition) (place : ℕ) (edition : Edition)
-        → AreSteps premises editions → slice_get editions place ≡ Some edition
-        → (state_after (take place editions)).moment < edition.moment }
+    ensures moments { (premises : Premises) (editions : List Edition) (position : ℕ) (edition : Edition)
+        → AreSteps premises editions → slice_get editions position ≡ Some edition
+        → (state_after (take position editions)).moment < edition.moment }
 {}
 
 /// Editions each follow those before them where all but the last do, and the last follows the others.
@@ -57,10 +57,10 @@ pub fn steps_stay_steps()
 
 /// What is superseded in an edition is told by the editions up to it.
 pub fn superseded_by_then()
-    ensures { (one other : List Edition) (place : ℕ) (id : List ℕ) (entries : List RevokedRow)
-        → place < length one → place < length other
-        → take (place + 1) one ≡ take (place + 1) other
-        → AreSuperseded one place id entries → AreSuperseded other place id entries }
+    ensures { (one other : List Edition) (position : ℕ) (id : List ℕ) (entries : List RevokedRow)
+        → position < length one → position < length other
+        → take (position + 1) one ≡ take (position + 1) other
+        → AreSuperseded one position id entries → AreSuperseded other position id entries }
 {}
 
 /// Sets with the same objects are one set.

@@ -17,14 +17,14 @@ use Rattle.std.proofs.lemmas.Option.{slice_get-get_or, get_or_from_slice_get}
 use Rattle.std.proofs.lemmas.Slice.Zip.{get_or-zip, length-zip}
 use Rattle.std.proofs.lemmas.Str.Pattern.{starts_text}
 use Rattle.der.specs.Forms.{AreAll}
-use Rattle.issue_keys.specs.declared.entries.Placed.{Placed}
+use Rattle.issue_keys.specs.declared.key_index.KeyPosition.{KeyPosition}
 use Rattle.payloads.specs.Order.{rises}
 use Rattle.payloads.specs.ManifestFormats.{IsFile, is_name_below, file_view}
 use Rattle.payloads.specs.declared.values.ListedFile.{ListedFile}
 use Rattle.issue_drafts.specs.Drafts.{Draft}
 use Rattle.issue_drafts.specs.Views.{draft_of}
 use Rattle.issue_drafts.specs.declared.draft.Draft as code
-use Rattle.issue_drafts.specs.inner.Places.{items_at}
+use Rattle.issue_drafts.specs.inner.Positions.{items_at}
 use Rattle.issue_drafts.specs.Files.{names_of, IsListable}
 use Rattle.issue_drafts.proofs.OrderedFiles.{never}
 use Rattle.issue_drafts.proofs.Growing.{grown}
@@ -42,12 +42,12 @@ some-name (Some x) folder uri h l = refl
 
 -- ---- one file more
 
-pub at-listed : {A : Type 0} (Q : A → Type 0) (xs : List A) (places : List Placed) (i : ℕ) (d : Placed) (x : A)
-    → All Q (items_at xs places) → i < length places → slice_get xs (get_or places i d).place ≡ Some x → Q x
+pub at-listed : {A : Type 0} (Q : A → Type 0) (xs : List A) (positions : List KeyPosition) (i : ℕ) (d : KeyPosition) (x : A)
+    → All Q (items_at xs positions) → i < length positions → slice_get xs (get_or positions i d).position ≡ Some x → Q x
 at-listed Q xs [] i d x all lt e = absurd (omega arith)
 at-listed {A} Q xs (p ∷ ps) zero d x all lt e =
     All-head Q x (items_at xs ps) (subst (λ (o : Option A). All Q (cons_option o (items_at xs ps))) e all)
-at-listed {A} Q xs (p ∷ ps) (suc i) d x all lt e = at-listed Q xs ps i d x (rest (slice_get xs p.place) all)
+at-listed {A} Q xs (p ∷ ps) (suc i) d x all lt e = at-listed Q xs ps i d x (rest (slice_get xs p.position) all)
     (omega arith) e
   where
     rest : (o : Option A) → All Q (cons_option o (items_at xs ps)) → All Q (items_at xs ps)
@@ -58,74 +58,74 @@ are-append : {X : Type 0} (P : X → Type 0) (xs ys : List X) → AreAll P xs �
 are-append P [] ys h k = k
 are-append P (x ∷ xs) ys h k = (h.0, are-append P xs ys h.1 k)
 
-abbrev files_at : {A : Type 0} → (A → File) → List A → List Placed → List File
-files_at f xs places = map f (items_at xs places)
+abbrev files_at : {A : Type 0} → (A → File) → List A → List KeyPosition → List File
+files_at f xs positions = map f (items_at xs positions)
 
-files-append : {A : Type 0} (f : A → File) (xs : List A) (places : List Placed) (e : Placed)
-    → files_at f xs (places ++ e ∷ []) ≡ files_at f xs places ++ files_at f xs (e ∷ [])
-files-append f xs places e =
-    ap (map f) (filter_map-append (λ (p : Placed). slice_get xs p.place) places (e ∷ [])) ∙ map-append f
-    (items_at xs places) (items_at xs (e ∷ []))
+files-append : {A : Type 0} (f : A → File) (xs : List A) (positions : List KeyPosition) (e : KeyPosition)
+    → files_at f xs (positions ++ e ∷ []) ≡ files_at f xs positions ++ files_at f xs (e ∷ [])
+files-append f xs positions e =
+    ap (map f) (filter_map-append (λ (p : KeyPosition). slice_get xs p.position) positions (e ∷ [])) ∙ map-append f
+    (items_at xs positions) (items_at xs (e ∷ []))
 
-pub record Filed {A : Type 0} (f : A → File) (xs : List A) (places : List Placed) (start now : List File) :
+pub record Filed {A : Type 0} (f : A → File) (xs : List A) (positions : List KeyPosition) (start now : List File) :
     Type 0 where
-  pub files : now ≡ start ++ map f (items_at xs places)
-  pub are : AreAll IsFile (map f (items_at xs places))
+  pub files : now ≡ start ++ map f (items_at xs positions)
+  pub are : AreAll IsFile (map f (items_at xs positions))
 
-pub file-more : {A : Type 0} (f : A → File) (xs : List A) (places : List Placed) (i : ℕ) (d : Placed) (x : A)
+pub file-more : {A : Type 0} (f : A → File) (xs : List A) (positions : List KeyPosition) (i : ℕ) (d : KeyPosition) (x : A)
     (start now after : List File) (file : File)
-    → i < length places → slice_get xs (get_or places i d).place ≡ Some x
-    → now ≡ start ++ map f (items_at xs (take i places)) → AreAll IsFile (map f (items_at xs (take i places)))
-    → after ≡ now ++ file ∷ [] → IsFile file → file ≡ f x → Filed f xs (take (i + 1) places) start after
-file-more {A} f xs places i d x start now after file lt at was all adds ok is =
-    let one : file ∷ [] ≡ files_at f xs (get_or places i d ∷ []) =
+    → i < length positions → slice_get xs (get_or positions i d).position ≡ Some x
+    → now ≡ start ++ map f (items_at xs (take i positions)) → AreAll IsFile (map f (items_at xs (take i positions)))
+    → after ≡ now ++ file ∷ [] → IsFile file → file ≡ f x → Filed f xs (take (i + 1) positions) start after
+file-more {A} f xs positions i d x start now after file lt at was all adds ok is =
+    let one : file ∷ [] ≡ files_at f xs (get_or positions i d ∷ []) =
     ap (λ (y : File). y ∷ []) is ∙ sym (ap (λ (o : Option A). map f (cons_option o [])) at) in
-    let more : files_at f xs (take (i + 1) places) ≡ files_at f xs (take i places) ++ file ∷ [] =
-    ap (files_at f xs) (take_more places i d lt)
-    ∙ (files-append f xs (take i places) (get_or places i d) ∙ ap
-    (λ (l : List File). files_at f xs (take i places) ++ l) (sym one)) in
+    let more : files_at f xs (take (i + 1) positions) ≡ files_at f xs (take i positions) ++ file ∷ [] =
+    ap (files_at f xs) (take_more positions i d lt)
+    ∙ (files-append f xs (take i positions) (get_or positions i d) ∙ ap
+    (λ (l : List File). files_at f xs (take i positions) ++ l) (sym one)) in
     record {
-      files = grown (files_at f xs) (λ (e : Placed). files_at f xs (e ∷ [])) (files-append f xs) start places
+      files = grown (files_at f xs) (λ (e : KeyPosition). files_at f xs (e ∷ [])) (files-append f xs) start positions
           i d (file ∷ []) now after lt was adds one;
-      are = subst (AreAll IsFile) (sym more) (are-append IsFile (files_at f xs (take i places)) (file ∷ [])
+      are = subst (AreAll IsFile) (sym more) (are-append IsFile (files_at f xs (take i positions)) (file ∷ [])
           all (ok, tt));
     }
 
 -- ---- a draft and its hash
 
--- What stands for a place past the end.
-abbrev pub no_place : Placed
-no_place = record { key = record { bytes = [] }; place = 0 }
+-- What stands for a position past the end.
+abbrev pub no_position : KeyPosition
+no_position = record { key = record { bytes = [] }; position = 0 }
 
-pub in-both : (drafts : List code.Draft) (hashes : List (List ℕ)) (place : ℕ) → length hashes ≡ length drafts
-    → place < length (zip (map draft_of drafts) hashes) → (place < length drafts) × (place < length hashes)
-in-both drafts hashes place long lt =
+pub in-both : (drafts : List code.Draft) (hashes : List (List ℕ)) (position : ℕ) → length hashes ≡ length drafts
+    → position < length (zip (map draft_of drafts) hashes) → (position < length drafts) × (position < length hashes)
+in-both drafts hashes position long lt =
     let views : length (map draft_of drafts) ≡ length drafts = length-map drafts draft_of in
     let both = length-zip (map draft_of drafts) hashes in
     (omega arith, omega arith)
 
-pub both-at : (drafts : List code.Draft) (hashes : List (List ℕ)) (place : ℕ) (draft : code.Draft) (e : List ℕ)
-    → length hashes ≡ length drafts → place < length (zip (map draft_of drafts) hashes)
-    → draft ≡ get_or drafts place draft
-    → slice_get (zip (map draft_of drafts) hashes) place ≡ Some (draft_of draft, get_or hashes place e)
-both-at drafts hashes place draft e long lt is =
-    let inside = in-both drafts hashes place long lt in
+pub both-at : (drafts : List code.Draft) (hashes : List (List ℕ)) (position : ℕ) (draft : code.Draft) (e : List ℕ)
+    → length hashes ≡ length drafts → position < length (zip (map draft_of drafts) hashes)
+    → draft ≡ get_or drafts position draft
+    → slice_get (zip (map draft_of drafts) hashes) position ≡ Some (draft_of draft, get_or hashes position e)
+both-at drafts hashes position draft e long lt is =
+    let inside = in-both drafts hashes position long lt in
     let views : length (map draft_of drafts) ≡ length drafts = length-map drafts draft_of in
-    let low : place < length drafts = inside.0 in
-    let view : get_or (map draft_of drafts) place (draft_of draft) ≡ draft_of draft =
-    get_or-map draft_of drafts place draft (draft_of draft) low ∙ sym (ap draft_of is) in
-    slice_get-get_or (zip (map draft_of drafts) hashes) place (draft_of draft, e) lt
+    let low : position < length drafts = inside.0 in
+    let view : get_or (map draft_of drafts) position (draft_of draft) ≡ draft_of draft =
+    get_or-map draft_of drafts position draft (draft_of draft) low ∙ sym (ap draft_of is) in
+    slice_get-get_or (zip (map draft_of drafts) hashes) position (draft_of draft, e) lt
     ∙ ap (λ (x : Draft × List ℕ). Some x)
-    (get_or-zip (map draft_of drafts) hashes place (draft_of draft, e) (omega arith) inside.1 ∙ ap
-    (λ (x : Draft). (x, get_or hashes place e)) view)
+    (get_or-zip (map draft_of drafts) hashes position (draft_of draft, e) (omega arith) inside.1 ∙ ap
+    (λ (x : Draft). (x, get_or hashes position e)) view)
 
-pub hashed-at : (drafts : List code.Draft) (hashes : List (List ℕ)) (place : ℕ) (draft : code.Draft) (hash : List ℕ)
-    → length hashes ≡ length drafts → place < length (zip (map draft_of drafts) hashes)
-    → draft ≡ get_or drafts place draft → slice_get hashes place ≡ Some hash
-    → slice_get (zip (map draft_of drafts) hashes) place ≡ Some (draft_of draft, hash)
-hashed-at drafts hashes place draft hash long lt is at =
-    both-at drafts hashes place draft hash long lt is
-    ∙ ap (λ (h : List ℕ). Some (draft_of draft, h)) (get_or_from_slice_get hashes place hash hash at)
+pub hashed-at : (drafts : List code.Draft) (hashes : List (List ℕ)) (position : ℕ) (draft : code.Draft) (hash : List ℕ)
+    → length hashes ≡ length drafts → position < length (zip (map draft_of drafts) hashes)
+    → draft ≡ get_or drafts position draft → slice_get hashes position ≡ Some hash
+    → slice_get (zip (map draft_of drafts) hashes) position ≡ Some (draft_of draft, hash)
+hashed-at drafts hashes position draft hash long lt is at =
+    both-at drafts hashes position draft hash long lt is
+    ∙ ap (λ (h : List ℕ). Some (draft_of draft, h)) (get_or_from_slice_get hashes position hash hash at)
 
 -- ---- by name
 

@@ -14,19 +14,19 @@ use Rattle.key_ids.specs.Uris.{anchor_uri}
 use Rattle.key_roll.specs.declared.rows.KeyRow.{KeyRow}
 use Rattle.key_roll.specs.declared.rows.RevokedRow.{RevokedRow}
 use Rattle.key_roll.specs.declared.issued.IssuedRow.{IssuedRow}
-use Rattle.issue_keys.specs.declared.entries.Placed.{Placed}
-use Rattle.issue_keys.specs.Under.{places_under}
+use Rattle.issue_keys.specs.declared.key_index.KeyPosition.{KeyPosition}
+use Rattle.issue_keys.specs.Under.{positions_under}
 use Rattle.issue_values.specs.Bodies.{AreRevoked}
 use Rattle.issue_drafts.specs.Firsts.{AreFirsts}
 use Rattle.issue_keys.specs.Keys.{id_of}
 use Rattle.issue_keys.specs.Indexes.{has_id, IsIndex}
-use Rattle.issue_drafts.specs.Finding.{Keys}
-use Rattle.issue_drafts.specs.Certificates.{IssueInput}
+use Rattle.issue_drafts.specs.WorkKeys.{Keys}
+use Rattle.issue_drafts.specs.IssueInput.{IssueInput}
 use Rattle.issue_drafts.specs.Drafts.{Draft}
 use Rattle.issue_drafts.specs.Revoking.{is_superseded, is_listed, revoked_row, has_point, candidates}
 use Rattle.issue_drafts.specs.Touching.{AreTouched, has_uri}
 use Rattle.issue_drafts.specs.Tables.{IsTable}
-use Rattle.issue_drafts.specs.inner.Places.{items_at}
+use Rattle.issue_drafts.specs.inner.Positions.{items_at}
 use Rattle.issue_drafts.specs.inner.Entries.{ends, ended_key, lasts, listed, ended_under}
 use Rattle.issue_drafts.proofs.OrderedFiles.{arranged}
 use Rattle.issue_drafts.proofs.Firsts.{lower, firsts-same, firsts-arranged, firsts-all}
@@ -46,30 +46,30 @@ lasting cutoff start rows i row d before after lt is was now =
     start rows i d (filter (lasts cutoff) (row ∷ [])) before after lt was now
     (ap (λ (x : RevokedRow). filter (lasts cutoff) (x ∷ [])) is)
 
-abbrev pub ended_at : ℕ → ℕ → List IssuedRow → List Placed → List RevokedRow
-ended_at cutoff moment issued places = filter (lasts cutoff) (map (revoked_row moment) (items_at issued places))
+abbrev pub ended_at : ℕ → ℕ → List IssuedRow → List KeyPosition → List RevokedRow
+ended_at cutoff moment issued positions = filter (lasts cutoff) (map (revoked_row moment) (items_at issued positions))
 
-ended-append : (cutoff moment : ℕ) (issued : List IssuedRow) (places : List Placed) (e : Placed)
-    → ended_at cutoff moment issued (places ++ e ∷ []) ≡ ended_at cutoff moment issued places ++ ended_at
+ended-append : (cutoff moment : ℕ) (issued : List IssuedRow) (positions : List KeyPosition) (e : KeyPosition)
+    → ended_at cutoff moment issued (positions ++ e ∷ []) ≡ ended_at cutoff moment issued positions ++ ended_at
     cutoff moment issued (e ∷ [])
-ended-append cutoff moment issued places e =
-    let xs = items_at issued places in
+ended-append cutoff moment issued positions e =
+    let xs = items_at issued positions in
     let ys = items_at issued (e ∷ []) in
     ap (λ (l : List IssuedRow). filter (lasts cutoff) (map (revoked_row moment) l))
-    (filter_map-append (λ (p : Placed). slice_get issued p.place) places (e ∷ []))
+    (filter_map-append (λ (p : KeyPosition). slice_get issued p.position) positions (e ∷ []))
     ∙ (ap (filter (lasts cutoff)) (map-append (revoked_row moment) xs ys)
     ∙ filter-append (lasts cutoff) (map (revoked_row moment) xs) (map (revoked_row moment) ys))
 
-pub ending : (cutoff moment : ℕ) (issued : List IssuedRow) (start : List RevokedRow) (places : List Placed)
-    (i : ℕ) (d : Placed) (row : IssuedRow) (before after : List RevokedRow)
-    → i < length places → items_at issued (get_or places i d ∷ []) ≡ row ∷ []
-    → before ≡ start ++ ended_at cutoff moment issued (take i places)
+pub ending : (cutoff moment : ℕ) (issued : List IssuedRow) (start : List RevokedRow) (positions : List KeyPosition)
+    (i : ℕ) (d : KeyPosition) (row : IssuedRow) (before after : List RevokedRow)
+    → i < length positions → items_at issued (get_or positions i d ∷ []) ≡ row ∷ []
+    → before ≡ start ++ ended_at cutoff moment issued (take i positions)
     → after ≡ before ++ filter (lasts cutoff) (revoked_row moment row ∷ [])
-    → after ≡ start ++ ended_at cutoff moment issued (take (i + 1) places)
-ending cutoff moment issued start places i d row before after lt is was now =
-    grown (ended_at cutoff moment issued) (λ (e : Placed). ended_at cutoff moment issued (e ∷ []))
+    → after ≡ start ++ ended_at cutoff moment issued (take (i + 1) positions)
+ending cutoff moment issued start positions i d row before after lt is was now =
+    grown (ended_at cutoff moment issued) (λ (e : KeyPosition). ended_at cutoff moment issued (e ∷ []))
     (ended-append cutoff moment issued)
-    start places i d (filter (lasts cutoff) (revoked_row moment row ∷ [])) before after lt was now
+    start positions i d (filter (lasts cutoff) (revoked_row moment row ∷ [])) before after lt was now
     (sym (ap (λ (l : List IssuedRow). filter (lasts cutoff) (map (revoked_row moment) l)) is))
 
 -- ---- the rows that are looked at
@@ -92,27 +92,27 @@ abbrev pub OfRow : IssueInput → List (List ℕ) → KeyRow × Bool → List Re
 OfRow s touched x list =
     AreFirsts (listed s.work.moment x.0 x.1 (ended_under (anchor_uri s.site) touched s.issued x.0)) list
 
-ended-found : (s : IssueInput) (touched : List (List ℕ)) (key : KeyRow) (id : List ℕ) (index places : List Placed)
+ended-found : (s : IssueInput) (touched : List (List ℕ)) (key : KeyRow) (id : List ℕ) (index positions : List KeyPosition)
     → IsIndex (map (ended_key (anchor_uri s.site) touched) s.issued) index → id ≡ id_of key
-    → places ≡ places_under id index
-    → items_at s.issued places ≡ ended_under (anchor_uri s.site) touched s.issued key
-ended-found s touched key id index places h same is =
-    found (ended_key (anchor_uri s.site) touched) s.issued index places (id_of key) h
-    (is ∙ ap (λ (i : List ℕ). places_under i index) same)
+    → positions ≡ positions_under id index
+    → items_at s.issued positions ≡ ended_under (anchor_uri s.site) touched s.issued key
+ended-found s touched key id index positions h same is =
+    found (ended_key (anchor_uri s.site) touched) s.issued index positions (id_of key) h
+    (is ∙ ap (λ (i : List ℕ). positions_under i index) same)
     ∙ filter_agree (λ (row : IssuedRow). has_id (id_of key) (ended_key (anchor_uri s.site) touched row))
     (λ (row : IssuedRow). bytes_eq row.issuer.bytes (id_of key) && ends (anchor_uri s.site) touched row)
     (λ row. has-under (id_of key) row.issuer (ends (anchor_uri s.site) touched row)) s.issued
 
 pub as-row : (s : IssueInput) (touched : List (List ℕ)) (key : KeyRow) (point : Bool) (id : List ℕ)
-    (index places : List Placed) (entries list : List RevokedRow)
+    (index positions : List KeyPosition) (entries list : List RevokedRow)
     → IsIndex (map (ended_key (anchor_uri s.site) touched) s.issued) index → id ≡ id_of key
-    → places ≡ places_under id index
-    → AreFirsts (listed s.work.moment key point (items_at s.issued places)) entries → list ≡ entries
+    → positions ≡ positions_under id index
+    → AreFirsts (listed s.work.moment key point (items_at s.issued positions)) entries → list ≡ entries
     → OfRow s touched (key, point) list
-as-row s touched key point id index places entries list h same is firsts now =
+as-row s touched key point id index positions entries list h same is firsts now =
     subst (λ (l : List RevokedRow). OfRow s touched (key, point) l) (sym now)
     (subst (λ (l : List IssuedRow). AreFirsts (listed s.work.moment key point l) entries)
-    (ended-found s touched key id index places h same is) firsts)
+    (ended-found s touched key id index positions h same is) firsts)
 
 as-candidates : (s : IssueInput) (keys : Keys) (puts : List Draft) (touched : List (List ℕ)) (key : KeyRow)
     (list : List RevokedRow)

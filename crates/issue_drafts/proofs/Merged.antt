@@ -19,20 +19,20 @@ use Rattle.key_ids.specs.Uris.{anchor_uri}
 use Rattle.key_ids.specs.declared.identifier.KeyId.{KeyId}
 use Rattle.key_roll.specs.declared.rows.KeyRow.{KeyRow}
 use Rattle.key_roll.specs.declared.issued.IssuedRow.{IssuedRow}
-use Rattle.issue_keys.specs.declared.entries.Placed.{Placed}
-use Rattle.issue_keys.specs.Under.{places_under}
+use Rattle.issue_keys.specs.declared.key_index.KeyPosition.{KeyPosition}
+use Rattle.issue_keys.specs.Under.{positions_under}
 use Rattle.pub_set.specs.Objects.{Rise, uri_cmp}
 use Rattle.payloads.specs.ManifestFormats.{IsFile, file_view}
 use Rattle.payloads.specs.declared.values.ListedFile.{ListedFile}
 use Rattle.issue_values.specs.Bodies.{AreListed}
 use Rattle.issue_keys.specs.Keys.{id_of}
 use Rattle.issue_keys.specs.Indexes.{has_id, IsIndex}
-use Rattle.issue_drafts.specs.Certificates.{IssueInput}
+use Rattle.issue_drafts.specs.IssueInput.{IssueInput}
 use Rattle.issue_drafts.specs.Drafts.{Draft}
 use Rattle.issue_drafts.specs.Revoking.{is_touched}
 use Rattle.issue_drafts.specs.Touching.{has_uri, AreTouched}
 use Rattle.issue_drafts.specs.Tables.{IsTable}
-use Rattle.issue_drafts.specs.inner.Places.{items_at, AreInside}
+use Rattle.issue_drafts.specs.inner.Positions.{items_at, AreInside}
 use Rattle.issue_drafts.specs.inner.Holdings.{stays, kept_key, made_key}
 use Rattle.issue_drafts.specs.Files.{name_in, names_of, is_kept, kept_file, made_file, kept_files}
 use Rattle.issue_drafts.specs.Files.{made_files, folder_at, is_made_under, AreMerged, IsListable}
@@ -53,21 +53,21 @@ made_under s key made = filter (λ m. is_made_under s key m.0) made
 
 -- ---- found under the key
 
-pub kept-found : (s : IssueInput) (touched : List (List ℕ)) (key : KeyRow) (id : List ℕ) (index places : List Placed)
+pub kept-found : (s : IssueInput) (touched : List (List ℕ)) (key : KeyRow) (id : List ℕ) (index positions : List KeyPosition)
     → IsIndex (map (kept_key (anchor_uri s.site) touched) s.issued) index → id ≡ id_of key
-    → places ≡ places_under id index → items_at s.issued places ≡ kept_under s touched key
-kept-found s touched key id index places h same is =
-    found (kept_key (anchor_uri s.site) touched) s.issued index places (id_of key) h
-    (is ∙ ap (λ (i : List ℕ). places_under i index) same)
+    → positions ≡ positions_under id index → items_at s.issued positions ≡ kept_under s touched key
+kept-found s touched key id index positions h same is =
+    found (kept_key (anchor_uri s.site) touched) s.issued index positions (id_of key) h
+    (is ∙ ap (λ (i : List ℕ). positions_under i index) same)
     ∙ filter_agree (λ (row : IssuedRow). has_id (id_of key) (kept_key (anchor_uri s.site) touched row))
     (λ (row : IssuedRow). bytes_eq row.issuer.bytes (id_of key) && stays (anchor_uri s.site) touched row)
     (λ row. has-under (id_of key) row.issuer (stays (anchor_uri s.site) touched row)) s.issued
 
-pub kept-inside : (s : IssueInput) (touched : List (List ℕ)) (id : List ℕ) (index places : List Placed)
-    → IsIndex (map (kept_key (anchor_uri s.site) touched) s.issued) index → places ≡ places_under id index
-    → AreInside s.issued places
-kept-inside s touched id index places h is = inside (kept_key (anchor_uri s.site) touched) s.issued index
-    places id h is
+pub kept-inside : (s : IssueInput) (touched : List (List ℕ)) (id : List ℕ) (index positions : List KeyPosition)
+    → IsIndex (map (kept_key (anchor_uri s.site) touched) s.issued) index → positions ≡ positions_under id index
+    → AreInside s.issued positions
+kept-inside s touched id index positions h is = inside (kept_key (anchor_uri s.site) touched) s.issued index
+    positions id h is
 
 map-twice : {A B C : Type 0} (g : B → C) (f : A → B) (xs : List A) → map g (map f xs) ≡ map (λ x. g (f x)) xs
 map-twice g f [] = refl
@@ -76,7 +76,7 @@ map-twice {A} {B} {C} g f (x ∷ xs) = ap (λ (l : List C). g (f x) ∷ l) (map-
 abbrev key_in : List ℕ → Made → Option KeyId
 key_in anchor m = made_key anchor m.0
 
-zip-index : (anchor : List ℕ) (drafts : List Draft) (hashes : List (List ℕ)) (index : List Placed)
+zip-index : (anchor : List ℕ) (drafts : List Draft) (hashes : List (List ℕ)) (index : List KeyPosition)
     → length hashes ≡ length drafts → IsIndex (map (made_key anchor) drafts) index
     → IsIndex (map (key_in anchor) (zip drafts hashes)) index
 zip-index anchor drafts hashes index long h =
@@ -91,24 +91,24 @@ made-test id key true = has-under id key false
 made-test id key false = has-under id key true
 
 pub made-found : (s : IssueInput) (drafts : List Draft) (hashes : List (List ℕ)) (key : KeyRow) (id : List ℕ)
-    (index places : List Placed)
+    (index positions : List KeyPosition)
     → length hashes ≡ length drafts → IsIndex (map (made_key (anchor_uri s.site)) drafts) index → id ≡ id_of key
-    → places ≡ places_under id index → items_at (zip drafts hashes) places ≡ made_under s key (zip drafts hashes)
-made-found s drafts hashes key id index places long h same is =
-    found (key_in (anchor_uri s.site)) (zip drafts hashes) index places (id_of key)
+    → positions ≡ positions_under id index → items_at (zip drafts hashes) positions ≡ made_under s key (zip drafts hashes)
+made-found s drafts hashes key id index positions long h same is =
+    found (key_in (anchor_uri s.site)) (zip drafts hashes) index positions (id_of key)
     (zip-index (anchor_uri s.site) drafts hashes index long h)
-    (is ∙ ap (λ (i : List ℕ). places_under i index) same)
+    (is ∙ ap (λ (i : List ℕ). positions_under i index) same)
     ∙ filter_agree (λ (m : Made). has_id (id_of key) (key_in (anchor_uri s.site) m))
     (λ (m : Made). is_made_under s key m.0)
     (λ m. made-test (id_of key) (record { bytes = id_of m.0.issuer }) (bytes_eq m.0.uri (anchor_uri s.site)))
     (zip drafts hashes)
 
 pub made-inside : (s : IssueInput) (drafts : List Draft) (hashes : List (List ℕ)) (id : List ℕ)
-    (index places : List Placed)
+    (index positions : List KeyPosition)
     → length hashes ≡ length drafts → IsIndex (map (made_key (anchor_uri s.site)) drafts) index
-    → places ≡ places_under id index → AreInside (zip drafts hashes) places
-made-inside s drafts hashes id index places long h is =
-    inside (key_in (anchor_uri s.site)) (zip drafts hashes) index places id
+    → positions ≡ positions_under id index → AreInside (zip drafts hashes) positions
+made-inside s drafts hashes id index positions long h is =
+    inside (key_in (anchor_uri s.site)) (zip drafts hashes) index positions id
     (zip-index (anchor_uri s.site) drafts hashes index long h) is
 
 -- ---- what is kept, by what is touched
@@ -440,12 +440,12 @@ key-more {M} s touched made key_at manifests i d key lists after list lt is was 
 -- ---- where the code finds them
 
 pub ready-here : (s : IssueInput) (drafts manifests : List Draft) (hashes : List (List ℕ))
-    (touched : List (List ℕ)) (key : KeyRow) (folder id : List ℕ) (kept made stay come : List Placed)
+    (touched : List (List ℕ)) (key : KeyRow) (folder id : List ℕ) (kept made stay come : List KeyPosition)
     → length hashes ≡ length drafts → Rise row_uri s.issued → Rise (λ (d : Draft). d.uri) drafts
     → AreTouched s (drafts ++ manifests) touched → AreListable s (drafts ++ manifests) drafts key
     → IsIndex (map (kept_key (anchor_uri s.site) touched) s.issued) kept
-    → IsIndex (map (made_key (anchor_uri s.site)) drafts) made → id ≡ id_of key → stay ≡ places_under id kept
-    → come ≡ places_under id made → folder ≡ folder_at s key
+    → IsIndex (map (made_key (anchor_uri s.site)) drafts) made → id ≡ id_of key → stay ≡ positions_under id kept
+    → come ≡ positions_under id made → folder ≡ folder_at s key
     → Ready folder (items_at s.issued stay) (items_at (zip drafts hashes) come)
 ready-here s drafts manifests hashes touched key folder id kept made stay come long standing rising are
     listable k m same is_stay is_come is_folder =
@@ -456,10 +456,10 @@ ready-here s drafts manifests hashes touched key folder id kept made stay come l
     (ready s drafts manifests hashes touched key standing rising are listable)
 
 pub of-here : (s : IssueInput) (drafts : List Draft) (hashes : List (List ℕ)) (touched : List (List ℕ))
-    (key : KeyRow) (folder id : List ℕ) (kept made stay come : List Placed) (list other : List ListedFile)
+    (key : KeyRow) (folder id : List ℕ) (kept made stay come : List KeyPosition) (list other : List ListedFile)
     → length hashes ≡ length drafts → IsIndex (map (kept_key (anchor_uri s.site) touched) s.issued) kept
-    → IsIndex (map (made_key (anchor_uri s.site)) drafts) made → id ≡ id_of key → stay ≡ places_under id kept
-    → come ≡ places_under id made → folder ≡ folder_at s key
+    → IsIndex (map (made_key (anchor_uri s.site)) drafts) made → id ≡ id_of key → stay ≡ positions_under id kept
+    → come ≡ positions_under id made → folder ≡ folder_at s key
     → Ready folder (items_at s.issued stay) (items_at (zip drafts hashes) come)
     → AreMerged (map (kept_file folder) (items_at s.issued stay))
     (map (made_file folder) (items_at (zip drafts hashes) come)) (map file_view list)

@@ -1,4 +1,4 @@
--- The keys that the work names, at their places.
+-- The keys that the work names, at their positions.
 use Rattle.std.proofs.Common.{◌≡◌, ℕ, ◌+◌, ◌<◌, ◌≤◌, ◌==◌, suc, Bool, Option, None, Some, List, [], ◌∷◌, ◌++◌}
 use Rattle.std.proofs.Common.{length, get_or, take, drop, map, find, refl, sym, ap, subst, ◌∙◌, arith}
 use Rattle.std.specs.List.{slice_get, position_from}
@@ -8,26 +8,26 @@ use Rattle.std.specs.Str.{bytes_eq}
 use Rattle.std.proofs.lemmas.List.{take-append-drop, length-append, length-take-le, take_more, map-append}
 use Rattle.std.proofs.lemmas.Option.{slice_get-get_or}
 use Rattle.key_ids.specs.declared.identifier.KeyId.{KeyId}
-use Rattle.issue_keys.specs.declared.entries.Placed.{Placed}
-use Rattle.issue_keys.specs.Under.{places_under}
+use Rattle.issue_keys.specs.declared.key_index.KeyPosition.{KeyPosition}
+use Rattle.issue_keys.specs.Under.{positions_under}
 use Rattle.key_roll.specs.declared.rows.KeyRow.{KeyRow}
 use Rattle.key_roll.specs.declared.work.KeyName.{KeyName}
 use Rattle.key_roll.specs.declared.work.KeyName.TheVariants.{Live, Fresh}
 use Rattle.issue_keys.specs.Keys.{id_of}
 use Rattle.issue_keys.specs.Indexes.{has_id, IsIndex}
-use Rattle.issue_keys.specs.laws.FirstPlaces.{first_of, first-is, position-map, At, at-found, at-index}
-use Rattle.issue_drafts.specs.Finding.{Keys, all_keys, key_named, key_of, keys_at, Finds, IsPlace, fresh_place}
-use Rattle.issue_drafts.specs.declared.finder.KeyFinder.{KeyFinder}
+use Rattle.issue_keys.specs.laws.FirstPositions.{first_of, first-is, position-map, At, at-found, at-index}
+use Rattle.issue_drafts.specs.WorkKeys.{Keys, all_keys, key_named, key_of, keys_at, Finds, IsPosition, fresh_position}
+use Rattle.issue_drafts.specs.declared.key_finder.KeyFinder.{KeyFinder}
 
 abbrev with_bytes : List ℕ → KeyId
 with_bytes b = record { bytes = b }
 
--- ---- places
+-- ---- positions
 
-pub live-place : (keys : Keys) (finder : KeyFinder) (id : KeyId) (o : Option ℕ)
-    → Finds keys finder → o ≡ first_of (places_under id.bytes finder.live)
-    → IsPlace keys (Live id) o
-live-place keys finder id o h is =
+pub live-position : (keys : Keys) (finder : KeyFinder) (id : KeyId) (o : Option ℕ)
+    → Finds keys finder → o ≡ first_of (positions_under id.bytes finder.live)
+    → IsPosition keys (Live id) o
+live-position keys finder id o h is =
     let p : KeyRow → Bool = λ row. bytes_eq (id_of row) id.bytes in
     let rows = all_keys keys in
     let f : KeyRow → Option KeyId = λ row. Some (key_of row) in
@@ -37,7 +37,7 @@ live-place keys finder id o h is =
   where
     by : (o : Option ℕ)
         → At (λ (row : KeyRow). bytes_eq (id_of row) id.bytes) (all_keys keys) o
-        → IsPlace keys (Live id) o
+        → IsPosition keys (Live id) o
     by None at = at
     by (Some k) at = at
 
@@ -49,8 +49,8 @@ behind (x ∷ xs) ys k =
 
 pub fresh-is : (keys : Keys) (finder : KeyFinder) (desk : ℕ) (o : Option ℕ)
     → Finds keys finder
-    → (IsNonDecreasing finder.desks.items → o ≡ fresh_place finder.desks.items finder.first_fresh desk)
-    → IsPlace keys (Fresh desk) o
+    → (IsNonDecreasing finder.desks.items → o ≡ fresh_position finder.desks.items finder.first_fresh desk)
+    → IsPosition keys (Fresh desk) o
 fresh-is keys finder desk o h is =
     let rises : IsNonDecreasing finder.desks.items = subst IsNonDecreasing (sym h.desks) h.rising in
     let f : KeyRow → ℕ = λ row. row.desk in
@@ -58,14 +58,14 @@ fresh-is keys finder desk o h is =
     let q = position_from p 0 keys.fresh in
     let e : o ≡ option_map (λ (at : ℕ). length keys.kept + at) q =
     is rises
-    ∙ (ap (λ (l : List ℕ). fresh_place l finder.first_fresh desk) h.desks
-    ∙ (ap (λ (n : ℕ). fresh_place (map f keys.fresh) n desk) h.first
+    ∙ (ap (λ (l : List ℕ). fresh_position l finder.first_fresh desk) h.desks
+    ∙ (ap (λ (n : ℕ). fresh_position (map f keys.fresh) n desk) h.first
     ∙ ap (option_map (λ (at : ℕ). length keys.kept + at)) (position-map (λ (d : ℕ). d == desk) f 0 keys.fresh))) in
-    subst (IsPlace keys (Fresh desk)) (sym e) (by q (at-found p keys.fresh q refl))
+    subst (IsPosition keys (Fresh desk)) (sym e) (by q (at-found p keys.fresh q refl))
   where
     by : (q : Option ℕ)
         → At (λ (row : KeyRow). row.desk == desk) keys.fresh q
-        → IsPlace keys (Fresh desk) (option_map (λ (at : ℕ). length keys.kept + at) q)
+        → IsPosition keys (Fresh desk) (option_map (λ (at : ℕ). length keys.kept + at) q)
     by None at = at
     by (Some k) at =
         let long = length-append keys.kept keys.fresh in
@@ -85,20 +85,20 @@ finds-them rows n finder inside rising live desks first = record {
   first = first ∙ sym (length-take-le n rows inside);
 }
 
--- The row at the place.
-pub named : (rows : List KeyRow) (n : ℕ) (name : KeyName) (place : ℕ)
-    → IsPlace (keys_at rows n) name (Some place) → place < length rows
-named rows n name place h =
-    subst (λ (l : List KeyRow). place < length l) (take-append-drop n rows) h.1
+-- The row at the position.
+pub named : (rows : List KeyRow) (n : ℕ) (name : KeyName) (position : ℕ)
+    → IsPosition (keys_at rows n) name (Some position) → position < length rows
+named rows n name position h =
+    subst (λ (l : List KeyRow). position < length l) (take-append-drop n rows) h.1
 
-pub row-named : (rows : List KeyRow) (n : ℕ) (name : KeyName) (place : ℕ) (row : KeyRow)
-    → row ≡ get_or rows place row → IsPlace (keys_at rows n) name (Some place)
+pub row-named : (rows : List KeyRow) (n : ℕ) (name : KeyName) (position : ℕ) (row : KeyRow)
+    → row ≡ get_or rows position row → IsPosition (keys_at rows n) name (Some position)
     → Some row ≡ key_named (keys_at rows n) name
-row-named rows n name place row is h =
-    let lt = named rows n name place h in
+row-named rows n name position row is h =
+    let lt = named rows n name position h in
     ap (λ (r : KeyRow). Some r) is
-    ∙ sym (h.0 ∙ (ap (λ (l : List KeyRow). slice_get l place) (take-append-drop n rows)
-    ∙ slice_get-get_or rows place row lt))
+    ∙ sym (h.0 ∙ (ap (λ (l : List KeyRow). slice_get l position) (take-append-drop n rows)
+    ∙ slice_get-get_or rows position row lt))
 
 pub id-is : (id : KeyId) (row : KeyRow) → id.bytes ≡ id_of row → id ≡ key_of row
 id-is id row e = ap (λ (b : List ℕ). with_bytes b) e
@@ -115,18 +115,18 @@ map-more {A} {B} f xs i d y before after lt was now is =
 
 -- ---- what an index finds for a key
 
-pub at-key : {A : Type 0} (f : A → Option KeyId) (xs : List A) (index : List Placed)
+pub at-key : {A : Type 0} (f : A → Option KeyId) (xs : List A) (index : List KeyPosition)
     (row : KeyRow) (id : KeyId) (o : Option ℕ)
-    → IsIndex (map f xs) index → id.bytes ≡ id_of row → o ≡ first_of (places_under id.bytes index)
+    → IsIndex (map f xs) index → id.bytes ≡ id_of row → o ≡ first_of (positions_under id.bytes index)
     → At (λ (x : A). has_id (id_of row) (f x)) xs o
 at-key {A} f xs index row id o h same is =
-    at-index f xs index (id_of row) o h (is ∙ ap (λ (b : List ℕ). first_of (places_under b index)) same)
+    at-index f xs index (id_of row) o h (is ∙ ap (λ (b : List ℕ). first_of (positions_under b index)) same)
 
-pub found-at : {A : Type 0} (f : A → Option KeyId) (xs : List A) (index : List Placed)
-    (row : KeyRow) (id : KeyId) (place : ℕ) (d : A)
+pub found-at : {A : Type 0} (f : A → Option KeyId) (xs : List A) (index : List KeyPosition)
+    (row : KeyRow) (id : KeyId) (position : ℕ) (d : A)
     → IsIndex (map f xs) index → id.bytes ≡ id_of row
-    → Some place ≡ first_of (places_under id.bytes index)
-    → find (λ (x : A). has_id (id_of row) (f x)) xs ≡ Some (get_or xs place d)
-found-at f xs index row id place d h same is =
-    let at = at-key f xs index row id (Some place) h same is in
-    at.0 ∙ slice_get-get_or xs place d at.1
+    → Some position ≡ first_of (positions_under id.bytes index)
+    → find (λ (x : A). has_id (id_of row) (f x)) xs ≡ Some (get_or xs position d)
+found-at f xs index row id position d h same is =
+    let at = at-key f xs index row id (Some position) h same is in
+    at.0 ∙ slice_get-get_or xs position d at.1

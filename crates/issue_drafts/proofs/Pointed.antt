@@ -14,12 +14,13 @@ use Rattle.key_roll.specs.declared.rows.KeyRow.{KeyRow}
 use Rattle.key_roll.specs.declared.work.PointWork.{PointWork}
 use Rattle.issue_keys.specs.Keys.{id_of}
 use Rattle.issue_keys.specs.Indexes.{has_id}
-use Rattle.issue_drafts.specs.Finding.{Keys, key_of, key_named}
-use Rattle.issue_drafts.specs.Certificates.{IssueInput, is_key, names_key, name_at}
+use Rattle.issue_drafts.specs.WorkKeys.{Keys, key_of, key_named}
+use Rattle.issue_drafts.specs.IssueInput.{IssueInput}
+use Rattle.issue_drafts.specs.Publishers.{is_key, names_key, name_at}
 use Rattle.issue_drafts.specs.Drafts.{Draft, manifests, manifest_draft}
 use Rattle.issue_drafts.specs.Drafts.Kind.{Manifest}
 use Rattle.issue_drafts.specs.declared.draft.ManifestDraft.{ManifestDraft}
-use Rattle.issue_drafts.specs.Views.{manifest_of, IsPlaced}
+use Rattle.issue_drafts.specs.Views.{manifest_of, IsPositioned}
 use Rattle.issue_drafts.specs.Revoking.{has_point}
 use Rattle.issue_drafts.proofs.Found.{inside-get}
 use Rattle.issue_drafts.proofs.Uris.{any-map}
@@ -64,7 +65,7 @@ other-at r k (x ∷ xs) zero o e same =
     o.0 (same ∙ sym (ap id_of is))
 other-at r k (x ∷ xs) (suc p) o e same = other-at r k xs p o.1 e same
 
--- ---- one place is marked
+-- ---- one position is marked
 
 or-false : (b c : Bool) → c ≡ false → b ≡ (b || c)
 or-false true c e = refl
@@ -98,14 +99,14 @@ map-same {A} {B} f g same (x ∷ xs) =
     ap (λ (y : B). y ∷ map f xs) (same x) ∙ ap (λ (l : List B). g x ∷ l) (map-same f g same xs)
 
 pub marked : (rows : List KeyRow) (listed : List ManifestDraft) (i : ℕ) (m d : ManifestDraft) (before : List Bool)
-    → AllPairs (λ a b. id_of a ≢ id_of b) rows → IsPlaced rows m.issuer → i < length listed
+    → AllPairs (λ a b. id_of a ≢ id_of b) rows → IsPositioned rows m.issuer → i < length listed
     → m ≡ get_or listed i d → before ≡ map (has_manifest (take i listed)) rows
-    → slice_set before m.issuer.place true ≡ map (has_manifest (take (i + 1) listed)) rows
-marked rows listed i m d before apart placed lt is was =
+    → slice_set before m.issuer.position true ≡ map (has_manifest (take (i + 1) listed)) rows
+marked rows listed i m d before apart positioned lt is was =
     let k : KeyRow = m.issuer.row.now in
     let p : KeyRow → ManifestDraft → Bool = λ r x. is_key x.issuer.row.now r in
-    ap (λ (l : List Bool). slice_set l m.issuer.place true) was
-    ∙ (mark-map (has_manifest (take i listed)) k rows m.issuer.place (ids-from rows apart) placed
+    ap (λ (l : List Bool). slice_set l m.issuer.position true) was
+    ∙ (mark-map (has_manifest (take i listed)) k rows m.issuer.position (ids-from rows apart) positioned
     ∙ map-same (λ (r : KeyRow). has_manifest (take i listed) r || is_key k r) (has_manifest (take (i + 1) listed))
     (λ r. ap (λ (x : ManifestDraft). has_manifest (take i listed) r || p r x) is ∙ sym
     (list_any_more (p r) listed i d lt)) rows)
@@ -143,10 +144,10 @@ points-are rows listed points is s keys moved =
     ∙ (sym (list_any-IsPermutation p (manifests s keys) (map manifest_of listed) moved) ∙ any-named s keys row
     s.work.points)) rows
 
-pub place-inside : (rows : List KeyRow) (listed : List ManifestDraft) (i : ℕ) (m d : ManifestDraft)
-    → All (λ (x : ManifestDraft). IsPlaced rows x.issuer) listed → i < length listed → m ≡ get_or listed i d
-    → IsPlaced rows m.issuer × (m.issuer.place < length rows)
-place-inside rows listed i m d placed lt is =
-    let here : IsPlaced rows m.issuer = subst (λ (x : ManifestDraft). IsPlaced rows x.issuer) (sym is)
-    (placed i d lt) in
-    (here, inside-get rows m.issuer.place m.issuer.row.now here)
+pub position-inside : (rows : List KeyRow) (listed : List ManifestDraft) (i : ℕ) (m d : ManifestDraft)
+    → All (λ (x : ManifestDraft). IsPositioned rows x.issuer) listed → i < length listed → m ≡ get_or listed i d
+    → IsPositioned rows m.issuer × (m.issuer.position < length rows)
+position-inside rows listed i m d positioned lt is =
+    let here : IsPositioned rows m.issuer = subst (λ (x : ManifestDraft). IsPositioned rows x.issuer) (sym is)
+    (positioned i d lt) in
+    (here, inside-get rows m.issuer.position m.issuer.row.now here)

@@ -8,7 +8,7 @@ use Rattle.std.specs.Option.{option_map}
 use Rattle.std.proofs.lemmas.Bool.{ltb-true, ltb-false, cases_lt}
 use Rattle.std.proofs.lemmas.Bool.Decides.{nat_tests}
 use Rattle.std.proofs.lemmas.List.{get_or_read}
-use Rattle.issue_drafts.specs.Finding.{fresh_place}
+use Rattle.issue_drafts.specs.WorkKeys.{fresh_position}
 
 pub below-test : (desks : List ℕ) (desk n : ℕ)
     → IsPartitionPoint (λ d. nat_lt d desk ≡ true) (λ d. nat_lt d desk ≡ false) desks n
@@ -52,19 +52,19 @@ not-there desk n (x ∷ xs) none =
 -- The number stands there, and those before it are below it.
 pub fresh-there : (desks : List ℕ) (first desk at : ℕ)
     → at < length desks → AllWithin (λ d. d < desk) desks 0 at → get_or desks at 0 ≡ desk
-    → Some (first + at) ≡ fresh_place desks first desk
+    → Some (first + at) ≡ fresh_position desks first desk
 fresh-there desks first desk at lt below is =
     let e : 0 + at ≡ at = omega arith in
     sym (ap (option_map (λ (k : ℕ). first + k))
     (first-at desk 0 desks at lt (λ k less. below k 0 (omega arith) less) is)
     ∙ ap (λ (k : ℕ). Some (first + k)) e)
 
--- Those before that place are below the number, and those from it on above it.
+-- Those before that position are below the number, and those from it on above it.
 pub fresh-none : (desks : List ℕ) (first desk at : ℕ)
     → IsNonDecreasing desks → AllWithin (λ d. d < desk) desks 0 at
     → AllWithin (λ d. desk ≤ d) desks at (length desks)
     → (at < length desks → get_or desks at 0 ≢ desk)
-    → None ≡ fresh_place desks first desk
+    → None ≡ fresh_position desks first desk
 fresh-none desks first desk at rising below above other =
     sym (ap (option_map (λ (k : ℕ). first + k)) (not-there desk 0 desks (λ k lt. apart k lt (cases_lt k at))))
   where
@@ -81,25 +81,25 @@ fresh-none desks first desk at rising below above other =
 
 -- ---- the same of lists that are equal to these
 
-pub place-there : (desks one two : List ℕ) (first desk at found : ℕ)
+pub position-there : (desks one two : List ℕ) (first desk at found : ℕ)
     → one ≡ desks → two ≡ desks
     → at < length two → found ≡ get_or two at found → found ≡ desk
     → (IsNonDecreasing one → AllWithin (λ d. d < desk) one 0 at) → IsNonDecreasing desks
-    → Some (first + at) ≡ fresh_place desks first desk
-place-there desks one two first desk at found e f inside is same below rising =
+    → Some (first + at) ≡ fresh_position desks first desk
+position-there desks one two first desk at found e f inside is same below rising =
     let low : AllWithin (λ d. d < desk) desks 0 at =
     subst (λ (l : List ℕ). IsNonDecreasing l → AllWithin (λ d. d < desk) l 0 at) e below rising in
     let lt : at < length desks = subst (λ (l : List ℕ). at < length l) f inside in
     let here : found ≡ get_or desks at found = subst (λ (l : List ℕ). found ≡ get_or l at found) f is in
     fresh-there desks first desk at lt low (sym (get_or_read desks at found lt here 0) ∙ same)
 
-pub place-none : (desks one : List ℕ) (first desk at : ℕ)
+pub position-none : (desks one : List ℕ) (first desk at : ℕ)
     → one ≡ desks
     → (IsNonDecreasing one → AllWithin (λ d. d < desk) one 0 at)
     → (IsNonDecreasing one → AllWithin (λ d. desk ≤ d) one at (length one)) → IsNonDecreasing desks
     → (at < length desks → get_or desks at 0 ≢ desk)
-    → None ≡ fresh_place desks first desk
-place-none desks one first desk at e below above rising other =
+    → None ≡ fresh_position desks first desk
+position-none desks one first desk at e below above rising other =
     fresh-none desks first desk at rising
     (subst (λ (l : List ℕ). IsNonDecreasing l → AllWithin (λ d. d < desk) l 0 at) e below rising)
     (subst (λ (l : List ℕ). IsNonDecreasing l → AllWithin (λ d. desk ≤ d) l at (length l)) e above rising)

@@ -13,8 +13,9 @@ use Rattle.key_roll.specs.declared.work.KeyName.TheVariants.{Live, Fresh}
 use Rattle.issue_values.specs.Publishers.{Publishing, publishing}
 use Rattle.issue_values.specs.declared.publishers.Publisher.{Publisher}
 use Rattle.issue_keys.specs.Keys.{id_of}
-use Rattle.issue_drafts.specs.Finding.{Keys, key_named, keys_at}
-use Rattle.issue_drafts.specs.Certificates.{IssueInput, name_at, names_key, issuer_for, certificate_of, publishing_of}
+use Rattle.issue_drafts.specs.WorkKeys.{Keys, key_named, keys_at}
+use Rattle.issue_drafts.specs.IssueInput.{IssueInput}
+use Rattle.issue_drafts.specs.Publishers.{name_at, names_key, issuer_for, certificate_of, publishing_of}
 
 -- ---- what holds of each key holds of one that is found
 

@@ -13,8 +13,9 @@ use Rattle.key_roll.specs.declared.work.PointWork.{PointWork}
 use Rattle.pub_set.specs.Objects.{Rise, uri_cmp}
 use Rattle.issue_values.specs.Publishers.{roa_uri}
 use Rattle.issue_keys.specs.Keys.{id_of}
-use Rattle.issue_drafts.specs.Finding.{Keys, key_named}
-use Rattle.issue_drafts.specs.Certificates.{IssueInput, is_key, name_at, made_uri}
+use Rattle.issue_drafts.specs.WorkKeys.{Keys, key_named}
+use Rattle.issue_drafts.specs.IssueInput.{IssueInput}
+use Rattle.issue_drafts.specs.Publishers.{is_key, name_at, made_uri}
 
 -- What an object is.
 pub data Kind : Type 0 where

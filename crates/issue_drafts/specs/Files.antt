@@ -9,7 +9,8 @@ use Rattle.key_roll.specs.declared.issued.IssuedRow.{IssuedRow}
 use Rattle.payloads.specs.Order.{rises}
 use Rattle.payloads.specs.ManifestFormats.{is_name, is_name_below}
 use Rattle.issue_keys.specs.Keys.{id_of}
-use Rattle.issue_drafts.specs.Certificates.{IssueInput, is_key, name_at}
+use Rattle.issue_drafts.specs.IssueInput.{IssueInput}
+use Rattle.issue_drafts.specs.Publishers.{is_key, name_at}
 use Rattle.issue_drafts.specs.Drafts.{Draft}
 use Rattle.issue_drafts.specs.Revoking.{is_touched}
 

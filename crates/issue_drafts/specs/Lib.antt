@@ -1,13 +1,14 @@
-pub mod Certificates
-pub mod Drafting
+pub mod DraftInput
 pub mod Drafts
 pub mod Files
-pub mod Finding
 pub mod Firsts
+pub mod IssueInput
+pub mod Publishers
 pub mod Revoking
 pub mod Serials
 pub mod Tables
 pub mod Touching
 pub mod Views
+pub mod WorkKeys
 pub mod inner
 pub mod laws

@@ -21,17 +21,17 @@ draft_of d = record { uri = d.uri; issuer = d.issuer.row.now; kind = kind_of d.k
 abbrev pub manifest_of : manifests.ManifestDraft → Draft
 manifest_of d = record { uri = d.uri; issuer = d.issuer.row.now; kind = Manifest }
 
--- The key stands at that place.
-abbrev pub IsPlaced : List KeyRow → KeyAt → Type 0
-IsPlaced rows k = slice_get rows k.place ≡ Some k.row.now
+-- The key stands at that position.
+abbrev pub IsPositioned : List KeyRow → KeyAt → Type 0
+IsPositioned rows k = slice_get rows k.position ≡ Some k.row.now
 
--- The subject of a certificate stands at its place.
-abbrev pub IsSubjectPlaced : List KeyRow → kinds.DraftKind → Type 0
-IsSubjectPlaced rows (variants.Authority subject held) = IsPlaced rows subject
-IsSubjectPlaced rows (variants.Route origin) = Unit {0}
-IsSubjectPlaced rows variants.Crl = Unit {0}
+-- The subject of a certificate stands at its position.
+abbrev pub IsSubjectPositioned : List KeyRow → kinds.DraftKind → Type 0
+IsSubjectPositioned rows (variants.Authority subject held) = IsPositioned rows subject
+IsSubjectPositioned rows (variants.Route origin) = Unit {0}
+IsSubjectPositioned rows variants.Crl = Unit {0}
 
--- Each key of a draft stands at its place.
-pub record IsDraftPlaced (rows : List KeyRow) (d : code.Draft) : Type 0 where
-  pub issuer : IsPlaced rows d.issuer
-  pub subject : IsSubjectPlaced rows d.kind
+-- Each key of a draft stands at its position.
+pub record IsDraftPositioned (rows : List KeyRow) (d : code.Draft) : Type 0 where
+  pub issuer : IsPositioned rows d.issuer
+  pub subject : IsSubjectPositioned rows d.kind

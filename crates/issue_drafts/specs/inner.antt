@@ -1,4 +1,4 @@
 -- Scaffolding: words that only private contracts, invariants and proofs need.
 pub mod Entries
 pub mod Holdings
-pub mod Places
+pub mod Positions

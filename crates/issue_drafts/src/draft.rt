@@ -5,11 +5,11 @@ use origins::Origin;
 use pub_set::Uri;
 use res_sets::Resources;
 
-/// A key of the edition, and its place among the edition's keys.
+/// A key of the edition, and its position among the edition's keys.
 #[derive(Clone, Copy)]
 pub struct KeyAt<'a> {
     /// An index from 0.
-    pub place: usize,
+    pub position: usize,
     pub row: &'a KeyRow,
 }
 

@@ -46,7 +46,7 @@ fn kept_keys(
         .collect(alloc)
 }
 
-/// The places of the objects that stay, under the keys that issued them.
+/// The positions of the objects that stay, under the keys that issued them.
 pub fn kept_index(
     alloc: Global,
     issued: &[IssuedRow],
@@ -87,7 +87,7 @@ fn made_keys(
     Ok(keys)
 }
 
-/// The places of the objects that are made, under the keys that issue them.
+/// The positions of the objects that are made, under the keys that issue them.
 pub fn made_index(alloc: Global, drafts: &[Draft<'_>], site: &Site) -> Result<KeyIndex, AllocError>
     ensures { IfOk result (IsIndex (map (made_key (anchor_uri site.now)) (map draft_of drafts.now))) }
 {

@@ -3,28 +3,28 @@
 //! publication point lists (RFC 9286 section 4.2.1).
 #![tactic(auto)]
 
-mod certificates;
 mod draft;
-mod drafted;
-mod drafting;
-mod finder;
-mod finding;
+mod draft_input;
 mod first_entries;
 mod holdings;
-mod input;
+mod issue_parts;
+mod key_finder;
+mod key_lookup;
+mod key_publishers;
 mod listing;
 mod ordered;
 mod point_keys;
 mod revoking;
 mod serials;
 mod touching;
+mod work_drafts;
 
-pub use certificates::{made_uri, name_of, publishers};
 pub use draft::{Draft, DraftKind, KeyAt, ManifestDraft};
-pub use drafting::Drafting;
-pub use finder::KeyFinder;
+pub use draft_input::DraftInput;
 pub use first_entries::first_of_each;
-pub use input::IssueInput;
+pub use issue_parts::IssueParts;
+pub use key_finder::KeyFinder;
+pub use key_publishers::{made_uri, name_of, publishers};
 pub use listing::files;
 pub use ordered::{drafts, manifest_drafts};
 pub use point_keys::points;

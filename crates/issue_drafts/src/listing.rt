@@ -8,20 +8,20 @@ ghost use Rattle.pub_set.specs.Objects.{Rise};
 ghost use Rattle.payloads.specs.Order.{rises};
 ghost use Rattle.payloads.specs.ManifestFormats.{IsFile, is_name_below, file_view};
 ghost use Rattle.issue_values.specs.Bodies.{AreListed};
-ghost use Rattle.issue_drafts.specs.Certificates.{input_of};
+ghost use Rattle.issue_drafts.specs.IssueInput.{input_of};
 ghost use Rattle.issue_drafts.specs.Drafts.{Draft as Put};
 ghost use Rattle.issue_drafts.specs.Views.{draft_of, manifest_of};
 ghost use Rattle.issue_drafts.specs.Touching.{AreTouched};
 ghost use Rattle.issue_drafts.specs.Tables.{IsTable};
-ghost use Rattle.issue_drafts.specs.inner.Places.{items_at, AreInside};
+ghost use Rattle.issue_drafts.specs.inner.Positions.{items_at, AreInside};
 ghost use Rattle.issue_drafts.specs.Files.{name_in, names_of, folder_at, kept_file, made_file, kept_files, made_files, AreMerged, IsListable, AreListable};
 
-use crate::certificates::name_of;
 use crate::draft::{Draft, ManifestDraft};
 use crate::holdings::{kept_index, made_index};
-use crate::input::IssueInput;
+use crate::issue_parts::IssueParts;
+use crate::key_publishers::name_of;
 use crate::touching::Touched;
-use issue_keys::Placed;
+use issue_keys::KeyPosition;
 use items::Items;
 use key_ids::KeyId;
 use key_roll::{IssuedRow, KeyRow};
@@ -62,27 +62,27 @@ fn push_kept(
     files: &mut Vec<ListedFile>,
     folder: &str,
     issued: &[IssuedRow],
-    places: &[Placed],
+    positions: &[KeyPosition],
 ) -> Result<(), AllocError>
-    requires inside { AreInside issued.now places.now }
-    requires listable { All (λ row. IsListable folder.now row.uri) (items_at issued.now places.now) }
+    requires inside { AreInside issued.now positions.now }
+    requires listable { All (λ row. IsListable folder.now row.uri) (items_at issued.now positions.now) }
     ensures files { OnOk result (map file_view files.new.items ≡ map file_view files.old.items
-        ++ map (kept_file folder.now) (items_at issued.now places.now)) }
-    ensures are { OnOk result (AreAll IsFile (map (kept_file folder.now) (items_at issued.now places.now))) }
+        ++ map (kept_file folder.now) (items_at issued.now positions.now)) }
+    ensures are { OnOk result (AreAll IsFile (map (kept_file folder.now) (items_at issued.now positions.now))) }
 {
-    for entry in places {
-        let row = &issued[entry.place];
+    for entry in positions {
+        let row = &issued[entry.position];
         push_file(alloc, files, folder, row.uri.as_str(), &row.hash)?;
     }
     Ok(())
 }
 
-/// The hash at a place.
-fn hash_at(hashes: &[[u8; 32]], place: usize) -> &[u8; 32]
-    requires { place < length hashes.now }
-    ensures { slice_get hashes.now place ≡ Some result.now }
+/// The hash at a position.
+fn hash_at(hashes: &[[u8; 32]], position: usize) -> &[u8; 32]
+    requires { position < length hashes.now }
+    ensures { slice_get hashes.now position ≡ Some result.now }
 {
-    &hashes[place]
+    &hashes[position]
 }
 
 /// Appends files that are made.
@@ -92,20 +92,20 @@ fn push_made(
     folder: &str,
     drafts: &[Draft<'_>],
     hashes: &[[u8; 32]],
-    places: &[Placed],
+    positions: &[KeyPosition],
 ) -> Result<(), AllocError>
     requires each { length hashes.now ≡ length drafts.now }
-    requires inside { AreInside (zip (map draft_of drafts.now) hashes.now) places.now }
+    requires inside { AreInside (zip (map draft_of drafts.now) hashes.now) positions.now }
     requires listable { All (λ m. IsListable folder.now m.0.uri)
-        (items_at (zip (map draft_of drafts.now) hashes.now) places.now) }
+        (items_at (zip (map draft_of drafts.now) hashes.now) positions.now) }
     ensures files { OnOk result (map file_view files.new.items ≡ map file_view files.old.items
-        ++ map (made_file folder.now) (items_at (zip (map draft_of drafts.now) hashes.now) places.now)) }
+        ++ map (made_file folder.now) (items_at (zip (map draft_of drafts.now) hashes.now) positions.now)) }
     ensures are { OnOk result (AreAll IsFile (map (made_file folder.now)
-        (items_at (zip (map draft_of drafts.now) hashes.now) places.now))) }
+        (items_at (zip (map draft_of drafts.now) hashes.now) positions.now))) }
 {
-    for entry in places {
-        let draft = &drafts[entry.place];
-        let hash = hash_at(hashes, entry.place);
+    for entry in positions {
+        let draft = &drafts[entry.position];
+        let hash = hash_at(hashes, entry.position);
         push_file(alloc, files, folder, draft.uri.as_str(), hash)?;
     }
     Ok(())
@@ -127,10 +127,10 @@ fn merged(
     alloc: Global,
     folder: &str,
     issued: &[IssuedRow],
-    kept: &[Placed],
+    kept: &[KeyPosition],
     drafts: &[Draft<'_>],
     hashes: &[[u8; 32]],
-    made: &[Placed],
+    made: &[KeyPosition],
 ) -> Result<Vec<ListedFile>, AllocError>
     requires each { length hashes.now ≡ length drafts.now }
     requires kept_inside { AreInside issued.now kept.now }
@@ -152,7 +152,7 @@ fn merged(
 }
 
 /// The folder of a key's authority.
-fn folder_of(alloc: Global, at: &IssueInput<'_>, key: &KeyRow) -> Result<String, AllocError>
+fn folder_of(alloc: Global, at: &IssueParts<'_>, key: &KeyRow) -> Result<String, AllocError>
     requires { key.now.desk < length at.now.names.now }
     ensures { IfOk result (λ folder. string_bytes folder ≡ folder_at (input_of at.now) key.now) }
 {
@@ -164,7 +164,7 @@ fn folder_of(alloc: Global, at: &IssueInput<'_>, key: &KeyRow) -> Result<String,
 /// made, by rising name. The hashes are those of the objects that are made, in the order of their drafts.
 pub fn files(
     alloc: Global,
-    at: &IssueInput<'_>,
+    at: &IssueParts<'_>,
     drafts: &[Draft<'_>],
     hashes: &[[u8; 32]],
     manifests: &[ManifestDraft<'_>],
@@ -192,8 +192,8 @@ pub fn files(
         let key = manifest.issuer.row;
         let id = KeyId::of(&key.key.bytes);
         let folder = folder_of(alloc, at, key)?;
-        let stay = kept.places(&id);
-        let come = made.places(&id);
+        let stay = kept.positions(&id);
+        let come = made.positions(&id);
         let list = merged(
             alloc,
             folder.as_str(),

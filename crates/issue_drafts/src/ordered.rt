@@ -5,12 +5,12 @@ ghost use Rattle.std.specs.Prelude.{◌≡◌, ◌≢◌, ◌++◌, [], map, All
 ghost use Rattle.std.specs.List.{filter_map, cons_option};
 ghost use Rattle.pub_set.specs.Objects.{uri_cmp};
 ghost use Rattle.issue_drafts.specs.Drafts.{drafts, manifest_draft, manifests, AreOrdered};
-ghost use Rattle.issue_drafts.specs.Views.{draft_of, manifest_of, IsPlaced, IsSubjectPlaced, IsDraftPlaced};
-ghost use Rattle.issue_drafts.specs.Drafting.{setting_in, keys_in, CanDraft};
+ghost use Rattle.issue_drafts.specs.Views.{draft_of, manifest_of, IsPositioned, IsSubjectPositioned, IsDraftPositioned};
+ghost use Rattle.issue_drafts.specs.DraftInput.{setting_in, keys_in, CanDraft};
 
 use crate::draft::{Draft, ManifestDraft};
-use crate::drafted::{Drafted, manifest_draft};
-use crate::drafting::Drafting;
+use crate::draft_input::DraftInput;
+use crate::work_drafts::{DraftedWork, manifest_draft};
 use pub_set::Uri;
 use std::alloc::{AllocError, Global};
 use std::cmp::Ordering;
@@ -33,17 +33,17 @@ fn push_some<T: Drop>(items: &mut Vec<T>, item: Option<T>) -> Result<(), AllocEr
 }
 
 /// Appends what is drafted for the work.
-fn push_drafts<'a, W: Drafted>(
+fn push_drafts<'a, W: DraftedWork>(
     alloc: Global,
-    at: &Drafting<'a>,
+    at: &DraftInput<'a>,
     work: &'a [W],
     drafts: &mut Vec<Draft<'a>>,
 ) -> Result<(), AllocError>
     requires { CanDraft at.now }
     ensures drafts { OnOk result (map draft_of drafts.new.items
         ≡ map draft_of drafts.old.items ++ filter_map (W.drafted (setting_in at.now) (keys_in at.now)) work.now) }
-    ensures placed { OnOk result (All (IsDraftPlaced at.now.rows.now) drafts.old.items
-        → All (IsDraftPlaced at.now.rows.now) drafts.new.items) }
+    ensures positioned { OnOk result (All (IsDraftPositioned at.now.rows.now) drafts.old.items
+        → All (IsDraftPositioned at.now.rows.now) drafts.new.items) }
 {
     for one in work {
         let draft = one.draft(alloc, at)?;
@@ -53,10 +53,10 @@ fn push_drafts<'a, W: Drafted>(
 }
 
 /// The certificates, CRLs and ROAs of the work.
-fn unordered<'a>(alloc: Global, at: &Drafting<'a>) -> Result<Vec<Draft<'a>>, AllocError>
+fn unordered<'a>(alloc: Global, at: &DraftInput<'a>) -> Result<Vec<Draft<'a>>, AllocError>
     requires { CanDraft at.now }
     ensures drafts { IfOk result (λ ds. map draft_of ds.items ≡ drafts (setting_in at.now) (keys_in at.now)) }
-    ensures placed { IfOk result (λ ds. All (IsDraftPlaced at.now.rows.now) ds.items) }
+    ensures positioned { IfOk result (λ ds. All (IsDraftPositioned at.now.rows.now) ds.items) }
 {
     let work = at.input.work;
     let mut drafts = Vec::new(alloc);
@@ -67,13 +67,13 @@ fn unordered<'a>(alloc: Global, at: &Drafting<'a>) -> Result<Vec<Draft<'a>>, All
 }
 
 /// The certificates, CRLs and ROAs of the work, by rising URI.
-pub fn drafts<'a>(alloc: Global, at: &Drafting<'a>) -> Result<Vec<Draft<'a>>, AllocError>
+pub fn drafts<'a>(alloc: Global, at: &DraftInput<'a>) -> Result<Vec<Draft<'a>>, AllocError>
     requires can { CanDraft at.now }
     requires once { AllPairs (λ a b. a ≢ b) (map (λ d. d.uri) (drafts (setting_in at.now) (keys_in at.now))) }
     ensures ordered { IfOk result (λ ds.
         AreOrdered (drafts (setting_in at.now) (keys_in at.now)) (map draft_of ds.items)) }
-    ensures issuers { IfOk result (λ ds. All (λ d. IsPlaced at.now.rows.now d.issuer) ds.items) }
-    ensures subjects { IfOk result (λ ds. All (λ d. IsSubjectPlaced at.now.rows.now d.kind) ds.items) }
+    ensures issuers { IfOk result (λ ds. All (λ d. IsPositioned at.now.rows.now d.issuer) ds.items) }
+    ensures subjects { IfOk result (λ ds. All (λ d. IsSubjectPositioned at.now.rows.now d.kind) ds.items) }
 {
     let mut drafts = unordered(alloc, at)?;
     drafts.sort_by(|a, b| compare(&a.uri, &b.uri))?;
@@ -83,11 +83,11 @@ pub fn drafts<'a>(alloc: Global, at: &Drafting<'a>) -> Result<Vec<Draft<'a>>, Al
 /// The manifests of the work.
 fn unordered_manifests<'a>(
     alloc: Global,
-    at: &Drafting<'a>,
+    at: &DraftInput<'a>,
 ) -> Result<Vec<ManifestDraft<'a>>, AllocError>
     requires { CanDraft at.now }
     ensures drafts { IfOk result (λ ds. map manifest_of ds.items ≡ manifests (setting_in at.now) (keys_in at.now)) }
-    ensures placed { IfOk result (λ ds. All (λ d. IsPlaced at.now.rows.now d.issuer) ds.items) }
+    ensures positioned { IfOk result (λ ds. All (λ d. IsPositioned at.now.rows.now d.issuer) ds.items) }
 {
     let points = at.input.work.points.as_slice();
     let mut drafts = Vec::with_capacity(alloc, points.len())?;
@@ -101,13 +101,13 @@ fn unordered_manifests<'a>(
 /// The manifests of the work, by rising URI.
 pub fn manifest_drafts<'a>(
     alloc: Global,
-    at: &Drafting<'a>,
+    at: &DraftInput<'a>,
 ) -> Result<Vec<ManifestDraft<'a>>, AllocError>
     requires can { CanDraft at.now }
     requires once { AllPairs (λ a b. a ≢ b) (map (λ d. d.uri) (manifests (setting_in at.now) (keys_in at.now))) }
     ensures ordered { IfOk result (λ ds.
         AreOrdered (manifests (setting_in at.now) (keys_in at.now)) (map manifest_of ds.items)) }
-    ensures issuers { IfOk result (λ ds. All (λ d. IsPlaced at.now.rows.now d.issuer) ds.items) }
+    ensures issuers { IfOk result (λ ds. All (λ d. IsPositioned at.now.rows.now d.issuer) ds.items) }
 {
     let mut drafts = unordered_manifests(alloc, at)?;
     drafts.sort_by(|a, b| compare(&a.uri, &b.uri))?;

@@ -2,10 +2,10 @@
 
 ghost use Rattle.std.specs.Prelude.{◌≡◌, ◌≢◌, All, AllPairs, map, IsPermutation, IfOk};
 ghost use Rattle.issue_keys.specs.Keys.{id_of};
-ghost use Rattle.issue_drafts.specs.Finding.{Keys};
-ghost use Rattle.issue_drafts.specs.Certificates.{IssueInput as Edition};
+ghost use Rattle.issue_drafts.specs.WorkKeys.{Keys};
+ghost use Rattle.issue_drafts.specs.IssueInput.{IssueInput as Edition};
 ghost use Rattle.issue_drafts.specs.Drafts.{manifests as manifests_of};
-ghost use Rattle.issue_drafts.specs.Views.{manifest_of, IsPlaced};
+ghost use Rattle.issue_drafts.specs.Views.{manifest_of, IsPositioned};
 ghost use Rattle.issue_drafts.specs.Revoking.{has_point};
 
 use crate::draft::ManifestDraft;
@@ -18,7 +18,7 @@ pub fn points(
     rows: &[KeyRow],
     manifests: &[ManifestDraft<'_>],
 ) -> Result<Vec<bool>, AllocError>
-    requires placed { All (λ m. IsPlaced rows.now m.issuer) manifests.now }
+    requires positioned { All (λ m. IsPositioned rows.now m.issuer) manifests.now }
     requires apart { AllPairs (λ a b. id_of a ≢ id_of b) rows.now }
     ensures { IfOk result (λ points. (s : Edition) (keys : Keys)
         → IsPermutation (manifests_of s keys) (map manifest_of manifests.now)
@@ -26,7 +26,7 @@ pub fn points(
 {
     let mut points = vec![in alloc; false; rows.len()]?;
     for manifest in manifests {
-        points[manifest.issuer.place] = true;
+        points[manifest.issuer.position] = true;
     }
     Ok(points)
 }

@@ -2,8 +2,8 @@
 
 ghost use Rattle.std.specs.Prelude.{◌≡◌, ◌≤◌, ◌++◌, ◌∷◌, [], List, length, map, filter, All, IfOk, OnOk};
 ghost use Rattle.issue_keys.specs.Indexes.{IsIndex};
-ghost use Rattle.issue_drafts.specs.Finding.{Keys};
-ghost use Rattle.issue_drafts.specs.Certificates.{input_of};
+ghost use Rattle.issue_drafts.specs.WorkKeys.{Keys};
+ghost use Rattle.issue_drafts.specs.IssueInput.{input_of};
 ghost use Rattle.issue_drafts.specs.Drafts.{Draft as Put};
 ghost use Rattle.key_ids.specs.Uris.{anchor_uri};
 ghost use Rattle.issue_values.specs.Bodies.{AreRevoked};
@@ -11,13 +11,13 @@ ghost use Rattle.issue_drafts.specs.Firsts.{AreFirsts};
 ghost use Rattle.issue_drafts.specs.Revoking.{revoked_row, has_point, candidates};
 ghost use Rattle.issue_drafts.specs.Touching.{AreTouched};
 ghost use Rattle.issue_drafts.specs.Tables.{IsTable};
-ghost use Rattle.issue_drafts.specs.inner.Places.{items_at, AreInside};
+ghost use Rattle.issue_drafts.specs.inner.Positions.{items_at, AreInside};
 ghost use Rattle.issue_drafts.specs.inner.Entries.{ends, ended_key, cutoff_of, lasts, listed};
 
 use crate::first_entries::first_of_each;
-use crate::input::IssueInput;
+use crate::issue_parts::IssueParts;
 use crate::touching::Touched;
-use issue_keys::{KeyIndex, Placed, index_of};
+use issue_keys::{KeyIndex, KeyPosition, index_of};
 use items::Items;
 use key_ids::{KeyId, Site};
 use key_roll::{IssuedRow, KeyRow, RevokedRow};
@@ -57,7 +57,7 @@ fn ended_keys(
         .collect(alloc)
 }
 
-/// The places of the certificates that end, under the keys that issued them.
+/// The positions of the certificates that end, under the keys that issued them.
 fn superseded(
     alloc: Global,
     issued: &[IssuedRow],
@@ -111,7 +111,7 @@ fn entry_of(row: &IssuedRow, moment: u64) -> RevokedRow
 fn push_ended(
     all: &mut Vec<RevokedRow>,
     issued: &[IssuedRow],
-    ended: &[Placed],
+    ended: &[KeyPosition],
     cutoff: u64,
     moment: u64,
 ) -> Result<(), AllocError>
@@ -120,7 +120,7 @@ fn push_ended(
         ++ filter (lasts cutoff) (map (revoked_row moment) (items_at issued.now ended.now))) }
 {
     for entry in ended {
-        push_lasting(all, entry_of(&issued[entry.place], moment), cutoff)?;
+        push_lasting(all, entry_of(&issued[entry.position], moment), cutoff)?;
     }
     Ok(())
 }
@@ -141,7 +141,7 @@ fn key_entries(
     key: &KeyRow,
     has_point: bool,
     issued: &[IssuedRow],
-    ended: &[Placed],
+    ended: &[KeyPosition],
     moment: u64,
 ) -> Result<Vec<RevokedRow>, AllocError>
     requires { AreInside issued.now ended.now }
@@ -159,7 +159,7 @@ fn key_entries(
 /// as what a CRL would have had.
 pub fn entries(
     alloc: Global,
-    at: &IssueInput<'_>,
+    at: &IssueParts<'_>,
     rows: &[KeyRow],
     points: &[bool],
     touched: &Touched,
@@ -177,9 +177,9 @@ pub fn entries(
     let ended = superseded(alloc, at.issued, touched, at.site)?;
     let moment = at.work.moment;
     let mut lists = Vec::with_capacity(alloc, rows.len())?;
-    for (place, row) in rows.iter().enumerate() {
-        let places = ended.places(&KeyId::of(&row.key.bytes));
-        let entries = key_entries(alloc, row, points[place], at.issued, places, moment)?;
+    for (position, row) in rows.iter().enumerate() {
+        let positions = ended.positions(&KeyId::of(&row.key.bytes));
+        let entries = key_entries(alloc, row, points[position], at.issued, positions, moment)?;
         lists.push(Items::new(entries))?;
     }
     Ok(lists)

@@ -4,7 +4,7 @@ ghost use Rattle.std.specs.Prelude.{◌≡◌, ◌≢◌, ◌+◌, ◌<◌, ◌^
 ghost use Rattle.pub_set.specs.Objects.{Rise};
 ghost use Rattle.issue_keys.specs.Keys.{id_of};
 ghost use Rattle.issue_drafts.specs.Drafts.{has_serial, serial_behind};
-ghost use Rattle.issue_drafts.specs.Views.{kind_of, draft_of, IsPlaced};
+ghost use Rattle.issue_drafts.specs.Views.{kind_of, draft_of, IsPositioned};
 ghost use Rattle.issue_drafts.specs.Serials.{given_serial};
 
 use crate::draft::{Draft, DraftKind};
@@ -39,18 +39,18 @@ fn has_serial(kind: &DraftKind<'_>) -> bool
 
 /// The serial of a draft, which its key gives.
 fn take_serial(next: &mut [u64], draft: &Draft<'_>) -> u64
-    requires place { draft.now.issuer.place < length next.old }
-    requires room { slice_index next.old draft.now.issuer.place + 1 < 2 ^ 64 }
-    ensures given { result ≡ (if has_serial (kind_of draft.now.kind) then slice_index next.old draft.now.issuer.place else 0) }
+    requires position { draft.now.issuer.position < length next.old }
+    requires room { slice_index next.old draft.now.issuer.position + 1 < 2 ^ 64 }
+    ensures given { result ≡ (if has_serial (kind_of draft.now.kind) then slice_index next.old draft.now.issuer.position else 0) }
     ensures next { next.new ≡ (if has_serial (kind_of draft.now.kind)
-        then slice_set next.old draft.now.issuer.place (slice_index next.old draft.now.issuer.place + 1) else next.old) }
+        then slice_set next.old draft.now.issuer.position (slice_index next.old draft.now.issuer.position + 1) else next.old) }
 {
     if !has_serial(&draft.kind) {
         return 0;
     }
-    let place = draft.issuer.place;
-    let serial = next[place];
-    next[place] = serial + 1;
+    let position = draft.issuer.position;
+    let serial = next[position];
+    next[position] = serial + 1;
     serial
 }
 
@@ -62,7 +62,7 @@ pub fn give_serials(
 ) -> Result<Serials, AllocError>
     requires apart { AllPairs (λ a b. id_of a ≢ id_of b) rows.now }
     requires serials { All (λ row. row.next_serial < 2 ^ 62) rows.now }
-    requires placed { All (λ d. IsPlaced rows.now d.issuer) drafts.now }
+    requires positioned { All (λ d. IsPositioned rows.now d.issuer) drafts.now }
     requires rising { Rise (λ d. d.uri) drafts.now }
 
     // One for each certificate and ROA.

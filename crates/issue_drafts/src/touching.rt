@@ -1,12 +1,12 @@
 //! The URIs that an edition puts or withdraws.
 
 ghost use Rattle.std.specs.Prelude.{◌≡◌, ◌++◌, List, map, IsPermutation, IfOk, OnOk};
-ghost use Rattle.issue_drafts.specs.Certificates.{input_of};
+ghost use Rattle.issue_drafts.specs.IssueInput.{input_of};
 ghost use Rattle.issue_drafts.specs.Drafts.{Draft as Put};
 ghost use Rattle.issue_drafts.specs.Views.{draft_of, manifest_of};
 
 use crate::draft::{Draft, ManifestDraft};
-use crate::input::IssueInput;
+use crate::issue_parts::IssueParts;
 use pub_set::Uri;
 use std::alloc::{AllocError, Global};
 use std::marker::Model;
@@ -67,7 +67,7 @@ fn push_uris(alloc: Global, uris: &mut Vec<Uri>, more: &[Uri]) -> Result<(), All
 
 impl Touched {
     ghost use Rattle.std.specs.Prelude.{◌≡◌, ℕ, List, ◌++◌, map, IsPermutation, IfOk};
-    ghost use Rattle.issue_drafts.specs.Certificates.{input_of};
+    ghost use Rattle.issue_drafts.specs.IssueInput.{input_of};
     ghost use Rattle.issue_drafts.specs.Drafts.{Draft as Put};
     ghost use Rattle.issue_drafts.specs.Views.{draft_of, manifest_of};
     ghost use Rattle.issue_drafts.specs.Touching.{AreTouched, has_uri};
@@ -75,7 +75,7 @@ impl Touched {
     /// Those of an edition that puts these objects.
     pub fn new(
         alloc: Global,
-        at: &IssueInput<'_>,
+        at: &IssueParts<'_>,
         drafts: &[Draft<'_>],
         manifests: &[ManifestDraft<'_>],
     ) -> Result<Touched, AllocError>

@@ -28,7 +28,7 @@ fresh-push [] keys d key lt = absurd (omega arith)
 fresh-push (n ∷ ns) [] d key lt = ap (λ (t : List KeyRow). fresh_row n key ∷ t) (fresh-nil ns)
 fresh-push (n ∷ ns) (k ∷ ks) d key lt = ap (λ (t : List KeyRow). fresh_row n k ∷ t) (fresh-push ns ks d key (omega arith))
 
--- What stands for a place past the end.
+-- What stands for a position past the end.
 abbrev pub no_key : NewKey
 no_key = record { desk = 0; signer = 0; role = New; since = 0; done = 0 }
 

@@ -1,6 +1,6 @@
 pub mod Finds
 pub mod Growing
 pub mod Ids
-pub mod Places
+pub mod Positions
 pub mod Runs
 pub mod Stops

@@ -1,4 +1,4 @@
--- Of places by the identifiers of their keys, those of a key are one run.
+-- Of positions by the identifiers of their keys, those of a key are one run.
 use Rattle.std.proofs.Common.{◌≡◌, ℕ, ◌+◌, ◌-◌, ◌<◌, ◌≤◌, zero, suc, Bool, true, false, not, ◌&&◌, List, [], ◌∷◌, ◌++◌, length, get_or, take, drop, filter, refl, sym, ap, subst, ◌∙◌, arith}
 use Rattle.std.specs.List.{AllWithin}
 use Rattle.std.specs.List.Sorted.{IsPartitionedBy, IsPartitionPoint, IsNonDecreasingBy, ties}
@@ -17,33 +17,33 @@ use Rattle.std.proofs.lemmas.List.Elements.{filter-append, filter_agree}
 use Rattle.std.proofs.lemmas.List.MinMax.{ranks_by}
 use Rattle.std.proofs.lemmas.List.Sorted.{searchable_from_sorted}
 use Rattle.std.proofs.lemmas.Map.Text.{is_eq-slice_cmp}
-use Rattle.issue_keys.specs.declared.entries.Placed.{Placed}
-use Rattle.issue_keys.specs.Under.{id_cmp, is_under, places_under, AreByKey}
+use Rattle.issue_keys.specs.declared.key_index.KeyPosition.{KeyPosition}
+use Rattle.issue_keys.specs.Under.{id_cmp, is_under, positions_under, AreByKey}
 
 pub id_total : IsTotalOrder id_cmp
 id_total = nat_list_cmp_total
 
 -- ---- what a stable sort keeps
 
-pub by_key : IsStrictWeakOrder (λ (a b : Placed). is_lt (id_cmp a.key.bytes b.key.bytes))
-by_key = ranks_by id_total (λ (e : Placed). e.key.bytes)
+pub by_key : IsStrictWeakOrder (λ (a b : KeyPosition). is_lt (id_cmp a.key.bytes b.key.bytes))
+by_key = ranks_by id_total (λ (e : KeyPosition). e.key.bytes)
 
 tied : (o : Ordering) → (not (is_lt (ordering_reverse o)) && not (is_lt o)) ≡ is_eq o
 tied Less = refl
 tied Equal = refl
 tied Greater = refl
 
--- Those that tie with a place of that key are the places under it.
-tied-under : (x y : Placed) → ties (λ (a b : Placed). is_lt (id_cmp a.key.bytes b.key.bytes)) x y ≡ is_under x.key.bytes y
+-- Those that tie with a position of that key are the positions under it.
+tied-under : (x y : KeyPosition) → ties (λ (a b : KeyPosition). is_lt (id_cmp a.key.bytes b.key.bytes)) x y ≡ is_under x.key.bytes y
 tied-under x y =
     ap (λ (o : Ordering). not (is_lt o) && not (is_lt (id_cmp y.key.bytes x.key.bytes))) (id_total.antisymm x.key.bytes y.key.bytes)
     ∙ (tied (id_cmp y.key.bytes x.key.bytes) ∙ is_eq-slice_cmp y.key.bytes x.key.bytes)
 
-pub kept-under : (xs ys : List Placed) → ((x : Placed) → filter (ties (λ (a b : Placed). is_lt (id_cmp a.key.bytes b.key.bytes)) x) ys ≡ filter (ties (λ (a b : Placed). is_lt (id_cmp a.key.bytes b.key.bytes)) x) xs) → (id : List ℕ) → places_under id ys ≡ places_under id xs
+pub kept-under : (xs ys : List KeyPosition) → ((x : KeyPosition) → filter (ties (λ (a b : KeyPosition). is_lt (id_cmp a.key.bytes b.key.bytes)) x) ys ≡ filter (ties (λ (a b : KeyPosition). is_lt (id_cmp a.key.bytes b.key.bytes)) x) xs) → (id : List ℕ) → positions_under id ys ≡ positions_under id xs
 kept-under xs ys stable id =
-    let x : Placed = record { key = record { bytes = id }; place = 0 } in
-    sym (filter_agree (ties (λ (a b : Placed). is_lt (id_cmp a.key.bytes b.key.bytes)) x) (is_under id) (tied-under x) ys)
-    ∙ (stable x ∙ filter_agree (ties (λ (a b : Placed). is_lt (id_cmp a.key.bytes b.key.bytes)) x) (is_under id) (tied-under x) xs)
+    let x : KeyPosition = record { key = record { bytes = id }; position = 0 } in
+    sym (filter_agree (ties (λ (a b : KeyPosition). is_lt (id_cmp a.key.bytes b.key.bytes)) x) (is_under id) (tied-under x) ys)
+    ∙ (stable x ∙ filter_agree (ties (λ (a b : KeyPosition). is_lt (id_cmp a.key.bytes b.key.bytes)) x) (is_under id) (tied-under x) xs)
 
 -- ---- the run of a key
 
@@ -77,18 +77,18 @@ not-below Equal is = absurd cc
 not-below Greater is = refl
 
 -- The identifiers don't fall.
-rising : (xs : List Placed) (id : List ℕ) → AreByKey xs → IsNonDecreasingBy (λ (e : Placed). ordering_index (id_cmp e.key.bytes id)) xs
-rising xs id sorted = searchable_from_sorted id_total (λ (e : Placed). e.key.bytes) xs id sorted
+rising : (xs : List KeyPosition) (id : List ℕ) → AreByKey xs → IsNonDecreasingBy (λ (e : KeyPosition). ordering_index (id_cmp e.key.bytes id)) xs
+rising xs id sorted = searchable_from_sorted id_total (λ (e : KeyPosition). e.key.bytes) xs id sorted
 
-pub below-first : (xs : List Placed) (id : List ℕ) → AreByKey xs → IsPartitionedBy (λ (e : Placed). is_lt (id_cmp e.key.bytes id)) xs
+pub below-first : (xs : List KeyPosition) (id : List ℕ) → AreByKey xs → IsPartitionedBy (λ (e : KeyPosition). is_lt (id_cmp e.key.bytes id)) xs
 below-first xs id sorted i j d le inside ends =
     below (id_cmp (get_or xs i d).key.bytes id) (id_cmp (get_or xs j d).key.bytes id) (rising xs id sorted i j d le inside) ends
 
-under : (e : Placed) (id : List ℕ) → is_eq (id_cmp e.key.bytes id) ≡ is_under id e
+under : (e : KeyPosition) (id : List ℕ) → is_eq (id_cmp e.key.bytes id) ≡ is_under id e
 under e id = is_eq-slice_cmp e.key.bytes id
 
 -- Behind those below the key come those of the key.
-pub under-first : (xs : List Placed) (id : List ℕ) (n : ℕ) → AreByKey xs → AllWithin (λ (e : Placed). is_lt (id_cmp e.key.bytes id) ≡ false) xs n (length xs) → IsPartitionedBy (is_under id) (drop n xs)
+pub under-first : (xs : List KeyPosition) (id : List ℕ) (n : ℕ) → AreByKey xs → AllWithin (λ (e : KeyPosition). is_lt (id_cmp e.key.bytes id) ≡ false) xs n (length xs) → IsPartitionedBy (is_under id) (drop n xs)
 under-first xs id n sorted behind i j d le inside ends =
     let long = length-drop n xs in
     let at_i = get_or-drop n xs i d in
@@ -100,8 +100,8 @@ under-first xs id n sorted behind i j d le inside ends =
     (behind (n + i) d (omega arith) (omega arith)) (under (get_or xs (n + j) d) id ∙ there) in
     rw at_i (sym (under (get_or xs (n + i) d) id) ∙ same)
 
--- So they are what stands between the two places.
-pub run-is : (xs : List Placed) (id : List ℕ) (n m : ℕ) → n ≤ length xs → AllWithin (λ (e : Placed). is_lt (id_cmp e.key.bytes id) ≡ true) xs 0 n → IsPartitionPoint (λ e. is_under id e ≡ true) (λ e. is_under id e ≡ false) (drop n xs) m → m ≤ length (drop n xs) → take m (drop n xs) ≡ places_under id xs
+-- So they are what stands between the two positions.
+pub run-is : (xs : List KeyPosition) (id : List ℕ) (n m : ℕ) → n ≤ length xs → AllWithin (λ (e : KeyPosition). is_lt (id_cmp e.key.bytes id) ≡ true) xs 0 n → IsPartitionPoint (λ e. is_under id e ≡ true) (λ e. is_under id e ≡ false) (drop n xs) m → m ≤ length (drop n xs) → take m (drop n xs) ≡ positions_under id xs
 run-is xs id n m within before point short =
     let p = is_under id in
     let rest = drop n xs in
@@ -126,25 +126,25 @@ run-is xs id n m within before point short =
     ∙ (ap (λ t. t ++ filter p rest) front ∙ second)))
 
 -- The same of the list behind two looks at it.
-pub run-found : (items xs ys self : List Placed) (id : List ℕ) (n m : ℕ) → xs ≡ items → ys ≡ items → self ≡ items → n ≤ length xs → IsPartitionPoint (λ e. is_lt (id_cmp e.key.bytes id) ≡ true) (λ e. is_lt (id_cmp e.key.bytes id) ≡ false) xs n → m ≤ length (take (length ys - n) (drop n ys)) → IsPartitionPoint (λ e. is_under id e ≡ true) (λ e. is_under id e ≡ false) (take (length ys - n) (drop n ys)) m → take m (take (length ys - n) (drop n ys)) ≡ places_under id self
+pub run-found : (items xs ys self : List KeyPosition) (id : List ℕ) (n m : ℕ) → xs ≡ items → ys ≡ items → self ≡ items → n ≤ length xs → IsPartitionPoint (λ e. is_lt (id_cmp e.key.bytes id) ≡ true) (λ e. is_lt (id_cmp e.key.bytes id) ≡ false) xs n → m ≤ length (take (length ys - n) (drop n ys)) → IsPartitionPoint (λ e. is_under id e ≡ true) (λ e. is_under id e ≡ false) (take (length ys - n) (drop n ys)) m → take m (take (length ys - n) (drop n ys)) ≡ positions_under id self
 run-found items xs ys self id n m ex ey es within first short second =
     let rest = take_rest ys n in
     let same = ex ∙ sym ey in
-    let inside = subst (λ (l : List Placed). n ≤ length l) same within in
-    let before = subst (λ (l : List Placed). AllWithin (λ (e : Placed). is_lt (id_cmp e.key.bytes id) ≡ true) l 0 n) same first.0 in
-    let point = subst (λ (l : List Placed). IsPartitionPoint (λ e. is_under id e ≡ true) (λ e. is_under id e ≡ false) l m) rest second in
-    let few = subst (λ (l : List Placed). m ≤ length l) rest short in
-    ap (take m) rest ∙ (run-is ys id n m inside before point few ∙ ap (places_under id) (ey ∙ sym es))
+    let inside = subst (λ (l : List KeyPosition). n ≤ length l) same within in
+    let before = subst (λ (l : List KeyPosition). AllWithin (λ (e : KeyPosition). is_lt (id_cmp e.key.bytes id) ≡ true) l 0 n) same first.0 in
+    let point = subst (λ (l : List KeyPosition). IsPartitionPoint (λ e. is_under id e ≡ true) (λ e. is_under id e ≡ false) l m) rest second in
+    let few = subst (λ (l : List KeyPosition). m ≤ length l) rest short in
+    ap (take m) rest ∙ (run-is ys id n m inside before point few ∙ ap (positions_under id) (ey ∙ sym es))
 
 -- What the second look asks.
-pub under-rest : (items xs ys : List Placed) (id : List ℕ) (n : ℕ) → xs ≡ items → ys ≡ items → AreByKey items → IsPartitionPoint (λ e. is_lt (id_cmp e.key.bytes id) ≡ true) (λ e. is_lt (id_cmp e.key.bytes id) ≡ false) xs n → IsPartitionedBy (is_under id) (take (length ys - n) (drop n ys))
+pub under-rest : (items xs ys : List KeyPosition) (id : List ℕ) (n : ℕ) → xs ≡ items → ys ≡ items → AreByKey items → IsPartitionPoint (λ e. is_lt (id_cmp e.key.bytes id) ≡ true) (λ e. is_lt (id_cmp e.key.bytes id) ≡ false) xs n → IsPartitionedBy (is_under id) (take (length ys - n) (drop n ys))
 under-rest items xs ys id n ex ey sorted first =
-    let behind = subst (λ (l : List Placed). AllWithin (λ (e : Placed). is_lt (id_cmp e.key.bytes id) ≡ false) l n (length l)) (ex ∙ sym ey) first.1 in
-    subst (λ (l : List Placed). IsPartitionedBy (is_under id) l) (sym (take_rest ys n))
+    let behind = subst (λ (l : List KeyPosition). AllWithin (λ (e : KeyPosition). is_lt (id_cmp e.key.bytes id) ≡ false) l n (length l)) (ex ∙ sym ey) first.1 in
+    subst (λ (l : List KeyPosition). IsPartitionedBy (is_under id) l) (sym (take_rest ys n))
     (under-first ys id n (subst AreByKey (sym ey) sorted) behind)
 
 -- A closure that compares identifiers compares by them.
-pub compares-from : {F : Type 0} {g : Mut F (Bor Placed × (Bor Placed × Unit {0})) Ordering} {f : F} → ((a : Bor Placed × (Bor Placed × Unit {0})) (r : Ordering) (f' : F) → Called g f a r f' → (r ≡ id_cmp a.0.now.key.bytes a.1.0.now.key.bytes) × (f' ≡ f)) → ComparesAs g (λ a b. is_lt (id_cmp a.key.bytes b.key.bytes)) f
+pub compares-from : {F : Type 0} {g : Mut F (Bor KeyPosition × (Bor KeyPosition × Unit {0})) Ordering} {f : F} → ((a : Bor KeyPosition × (Bor KeyPosition × Unit {0})) (r : Ordering) (f' : F) → Called g f a r f' → (r ≡ id_cmp a.0.now.key.bytes a.1.0.now.key.bytes) × (f' ≡ f)) → ComparesAs g (λ a b. is_lt (id_cmp a.key.bytes b.key.bytes)) f
 compares-from {F} {g} {f} says =
     always_returns_same g (λ a r. is_lt r ≡ is_lt (id_cmp a.0.now.key.bytes a.1.0.now.key.bytes)) f
     (λ a r f' called. let q = says a r f' called in (ap is_lt q.0, q.1))

@@ -1,25 +1,26 @@
--- Places of keys in a list.
+-- Positions of keys in a list.
 use Rattle.std.specs.Prelude.{◌≡◌, ℕ, ◌+◌, Bool, false, List, [], ◌∷◌, Option, None, Some}
 use Rattle.std.specs.List.{position_from}
 use Rattle.std.specs.Option.{option_map_or}
 use Rattle.std.specs.Str.{bytes_eq}
 use Rattle.key_ids.specs.declared.identifier.KeyId.{KeyId}
-use Rattle.issue_keys.specs.declared.entries.Placed.{Placed}
-use Rattle.issue_keys.specs.Under.{places_under}
+use Rattle.issue_keys.specs.declared.key_index.KeyPosition.{KeyPosition}
+use Rattle.issue_keys.specs.Under.{positions_under}
 
--- The keys of a list, some of whose items have one, at their places from that number on.
-abbrev pub placed_from : ℕ → List (Option KeyId) → List Placed
-placed_from n [] = []
-placed_from n (None ∷ keys) = placed_from (n + 1) keys
-placed_from n (Some key ∷ keys) = record { key = key; place = n } ∷ placed_from (n + 1) keys
+-- The keys of a list, some of whose items have one, at their positions from that number on.
+abbrev pub key_positions : ℕ → List (Option KeyId) → List KeyPosition
+key_positions n [] = []
+key_positions n (None ∷ keys) = key_positions (n + 1) keys
+key_positions n (Some key ∷ keys) = record { key = key; position = n } ∷ key_positions (n + 1) keys
 
--- The index has their places.
-abbrev pub IsIndex : List (Option KeyId) → List Placed → Type 0
-IsIndex keys index = (id : List ℕ) → places_under id index ≡ places_under id (placed_from 0 keys)
+-- The index has their positions.
+abbrev pub IsIndex : List (Option KeyId) → List KeyPosition → Type 0
+IsIndex keys index =
+    (id : List ℕ) → positions_under id index ≡ positions_under id (key_positions 0 keys)
 
 abbrev pub has_id : List ℕ → Option KeyId → Bool
 has_id id key = option_map_or (λ k. bytes_eq k.bytes id) key false
 
--- The place of the first that has that identifier.
+-- The position of the first that has that identifier.
 abbrev pub first_at : List ℕ → List (Option KeyId) → Option ℕ
 first_at id keys = position_from (has_id id) 0 keys

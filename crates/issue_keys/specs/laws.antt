@@ -1,3 +1,3 @@
 -- Laws: what follows from the definitions, with the proofs.
-pub mod FirstPlaces
+pub mod FirstPositions
 pub mod KeyLaws

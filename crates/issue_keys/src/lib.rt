@@ -2,15 +2,15 @@
 //! are found by their identifiers (RFC 6487 section 4.8.2).
 #![tactic(auto)]
 
-mod entries;
 mod fault;
 mod id_set;
-mod indexes;
+mod key_index;
+mod list_index;
 mod making;
 mod rows;
 
-pub use entries::{KeyIndex, Placed};
 pub use fault::MakeFault;
-pub use indexes::index_of;
+pub use key_index::{KeyIndex, KeyPosition};
+pub use list_index::index_of;
 pub use making::make_keys;
 pub use rows::kept_rows;

@@ -4,8 +4,8 @@ ghost use Rattle.std.specs.Prelude.{◌≡◌, map, Some, IfOk, option_copied};
 ghost use Rattle.issue_keys.specs.Keys.{with_role, role_of, is_dropped, kept_rows, id_of};
 ghost use Rattle.issue_keys.specs.Indexes.{IsIndex, first_at};
 
-use crate::entries::KeyIndex;
-use crate::indexes::index_of;
+use crate::key_index::KeyIndex;
+use crate::list_index::index_of;
 use items::Items;
 use key_ids::KeyId;
 use key_roll::{KeyRow, RoleWork, Work};
@@ -41,7 +41,7 @@ fn role_keys(alloc: Global, roles: &[RoleWork]) -> Result<Vec<Option<KeyId>>, Al
     roles.iter().map(|role| Some(role.key)).collect(alloc)
 }
 
-/// The places of roles by their keys.
+/// The positions of roles by their keys.
 fn role_index(alloc: Global, roles: &[RoleWork]) -> Result<KeyIndex, AllocError>
     ensures { IfOk result (IsIndex (map (λ r. Some r.key) roles.now)) }
 {
@@ -57,7 +57,7 @@ fn dropped_keys(alloc: Global, dropped: &[KeyId]) -> Result<Vec<Option<KeyId>>, 
     dropped.iter().map(|key| Some(*key)).collect(alloc)
 }
 
-/// Their places.
+/// Their positions.
 fn dropped_index(alloc: Global, dropped: &[KeyId]) -> Result<KeyIndex, AllocError>
     ensures { IfOk result (IsIndex (map (λ key. Some key) dropped.now)) }
 {
@@ -73,7 +73,7 @@ fn role_of<'a>(roles: &'a [RoleWork], index: &KeyIndex, row: &KeyRow) -> Option<
 {
     let id = KeyId::of(&row.key.bytes);
     match index.first(&id) {
-        Some(place) => Some(&roles[place]),
+        Some(position) => Some(&roles[position]),
         None => None,
     }
 }
@@ -84,8 +84,8 @@ fn is_dropped(dropped: &[KeyId], index: &KeyIndex, row: &KeyRow) -> bool
     ensures { result ≡ is_dropped dropped.now row.now }
 {
     let id = KeyId::of(&row.key.bytes);
-    let place = index.first(&id);
-    place.is_some()
+    let position = index.first(&id);
+    position.is_some()
 }
 
 /// The rows of the keys that stay, with what the work says of them.
@@ -93,12 +93,12 @@ pub fn kept_rows(alloc: Global, work: &Work, rows: &[KeyRow]) -> Result<Vec<KeyR
     ensures { IfOk result (λ kept. kept.items ≡ kept_rows work.now rows.now) }
 {
     let (roles, dropped) = (work.roles.as_slice(), work.dropped.as_slice());
-    let role_places = role_index(alloc, roles)?;
-    let dropped_places = dropped_index(alloc, dropped)?;
+    let role_positions = role_index(alloc, roles)?;
+    let dropped_positions = dropped_index(alloc, dropped)?;
     let mut kept = Vec::with_capacity(alloc, rows.len())?;
     for row in rows {
-        if !is_dropped(dropped, &dropped_places, row) {
-            kept.push(kept_row(alloc, row, role_of(roles, &role_places, row))?)?;
+        if !is_dropped(dropped, &dropped_positions, row) {
+            kept.push(kept_row(alloc, row, role_of(roles, &role_positions, row))?)?;
         }
     }
     Ok(kept)

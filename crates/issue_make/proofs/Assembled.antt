@@ -10,11 +10,11 @@ use Rattle.signer_ring.specs.Calls.{after_calls, IsVouched}
 use Rattle.key_roll.specs.declared.rows.KeyRow.{KeyRow}
 use Rattle.issue_keys.specs.Keys.{kept_rows}
 use Rattle.issue_keys.specs.Making.{making, AreMade}
-use Rattle.issue_drafts.specs.Finding.{Keys, keys_at, all_keys}
-use Rattle.issue_drafts.specs.Certificates.{IssueInput}
+use Rattle.issue_drafts.specs.WorkKeys.{Keys, keys_at, all_keys}
+use Rattle.issue_drafts.specs.IssueInput.{IssueInput}
 use Rattle.issue_sign.specs.Calls.{first_calls, second_calls, content_calls, last_calls}
 use Rattle.issue_make.specs.Trace.{all_of, row_after}
-use Rattle.issue_make.specs.declared.outcome.Made.{Made}
+use Rattle.issue_make.specs.declared.made.Made.{Made}
 use Rattle.issue_make.specs.inner.Naming.{CanName}
 use Rattle.issue_make.specs.CanMake.{CanMake}
 use Rattle.issue_make.specs.inner.Ready.{AreReady}

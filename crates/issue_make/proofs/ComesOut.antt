@@ -9,8 +9,8 @@ use Rattle.std.proofs.lemmas.List.Sums.{count_by-le-length}
 use Rattle.std.proofs.lemmas.Option.{slice_get_within}
 use Rattle.signer_api.specs.State.{SignerState}
 use Rattle.key_roll.specs.declared.rows.KeyRow.{KeyRow}
-use Rattle.issue_drafts.specs.Finding.{Keys, keys_at}
-use Rattle.issue_drafts.specs.Certificates.{IssueInput}
+use Rattle.issue_drafts.specs.WorkKeys.{Keys, keys_at}
+use Rattle.issue_drafts.specs.IssueInput.{IssueInput}
 use Rattle.issue_drafts.specs.Drafts.{Draft, drafts, manifests, is_numbered, serial_behind}
 use Rattle.issue_drafts.specs.Serials.{given_serial}
 use Rattle.issue_drafts.specs.laws.UriOrder.{apart-permuted}
@@ -67,7 +67,7 @@ uris-apart s keys rows plan p once =
 
 -- ---- lengths
 
--- As many objects as drafts, and a place for the key of each manifest.
+-- As many objects as drafts, and a position for the key of each manifest.
 whole : (s : IssueInput) (keys : Keys) (rows : List KeyRow) (entries : Entries) (plan : ObjectPlan) (old new : List SignerState)
     (objects : Objects) → IsObjectPlan s keys rows plan → AreSigned s keys rows entries plan old new objects → AreWhole plan objects
 whole s keys rows entries plan old new objects p are =
@@ -84,9 +84,9 @@ whole s keys rows entries plan old new objects p are =
       given = ap length p.given
           ∙ length-map plan.drafts.items (λ (d : code.Draft). given_serial (drafts s keys) (draft_of d));
       drafted = first ∙ length-map plan.drafts.items draft_of;
-      places = λ k d lt.
+      positions = λ k d lt.
           let m : listed.ManifestDraft = get_or plan.manifests.items k d in
-          subst (λ (n : ℕ). m.issuer.place < n) (sym next) (slice_get_within rows m.issuer.place m.issuer.row.now (p.manifest_issuers k d lt));
+          subst (λ (n : ℕ). m.issuer.position < n) (sym next) (slice_get_within rows m.issuer.position m.issuer.row.now (p.manifest_issuers k d lt));
       listed = second ∙ length-map plan.manifests.items manifest_of;
     }
 

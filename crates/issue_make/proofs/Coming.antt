@@ -1,7 +1,7 @@
 -- A plan's lists as they are looked at.
 use Rattle.std.proofs.Common.{◌≡◌, ℕ, Some, List, map, sym, ap, subst, ◌∙◌}
 use Rattle.std.specs.List.{All, slice_get}
-use Rattle.issue_drafts.specs.Certificates.{IssueInput}
+use Rattle.issue_drafts.specs.IssueInput.{IssueInput}
 use Rattle.issue_drafts.specs.Drafts.{serial_behind}
 use Rattle.issue_drafts.specs.Serials.{given_serial}
 use Rattle.issue_drafts.specs.Views.{draft_of, manifest_of}
@@ -24,9 +24,9 @@ is-of s plan objects trace n drafts given listed next is = record {
   contents = is.contents;
   hashes = is.hashes;
   manifests = is.manifests ∙ ap (map manifest_of) (sym listed);
-  next = subst (λ (l : List manifests.ManifestDraft). All (λ d. slice_get n.next.now d.issuer.place
+  next = subst (λ (l : List manifests.ManifestDraft). All (λ d. slice_get n.next.now d.issuer.position
       ≡ Some (serial_behind (all_of s trace) d.issuer.row.now)) l) (sym listed)
-      (subst (λ (l : List ℕ). All (λ d. slice_get l d.issuer.place
+      (subst (λ (l : List ℕ). All (λ d. slice_get l d.issuer.position
       ≡ Some (serial_behind (all_of s trace) d.issuer.row.now)) plan.manifests.items) (sym next) is.next);
   listed_contents = is.listed_contents;
   listed_hashes = is.listed_hashes;

@@ -8,9 +8,9 @@ use Rattle.issue_values.specs.Bodies.{AreRevoked}
 use Rattle.key_roll.specs.declared.rows.KeyRow.{KeyRow}
 use Rattle.key_roll.specs.declared.work.RoleWork.{RoleWork}
 use Rattle.issue_keys.specs.Keys.{id_of, with_role, kept_rows}
-use Rattle.issue_drafts.specs.Finding.{keys_at, Finds}
-use Rattle.issue_drafts.specs.declared.finder.KeyFinder.{KeyFinder}
-use Rattle.issue_drafts.specs.Certificates.{IssueInput}
+use Rattle.issue_drafts.specs.WorkKeys.{keys_at, Finds}
+use Rattle.issue_drafts.specs.declared.key_finder.KeyFinder.{KeyFinder}
+use Rattle.issue_drafts.specs.IssueInput.{IssueInput}
 use Rattle.issue_make.specs.Trace.{AreKeys}
 use Rattle.issue_drafts.specs.Drafts.{Draft}
 use Rattle.issue_make.specs.ObjectPlan.{puts, CanPlanObjects}

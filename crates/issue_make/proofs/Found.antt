@@ -1,9 +1,9 @@
 -- The finder of an edition's keys, and what is ready over keys that are looked at as a slice.
 use Rattle.std.proofs.Common.{◌≡◌, ℕ, ◌≤◌, List, length, take, sym, subst, length-take, arith}
 use Rattle.key_roll.specs.declared.rows.KeyRow.{KeyRow}
-use Rattle.issue_drafts.specs.Finding.{keys_at, Finds}
-use Rattle.issue_drafts.specs.declared.finder.KeyFinder.{KeyFinder}
-use Rattle.issue_drafts.specs.Certificates.{IssueInput}
+use Rattle.issue_drafts.specs.WorkKeys.{keys_at, Finds}
+use Rattle.issue_drafts.specs.declared.key_finder.KeyFinder.{KeyFinder}
+use Rattle.issue_drafts.specs.IssueInput.{IssueInput}
 use Rattle.issue_make.specs.ObjectPlan.{CanPlanObjects, IsObjectPlan}
 use Rattle.issue_make.specs.inner.Ready.{AreReady, IsReady}
 use Rattle.issue_make.specs.declared.plans.ObjectPlan.{ObjectPlan}

@@ -10,7 +10,7 @@ use Rattle.std.proofs.lemmas.Simd.{zip2-map, length-zip2, map-map}
 use Rattle.sha2.specs.Sha256.{sha256}
 use Rattle.key_roll.specs.declared.rows.KeyRow.{KeyRow}
 use Rattle.key_roll.specs.declared.issued.IssuedRow.{IssuedRow}
-use Rattle.issue_drafts.specs.Certificates.{IssueInput}
+use Rattle.issue_drafts.specs.IssueInput.{IssueInput}
 use Rattle.issue_drafts.specs.Drafts.{Draft, Kind, serial_behind, is_manifest}
 use Rattle.issue_drafts.specs.Drafts.Kind.{Certificate, Roa, Crl, Manifest}
 use Rattle.issue_drafts.specs.Serials.{given_serial}
@@ -24,10 +24,10 @@ use Rattle.issue_sign.specs.Objects.{Signed, bytes_of, manifest_bytes}
 use Rattle.issue_make.specs.declared.publishing.Numbered.{Numbered}
 use Rattle.issue_make.specs.Trace.{IssuingTrace, all_of, made_of, final_bytes, serial_of}
 use Rattle.issue_make.specs.inner.Putting.{row_of, with_serials, draft_rows, next_serials, hashes_of}
-use Rattle.issue_make.specs.inner.Putting.{contents_of, rows_of, uris_of, HavePlaces, IsWhole, IsOf}
+use Rattle.issue_make.specs.inner.Putting.{contents_of, rows_of, uris_of, HavePositions, IsWhole, IsOf}
 use Rattle.issue_make.proofs.Lists.{get_or-zip2, map-zip2, map-agree, all-back}
 
--- ---- how many rows there are, and which one stands at a place
+-- ---- how many rows there are, and which one stands at a position
 
 pub rows-long : (moment : ℕ) (drafts : List Draft) (serials : List ℕ) (hashes : List (List ℕ))
     → length serials ≡ length drafts → length hashes ≡ length drafts
@@ -90,27 +90,27 @@ pub manifest-row-at : (moment : ℕ) (drafts : List ManifestDraft) (next : List 
     (d : ManifestDraft) (o : Object) (row : IssuedRow)
     → length objects ≡ length drafts → i < length drafts
     → d ≡ get_or drafts i d
-    → row ≡ row_of moment (manifest_of d) (get_or next d.issuer.place 0) (get_or objects i o).hash
+    → row ≡ row_of moment (manifest_of d) (get_or next d.issuer.position 0) (get_or objects i o).hash
     → row ≡ get_or (draft_rows moment (map manifest_of drafts) (next_serials next drafts) (hashes_of objects)) i row
 manifest-row-at moment drafts next objects i d o row second inside here is =
     let long : length (map manifest_of drafts) ≡ length drafts = length-map drafts manifest_of in
     let serials : length (next_serials next drafts) ≡ length drafts =
-    length-map drafts (λ (d : ManifestDraft). get_or next d.issuer.place 0) in
+    length-map drafts (λ (d : ManifestDraft). get_or next d.issuer.position 0) in
     let hashes : length (hashes_of objects) ≡ length objects = length-map objects (λ (o : Object). o.hash) in
     let draft : get_or (map manifest_of drafts) i (manifest_of d) ≡ manifest_of (get_or drafts i d) =
     get_or-map manifest_of drafts i d (manifest_of d) inside in
-    let serial : get_or (next_serials next drafts) i 0 ≡ get_or next (get_or drafts i d).issuer.place 0 =
-    get_or-map (λ (d : ManifestDraft). get_or next d.issuer.place 0) drafts i d 0 inside in
+    let serial : get_or (next_serials next drafts) i 0 ≡ get_or next (get_or drafts i d).issuer.position 0 =
+    get_or-map (λ (d : ManifestDraft). get_or next d.issuer.position 0) drafts i d 0 inside in
     let at : get_or (draft_rows moment (map manifest_of drafts) (next_serials next drafts) (hashes_of objects)) i row
     ≡ row_of moment (get_or (map manifest_of drafts) i (manifest_of d)) (get_or (next_serials next drafts) i 0)
     (get_or (hashes_of objects) i []) =
     row-at moment (map manifest_of drafts) (next_serials next drafts) (hashes_of objects) i (manifest_of d) row
     (omega arith) (omega arith) (omega arith) in
     is
-    ∙ (ap (λ (e : ManifestDraft). row_of moment (manifest_of e) (get_or next e.issuer.place 0) (get_or objects i o).hash)
+    ∙ (ap (λ (e : ManifestDraft). row_of moment (manifest_of e) (get_or next e.issuer.position 0) (get_or objects i o).hash)
     here
     ∙ (ap (λ (h : List ℕ). row_of moment (manifest_of (get_or drafts i d))
-    (get_or next (get_or drafts i d).issuer.place 0) h) (sym (hash-at objects i o (omega arith)))
+    (get_or next (get_or drafts i d).issuer.position 0) h) (sym (hash-at objects i o (omega arith)))
     ∙ (ap (λ (n : ℕ). row_of moment (manifest_of (get_or drafts i d)) n (get_or (hashes_of objects) i [])) (sym serial)
     ∙ (ap (λ (e : Draft). row_of moment e (get_or (next_serials next drafts) i 0) (get_or (hashes_of objects) i []))
     (sym draft) ∙ sym at))))
@@ -122,7 +122,7 @@ pub manifest-rows-long : (moment : ℕ) (drafts : List ManifestDraft) (next : Li
 manifest-rows-long moment drafts next objects second =
     let long : length (map manifest_of drafts) ≡ length drafts = length-map drafts manifest_of in
     let serials : length (next_serials next drafts) ≡ length drafts =
-    length-map drafts (λ (d : ManifestDraft). get_or next d.issuer.place 0) in
+    length-map drafts (λ (d : ManifestDraft). get_or next d.issuer.position 0) in
     let hashes : length (hashes_of objects) ≡ length objects = length-map objects (λ (o : Object). o.hash) in
     rows-long moment (map manifest_of drafts) (next_serials next drafts) (hashes_of objects)
     (serials ∙ sym long) (hashes ∙ (second ∙ sym long)) ∙ long
@@ -151,7 +151,7 @@ all-uris moment n objects listed whole =
     let long : length drafts ≡ length n.drafts.now = length-map n.drafts.now draft_of in
     let last : length lasts ≡ length n.manifests.now = length-map n.manifests.now manifest_of in
     let many : length serials ≡ length n.manifests.now =
-    length-map n.manifests.now (λ (d : ManifestDraft). get_or n.next.now d.issuer.place 0) in
+    length-map n.manifests.now (λ (d : ManifestDraft). get_or n.next.now d.issuer.position 0) in
     let hashes : length (hashes_of objects) ≡ length objects = length-map objects (λ (o : Object). o.hash) in
     let others : length (hashes_of listed) ≡ length listed = length-map listed (λ (o : Object). o.hash) in
     let first : map (λ row. row.uri) (draft_rows moment drafts n.given.now (hashes_of objects))
@@ -279,22 +279,22 @@ firsts-are s n objects listed trace h =
         (plain-bytes s trace x x.draft.kind plain)
 
 next-are : (next : List ℕ) (behind : KeyRow → ℕ) (drafts : List ManifestDraft)
-    → All (λ d. slice_get next d.issuer.place ≡ Some (behind d.issuer.row.now)) drafts
-    → HavePlaces drafts next
+    → All (λ d. slice_get next d.issuer.position ≡ Some (behind d.issuer.row.now)) drafts
+    → HavePositions drafts next
     → next_serials next drafts ≡ map (λ d. behind d.issuer.row.now) drafts
-next-are next behind drafts each places =
-    map-agree (λ (d : ManifestDraft). get_or next d.issuer.place 0) (λ (d : ManifestDraft). behind d.issuer.row.now) drafts
+next-are next behind drafts each positions =
+    map-agree (λ (d : ManifestDraft). get_or next d.issuer.position 0) (λ (d : ManifestDraft). behind d.issuer.row.now) drafts
     (λ k d less.
-    let there = slice_get-get_or next (get_or drafts k d).issuer.place 0 (places k d less) in
+    let there = slice_get-get_or next (get_or drafts k d).issuer.position 0 (positions k d less) in
     let told = each k d less in
     cc)
 
 lasts-are : (s : IssueInput) (n : Numbered) (objects listed : List Object) (trace : IssuingTrace)
-    → HavePlaces n.manifests.now n.next.now → IsOf s n objects listed trace
+    → HavePositions n.manifests.now n.next.now → IsOf s n objects listed trace
     → draft_rows s.work.moment (map manifest_of n.manifests.now) (next_serials n.next.now n.manifests.now)
     (hashes_of listed)
     ≡ map (row_for s trace) trace.listed
-lasts-are s n objects listed trace places h =
+lasts-are s n objects listed trace positions h =
     let all : List Draft = all_of s trace in
     let xs : List Signed = trace.listed in
     let dr : Signed → Draft = λ x. x.draft in
@@ -302,7 +302,7 @@ lasts-are s n objects listed trace places h =
     let hr : Signed → List ℕ = λ x. sha256 (manifest_bytes s trace.keys all trace.files x) in
     let br : Draft → ℕ = λ d. serial_behind all d.issuer in
     let serials : next_serials n.next.now n.manifests.now ≡ map sr xs =
-    next-are n.next.now (serial_behind all) n.manifests.now h.next places
+    next-are n.next.now (serial_behind all) n.manifests.now h.next positions
     ∙ (sym (map-map br manifest_of n.manifests.now)
     ∙ (ap (map br) (sym h.manifests) ∙ map-map br dr xs)) in
     ap (λ (l : List Draft). draft_rows s.work.moment l (next_serials n.next.now n.manifests.now) (hashes_of listed))
@@ -326,11 +326,11 @@ lasts-are s n objects listed trace places h =
 
 -- The rows are those of the trace.
 pub rows-are : (s : IssueInput) (n : Numbered) (objects listed : List Object) (trace : IssuingTrace)
-    → HavePlaces n.manifests.now n.next.now → IsOf s n objects listed trace
+    → HavePositions n.manifests.now n.next.now → IsOf s n objects listed trace
     → rows_of s.work.moment n objects listed ≡ map (row_for s trace) (made_of trace)
-rows-are s n objects listed trace places h =
+rows-are s n objects listed trace positions h =
     let first = firsts-are s n objects listed trace h in
-    let last = lasts-are s n objects listed trace places h in
+    let last = lasts-are s n objects listed trace positions h in
     ap (λ (l : List IssuedRow). l ++ draft_rows s.work.moment (map manifest_of n.manifests.now)
     (next_serials n.next.now n.manifests.now) (hashes_of listed)) first
     ∙ (ap (λ (l : List IssuedRow). map (row_for s trace) trace.objects ++ l) last

@@ -13,7 +13,7 @@ use Rattle.key_roll.specs.declared.rows.KeyRow.{KeyRow}
 use Rattle.key_roll.specs.declared.rows.RevokedRow.{RevokedRow}
 use Rattle.key_roll.specs.declared.rows.Role.{Role}
 use Rattle.key_roll.specs.declared.rows.Role.TheVariants.{New, Current, Old}
-use Rattle.issue_drafts.specs.Certificates.{IssueInput}
+use Rattle.issue_drafts.specs.IssueInput.{IssueInput}
 use Rattle.issue_drafts.specs.Drafts.{serial_behind}
 use Rattle.issue_drafts.specs.Revoking.{has_point}
 use Rattle.issue_make.specs.Trace.{IssuingTrace, all_of, row_after, rank, is_before}
@@ -27,19 +27,19 @@ low-rank New = omega arith
 low-rank Current = omega arith
 low-rank Old = omega arith
 
-abbrev place : KeyRow → ℕ
-place row = row.desk * 3 + rank row.role
+abbrev position : KeyRow → ℕ
+position row = row.desk * 3 + rank row.role
 
 before-numbers : (a b r t : ℕ) → r < 3 → t < 3
     → (nat_lt a b || ((a == b) && nat_lt r t)) ≡ ltb (a * 3 + r) (b * 3 + t)
 before-numbers a b r t low other = grind (arith, nat_tests)
 
-before-is : (a b : KeyRow) → is_before a b ≡ ltb (place a) (place b)
+before-is : (a b : KeyRow) → is_before a b ≡ ltb (position a) (position b)
 before-is a b = before-numbers a.desk b.desk (rank a.role) (rank b.role) (low-rank a.role) (low-rank b.role)
 
 pub before-order : IsStrictWeakOrder is_before
 before-order =
-    let by : IsStrictWeakOrder (λ (a b : KeyRow). ltb (place a) (place b)) = IsStrictWeakOrder-by_number place in
+    let by : IsStrictWeakOrder (λ (a b : KeyRow). ltb (position a) (position b)) = IsStrictWeakOrder-by_number position in
     record {
       one_way = λ a b less. before-is b a ∙ by.one_way a b (sym (before-is a b) ∙ less);
       chain = λ a b c first second.

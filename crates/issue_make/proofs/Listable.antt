@@ -22,11 +22,12 @@ use Rattle.key_roll.specs.declared.work.CertWork.{CertWork}
 use Rattle.key_roll.specs.declared.work.RoaWork.{RoaWork}
 use Rattle.key_roll.specs.declared.work.PointWork.{PointWork}
 use Rattle.issue_keys.specs.Keys.{id_of}
-use Rattle.issue_drafts.specs.Finding.{Keys, key_named, keys_at}
-use Rattle.issue_drafts.specs.Certificates.{IssueInput, is_key, made_uri, name_at}
+use Rattle.issue_drafts.specs.WorkKeys.{Keys, key_named, keys_at}
+use Rattle.issue_drafts.specs.IssueInput.{IssueInput}
+use Rattle.issue_drafts.specs.Publishers.{is_key, made_uri, name_at}
 use Rattle.issue_drafts.specs.Drafts.{Draft, certificate_draft, roa_draft, crl_draft, drafts, manifests}
 use Rattle.issue_drafts.specs.Drafts.Kind.{Certificate, Roa, Crl}
-use Rattle.issue_drafts.specs.Views.{draft_of, manifest_of, IsPlaced}
+use Rattle.issue_drafts.specs.Views.{draft_of, manifest_of, IsPositioned}
 use Rattle.issue_drafts.specs.declared.draft.Draft as code
 use Rattle.issue_drafts.specs.declared.draft.ManifestDraft as listed
 use Rattle.issue_drafts.specs.Revoking.{is_touched}
@@ -138,18 +139,18 @@ one-under s key d same (inr is) made =
     subst (λ (k : KeyRow). IsListable (folder_at s k) d.uri)
     (same (and_parts (is_key d.issuer key) (not (bytes_eq d.uri (anchor_uri s.site))) made).0) is
 
-all-under : (s : IssueInput) (rows : List KeyRow) (key : KeyRow) (place : ℕ) (ds : List code.Draft)
-    → AllPairs (λ a b. id_of a ≢ id_of b) rows → slice_get rows place ≡ Some key
-    → All (λ d. IsPlaced rows d.issuer) ds → All (IsOwn s) (map draft_of ds)
+all-under : (s : IssueInput) (rows : List KeyRow) (key : KeyRow) (position : ℕ) (ds : List code.Draft)
+    → AllPairs (λ a b. id_of a ≢ id_of b) rows → slice_get rows position ≡ Some key
+    → All (λ d. IsPositioned rows d.issuer) ds → All (IsOwn s) (map draft_of ds)
     → All (λ d. is_made_under s key d ≡ true → IsListable (folder_at s key) d.uri) (map draft_of ds)
-all-under s rows key place [] apart at placed own = All-nil _
-all-under s rows key place (d ∷ ds) apart at placed own =
+all-under s rows key position [] apart at positioned own = All-nil _
+all-under s rows key position (d ∷ ds) apart at positioned own =
     All-cons (λ (x : Draft). is_made_under s key x ≡ true → IsListable (folder_at s key) x.uri) (draft_of d) (map draft_of ds)
     (one-under s key (draft_of d)
-    (λ yes. same-key rows d.issuer.row.now key d.issuer.place place apart (placed 0 d (omega arith)) at
+    (λ yes. same-key rows d.issuer.row.now key d.issuer.position position apart (positioned 0 d (omega arith)) at
     ((bytes_eq-Decides (id_of d.issuer.row.now) (id_of key)).0 yes))
     (own 0 (draft_of d) (omega arith)))
-    (all-under s rows key place ds apart at (λ k x lt. placed (suc k) x (omega arith)) (λ k x lt. own (suc k) x (omega arith)))
+    (all-under s rows key position ds apart at (λ k x lt. positioned (suc k) x (omega arith)) (λ k x lt. own (suc k) x (omega arith)))
 
 -- ---- what stays
 
@@ -180,5 +181,5 @@ listable-of s live rows n signers plan work are p =
     record {
       kept = kept-of s keys (map draft_of plan.drafts.items ++ map manifest_of plan.manifests.items) m.issuer.row.now
           (λ uri. sym (p.listed uri) ∙ p.touched uri) (stays k d lt);
-      made = all-under s rows m.issuer.row.now m.issuer.place plan.drafts.items apart (p.manifest_issuers k d lt) p.issuers own;
+      made = all-under s rows m.issuer.row.now m.issuer.position plan.drafts.items apart (p.manifest_issuers k d lt) p.issuers own;
     }

@@ -11,8 +11,8 @@ use Rattle.issue_keys.specs.declared.fault.MakeFault.{MakeFault}
 use Rattle.issue_keys.specs.declared.fault.MakeFault.TheVariants.{SignerFault, KeyClash, Memory}
 use Rattle.issue_keys.specs.Keys.{id_of, AreBegun, AreFresh}
 use Rattle.issue_keys.specs.Making.{making, AreApart, AreMade, IsKeyStop}
-use Rattle.issue_drafts.specs.Finding.{Keys}
-use Rattle.issue_drafts.specs.Certificates.{IssueInput}
+use Rattle.issue_drafts.specs.WorkKeys.{Keys}
+use Rattle.issue_drafts.specs.IssueInput.{IssueInput}
 use Rattle.issue_drafts.specs.Views.{draft_of, manifest_of}
 use Rattle.issue_sign.specs.Objects.{Entries, Signed}
 use Rattle.issue_sign.specs.SignInput.{SignInputValue}

@@ -11,11 +11,11 @@ use Rattle.key_roll.specs.declared.rows.KeyRow.{KeyRow}
 use Rattle.key_roll.specs.declared.work.KeyName.{KeyName}
 use Rattle.key_roll.specs.declared.work.KeyName.TheVariants.{Live, Fresh}
 use Rattle.issue_keys.specs.Keys.{id_of}
-use Rattle.issue_drafts.specs.Finding.{Keys, all_keys, key_named}
-use Rattle.issue_drafts.specs.Certificates.{name_at}
+use Rattle.issue_drafts.specs.WorkKeys.{Keys, all_keys, key_named}
+use Rattle.issue_drafts.specs.Publishers.{name_at}
 
-pub at-place : {X : Type 0} (P : X → Type 0) (xs : List X) (k : ℕ) (x : X) → slice_get xs k ≡ Some x → All P xs → P x
-at-place P xs k x at all = subst P (get_or_from_slice_get xs k x x at) (all k x (slice_get_within xs k x at))
+pub at-position : {X : Type 0} (P : X → Type 0) (xs : List X) (k : ℕ) (x : X) → slice_get xs k ≡ Some x → All P xs → P x
+at-position P xs k x at all = subst P (get_or_from_slice_get xs k x x at) (all k x (slice_get_within xs k x at))
 
 pub all-of-map : {X Y : Type 0} (Q : Y → Type 0) (f : X → Y) (xs : List X) → All Q (map f xs) → All (λ x. Q (f x)) xs
 all-of-map Q f [] all = λ k d lt. absurd (omega arith)
@@ -44,7 +44,7 @@ all-filter-map {X} {Y} P f (x ∷ xs) holds = by (f x) (holds x) (all-filter-map
 -- ---- keys that are named
 
 pub find-holds : {X : Type 0} (P : X → Type 0) (p : X → Bool) (xs : List X) (x : X) → find p xs ≡ Some x → All P xs → P x
-find-holds P p xs x e all = at-place P xs (position_or_len p xs) x (sym (find_at p xs) ∙ e) all
+find-holds P p xs x e all = at-position P xs (position_or_len p xs) x (sym (find_at p xs) ∙ e) all
 
 pub named-holds : (P : KeyRow → Type 0) (keys : Keys) (name : KeyName) (row : KeyRow) → key_named keys name ≡ Some row
     → All P (all_keys keys) → P row
@@ -61,7 +61,7 @@ name-holds P names desk low all = by ((slice_get_cases names desk).1)
         ⊎ ((length names ≤ desk) × (slice_get names desk ≡ None)) → P (name_at names desk)
     by (inl w) =
         subst (λ (o : Option NameRow). P (option_map_or (λ n. n.name) o [])) (sym w.2)
-        (at-place (λ (row : NameRow). P row.name) names desk w.0 w.2 all)
+        (at-position (λ (row : NameRow). P row.name) names desk w.0 w.2 all)
     by (inr w) = absurd (omega (arith, w.0))
 
 -- ---- five lists behind one another

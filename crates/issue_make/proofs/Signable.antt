@@ -17,12 +17,13 @@ use Rattle.key_roll.specs.declared.work.PointWork.{PointWork}
 use Rattle.issue_values.specs.Publishers.{Publishing, publishing, roa_uri}
 use Rattle.issue_values.specs.declared.publishers.Publisher.{Publisher}
 use Rattle.issue_keys.specs.Keys.{id_of}
-use Rattle.issue_drafts.specs.Finding.{Keys, keys_at, all_keys, key_named}
-use Rattle.issue_drafts.specs.Certificates.{IssueInput, publishing_of, certificate_of, made_for, standing_for, issuer_for, first_of, is_key, name_at, made_uri, names_key}
+use Rattle.issue_drafts.specs.WorkKeys.{Keys, keys_at, all_keys, key_named}
+use Rattle.issue_drafts.specs.IssueInput.{IssueInput}
+use Rattle.issue_drafts.specs.Publishers.{publishing_of, certificate_of, made_for, standing_for, issuer_for, first_of, is_key, name_at, made_uri, names_key}
 use Rattle.issue_drafts.specs.Drafts as words
 use Rattle.issue_drafts.specs.Drafts.{Kind, certificate_draft, roa_draft, crl_draft}
 use Rattle.issue_drafts.specs.Drafts.Kind.{Certificate, Roa, Crl, Manifest}
-use Rattle.issue_drafts.specs.Views.{draft_of, manifest_of, kind_of, IsPlaced, IsSubjectPlaced}
+use Rattle.issue_drafts.specs.Views.{draft_of, manifest_of, kind_of, IsPositioned, IsSubjectPositioned}
 use Rattle.issue_drafts.specs.declared.draft.KeyAt.{KeyAt}
 use Rattle.issue_drafts.specs.declared.draft.Draft as code
 use Rattle.issue_drafts.specs.declared.draft.ManifestDraft as manifests
@@ -34,7 +35,7 @@ use Rattle.issue_make.specs.CanMake.{IsCertified}
 use Rattle.issue_make.specs.inner.Ready.{IsReady}
 use Rattle.issue_make.specs.inner.Signing.{CanIssueIn, CanBe, CanBeSigned}
 use Rattle.issue_make.specs.declared.plans.ObjectPlan.{ObjectPlan}
-use Rattle.issue_make.proofs.Parts.{at-place, all-of-map, all-front, all-back, all-filter-map, named-holds, name-holds}
+use Rattle.issue_make.proofs.Parts.{at-position, all-of-map, all-front, all-back, all-filter-map, named-holds, name-holds}
 use Rattle.issue_make.proofs.Conditions.{keys-are, names-of, signers-of, numbers-of}
 use Rattle.issue_make.proofs.Listable.{listable-of}
 
@@ -100,7 +101,7 @@ certificate-can s keys row named have low certified = by (eqb row.desk 0) refl
         other (made_for s keys row) (standing_for s.issued row) (anchor_uri s.site) refl
         (certified (λ zero. let bad : eqb 0 0 ≡ false = subst (λ (d : ℕ). eqb d 0 ≡ false) zero e in absurd (false≢true (sym bad))))
 
--- ---- keys at their places
+-- ---- keys at their positions
 
 many : (s : IssueInput) (keys : Keys) (rows : List KeyRow) (ps : List Publisher) → map publishing ps ≡ map (publishing_of s keys) rows
     → length ps ≡ length rows
@@ -129,19 +130,19 @@ module _ (s : IssueInput) (live rows : List KeyRow) (n signers : ℕ) (plan : Ob
       subst (All (λ (row : KeyRow). row.desk < length s.names)) (sym (take-append-drop n rows))
       (names-of s live rows n signers is.ready.work is.ready.are)
 
-  issuer-can : (k : KeyAt) → IsPlaced rows k → IsCertified s (keys_at rows n) k.row.now → CanIssueIn plan signers k
+  issuer-can : (k : KeyAt) → IsPositioned rows k → IsCertified s (keys_at rows n) k.row.now → CanIssueIn plan signers k
   issuer-can k at certified =
-      let inside : k.place < length rows = slice_get_within rows k.place k.row.now at in
+      let inside : k.position < length rows = slice_get_within rows k.position k.row.now at in
       let long : length plan.publishers.items ≡ length rows = many s (keys_at rows n) rows plan.publishers.items is.is_plan.publishers in
       let low : k.row.now.desk < length s.names =
-      at-place (λ (row : KeyRow). row.desk < length s.names) rows k.place k.row.now at
+      at-position (λ (row : KeyRow). row.desk < length s.names) rows k.position k.row.now at
       (names-of s live rows n signers is.ready.work is.ready.are) in record {
         inside = omega arith;
-        certified = certificate-at s (keys_at rows n) rows plan.publishers.items k.place k.row.now is.is_plan.publishers at
+        certified = certificate-at s (keys_at rows n) rows plan.publishers.items k.position k.row.now is.is_plan.publishers at
             (certificate-can s (keys_at rows n) k.row.now is.ready.named have-names low certified);
-        number = at-place (λ (row : KeyRow). row.number < 2 ^ 62) rows k.place k.row.now at
+        number = at-position (λ (row : KeyRow). row.number < 2 ^ 62) rows k.position k.row.now at
             (numbers-of s live rows n signers is.ready.work is.ready.are);
-        signer = at-place (λ (row : KeyRow). row.signer < signers) rows k.place k.row.now at
+        signer = at-position (λ (row : KeyRow). row.signer < signers) rows k.position k.row.now at
             (signers-of s live rows n signers is.ready.work is.ready.are);
       }
 
@@ -222,15 +223,15 @@ all-named s keys named have =
     (all-filter-map IsNamed (roa_draft s keys) s.work.roas (λ roa. roa-named s keys roa named have)))
     (all-filter-map IsNamed (crl_draft s keys) s.work.points (crl-named s keys))
 
--- An object can be made for what is placed and named.
+-- An object can be made for what is positioned and named.
 kind-can : (rows : List KeyRow) (plan : ObjectPlan) (issuer : KeyAt) (uri : List ℕ) (kind : DraftKind)
-    → length plan.publishers.items ≡ length rows → length plan.revoked.items ≡ length rows → IsPlaced rows issuer
-    → IsSubjectPlaced rows kind → NamesRoa (kind_of kind) uri → CanBe plan issuer uri kind
-kind-can rows plan issuer uri (variants.Authority subject held) long short at placed named =
-    let inside : subject.place < length rows = slice_get_within rows subject.place subject.row.now placed in omega arith
-kind-can rows plan issuer uri (variants.Route origin) long short at placed named = named
-kind-can rows plan issuer uri variants.Crl long short at placed named =
-    let inside : issuer.place < length rows = slice_get_within rows issuer.place issuer.row.now at in omega arith
+    → length plan.publishers.items ≡ length rows → length plan.revoked.items ≡ length rows → IsPositioned rows issuer
+    → IsSubjectPositioned rows kind → NamesRoa (kind_of kind) uri → CanBe plan issuer uri kind
+kind-can rows plan issuer uri (variants.Authority subject held) long short at positioned named =
+    let inside : subject.position < length rows = slice_get_within rows subject.position subject.row.now positioned in omega arith
+kind-can rows plan issuer uri (variants.Route origin) long short at positioned named = named
+kind-can rows plan issuer uri variants.Crl long short at positioned named =
+    let inside : issuer.position < length rows = slice_get_within rows issuer.position issuer.row.now at in omega arith
 
 pub can-be-signed : (s : IssueInput) (live rows : List KeyRow) (n signers : ℕ) (plan : ObjectPlan) → IsReady s live rows n signers plan
     → CanBeSigned s plan signers
@@ -259,7 +260,7 @@ can-be-signed s live rows n signers plan is =
       given = ap length p.given ∙ length-map plan.drafts.items _;
       next = next ∙ sym long;
       listed = λ k d lt. issuer-can s live rows n signers plan is (get_or plan.manifests.items k d).issuer (p.manifest_issuers k d lt) (listed k d lt);
-      names = λ k d lt. at-place (λ (row : KeyRow). row.desk < length s.names) rows (get_or plan.manifests.items k d).issuer.place
+      names = λ k d lt. at-position (λ (row : KeyRow). row.desk < length s.names) rows (get_or plan.manifests.items k d).issuer.position
           (get_or plan.manifests.items k d).issuer.row.now (p.manifest_issuers k d lt)
           (names-of s live rows n signers is.ready.work is.ready.are);
       standing = is.ready.work.standing;

@@ -6,10 +6,10 @@ use Rattle.issue_values.specs.Publishers.{publishing}
 use Rattle.payloads.specs.declared.values.ListedFile.{ListedFile}
 use Rattle.payloads.specs.ManifestFormats.{file_view}
 use Rattle.key_roll.specs.declared.rows.KeyRow.{KeyRow}
-use Rattle.issue_drafts.specs.Finding.{Keys}
-use Rattle.issue_drafts.specs.Certificates.{IssueInput, input_of}
+use Rattle.issue_drafts.specs.WorkKeys.{Keys}
+use Rattle.issue_drafts.specs.IssueInput.{IssueInput, input_of}
 use Rattle.issue_drafts.specs.Drafts as words
-use Rattle.issue_drafts.specs.Views.{draft_of, IsPlaced, IsSubjectPlaced}
+use Rattle.issue_drafts.specs.Views.{draft_of, IsPositioned, IsSubjectPositioned}
 use Rattle.issue_drafts.specs.Serials.{given_serial}
 use Rattle.issue_drafts.specs.declared.draft.Draft as code
 use Rattle.issue_drafts.specs.declared.draft.ManifestDraft as manifests
@@ -39,8 +39,8 @@ pub are-drafts : (s : IssueInput) (keys : Keys) (rows : List KeyRow) (entries : 
     → ds ≡ plan.drafts.items → given ≡ plan.serials.given.items → IsObjectPlan s keys rows plan
     → AreDrafts (sign_input_of s keys rows entries files) ds given
 are-drafts s keys rows entries files plan ds given e f p = record {
-  issuers = subst (λ (l : List code.Draft). All (λ d. IsPlaced rows d.issuer) l) (sym e) p.issuers;
-  subjects = subst (λ (l : List code.Draft). All (λ d. IsSubjectPlaced rows d.kind) l) (sym e) p.subjects;
+  issuers = subst (λ (l : List code.Draft). All (λ d. IsPositioned rows d.issuer) l) (sym e) p.issuers;
+  subjects = subst (λ (l : List code.Draft). All (λ d. IsSubjectPositioned rows d.kind) l) (sym e) p.subjects;
   serials = f ∙ (p.given ∙ ap (map (λ (d : code.Draft). given_serial (words.drafts s keys) (draft_of d))) (sym e));
 }
 
@@ -54,7 +54,7 @@ pub are-manifests : (s : IssueInput) (keys : Keys) (rows : List KeyRow) (entries
     → (table : IsTable R (map (λ m. m.issuer.row.now) listed) (map (map file_view) lists))
     → AreManifests (sign_input_of s keys rows entries table.of) ms next lists
 are-manifests s keys rows entries plan R ms listed next lists e h f p table = record {
-  issuers = subst (λ (l : List manifests.ManifestDraft). All (λ d. IsPlaced rows d.issuer) l) (sym e) p.manifest_issuers;
+  issuers = subst (λ (l : List manifests.ManifestDraft). All (λ d. IsPositioned rows d.issuer) l) (sym e) p.manifest_issuers;
   serials = f ∙ p.next;
   files = table.is ∙ (twice table.of listed ∙ ap (map (λ (m : manifests.ManifestDraft). table.of m.issuer.row.now)) (h ∙ sym e));
 }

@@ -9,7 +9,7 @@ use Rattle.pub_set.specs.declared.steps.Change.{Change}
 use Rattle.pub_set.specs.Changes.{uri_of, change_at}
 use Rattle.pub_set.specs.Objects.{uri_cmp, Rise}
 use Rattle.key_roll.specs.declared.issued.IssuedRow.{IssuedRow}
-use Rattle.issue_drafts.specs.Certificates.{IssueInput}
+use Rattle.issue_drafts.specs.IssueInput.{IssueInput}
 use Rattle.issue_drafts.specs.laws.UriOrder.{rise-sorted}
 use Rattle.issue_sign.specs.declared.object.Object.{Object}
 use Rattle.issue_make.specs.declared.publishing.Numbered.{Numbered}
@@ -96,7 +96,7 @@ pub stage-wanted : (s : IssueInput) (n : Numbered) (objects listed : List Object
     → change_at ordered uri ≡ wanted_at s trace uri
 stage-wanted s n objects listed rows changes ordered trace uri h moved of =
     changes-wanted s trace rows (contents_of (objects ++ listed)) changes ordered uri h.changes_are
-    (h.rows_are ∙ rows-are s n objects listed trace h.whole.places of)
+    (h.rows_are ∙ rows-are s n objects listed trace h.whole.positions of)
     (contents-are s n objects listed trace of) moved (stage-changes-apart s n objects listed rows changes h)
 
 pub stage-count : (s : IssueInput) (n : Numbered) (objects listed : List Object) (rows ordered : List IssuedRow)
@@ -104,11 +104,11 @@ pub stage-count : (s : IssueInput) (n : Numbered) (objects listed : List Object)
     → Stage s n objects listed rows changes → IsPermutation rows ordered → IsOf s n objects listed trace
     → length ordered ≡ length (made_of trace)
 stage-count s n objects listed rows ordered changes trace h moved of =
-    rows-count s trace rows ordered (h.rows_are ∙ rows-are s n objects listed trace h.whole.places of) moved
+    rows-count s trace rows ordered (h.rows_are ∙ rows-are s n objects listed trace h.whole.positions of) moved
 
 pub stage-issued : (s : IssueInput) (n : Numbered) (objects listed : List Object) (rows ordered : List IssuedRow)
     (changes : List Change) (trace : IssuingTrace)
     → Stage s n objects listed rows changes → IsPermutation rows ordered → IsOf s n objects listed trace
     → All (λ x. Any (IsIssued s trace x) ordered) (made_of trace)
 stage-issued s n objects listed rows ordered changes trace h moved of =
-    rows-issued s trace rows ordered (h.rows_are ∙ rows-are s n objects listed trace h.whole.places of) moved
+    rows-issued s trace rows ordered (h.rows_are ∙ rows-are s n objects listed trace h.whole.positions of) moved

@@ -10,8 +10,8 @@ use Rattle.signer_api.specs.State.{SignerState}
 use Rattle.signer_ring.specs.Calls.{Call, after_calls, IsVouched}
 use Rattle.key_roll.specs.declared.rows.KeyRow.{KeyRow}
 use Rattle.issue_keys.specs.declared.fault.MakeFault.TheVariants.{Memory}
-use Rattle.issue_drafts.specs.Finding.{Keys, keys_at}
-use Rattle.issue_drafts.specs.Certificates.{IssueInput}
+use Rattle.issue_drafts.specs.WorkKeys.{Keys, keys_at}
+use Rattle.issue_drafts.specs.IssueInput.{IssueInput}
 use Rattle.issue_drafts.specs.Drafts as words
 use Rattle.issue_drafts.specs.Drafts.{Kind, AreOrdered, serial_behind}
 use Rattle.issue_drafts.specs.Drafts.Kind.{Certificate, Roa, Crl, Manifest}
@@ -26,7 +26,7 @@ use Rattle.issue_sign.specs.Spelled as signing
 use Rattle.issue_sign.specs.Made.{answers_of, signed, of_drafts, of_manifests}
 use Rattle.issue_sign.specs.declared.object.Object.{Object}
 use Rattle.issue_make.specs.Trace.{IssuingTrace, IsIssuingTrace, AreEntries, AreListed, AreFiles, hashed, made_of, IsSpelled}
-use Rattle.issue_make.specs.declared.outcome.Made.{Made}
+use Rattle.issue_make.specs.declared.made.Made.{Made}
 use Rattle.issue_make.specs.ObjectPlan.{puts}
 use Rattle.issue_make.specs.Made.{IsSigning}
 use Rattle.issue_make.specs.inner.Signing.{sign_input_of, AreSigned, IsSigningStop}
@@ -166,12 +166,12 @@ module _ (s : IssueInput) (live rows : List KeyRow) (n signers : ℕ) (plan : Ob
 
   -- ---- what they come to
 
-  next-at : All (λ (d : manifests.ManifestDraft). slice_get plan.serials.next.items d.issuer.place
+  next-at : All (λ (d : manifests.ManifestDraft). slice_get plan.serials.next.items d.issuer.position
       ≡ Some (serial_behind (words.drafts s (keys_at rows n)) d.issuer.row.now)) plan.manifests.items
   next-at = λ k d lt.
       let key = (get_or plan.manifests.items k d).issuer in
-      ap (λ (l : List ℕ). slice_get l key.place) ready.is_plan.next
-      ∙ (slice_get-map (serial_behind (words.drafts s (keys_at rows n))) rows key.place
+      ap (λ (l : List ℕ). slice_get l key.position) ready.is_plan.next
+      ∙ (slice_get-map (serial_behind (words.drafts s (keys_at rows n))) rows key.position
       ∙ ap (option_map (serial_behind (words.drafts s (keys_at rows n)))) (ready.is_plan.manifest_issuers k d lt))
 
   pub of-plan : IsOfPlan s plan objects trace

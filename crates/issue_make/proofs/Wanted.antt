@@ -17,7 +17,7 @@ use Rattle.pub_set.specs.declared.steps.Change.TheVariants.{Withdraw}
 use Rattle.pub_set.specs.Changes.{uri_of, change_at}
 use Rattle.pub_set.specs.Objects.{is_same, found_at}
 use Rattle.key_roll.specs.declared.issued.IssuedRow.{IssuedRow}
-use Rattle.issue_drafts.specs.Certificates.{IssueInput}
+use Rattle.issue_drafts.specs.IssueInput.{IssueInput}
 use Rattle.issue_drafts.specs.Drafts.{Kind}
 use Rattle.issue_drafts.specs.Drafts.Kind.{Certificate, Roa, Crl, Manifest}
 use Rattle.issue_drafts.specs.laws.UriOrder.{found-permuted}

@@ -13,8 +13,9 @@ use Rattle.key_roll.specs.declared.work.KeyName.{KeyName}
 use Rattle.issue_values.specs.Certificates.{IsEditionMoment}
 use Rattle.issue_values.specs.Bodies.{AreRevoked}
 use Rattle.issue_keys.specs.Keys.{id_of, kept_rows}
-use Rattle.issue_drafts.specs.Finding.{Keys, key_named}
-use Rattle.issue_drafts.specs.Certificates.{IssueInput, made_for, standing_for}
+use Rattle.issue_drafts.specs.WorkKeys.{Keys, key_named}
+use Rattle.issue_drafts.specs.IssueInput.{IssueInput}
+use Rattle.issue_drafts.specs.Publishers.{made_for, standing_for}
 use Rattle.issue_drafts.specs.Drafts.{manifests}
 use Rattle.issue_drafts.specs.Files.{is_kept, folder_at, IsListable}
 use Rattle.issue_make.specs.Trace.{AreKeys}
@@ -61,7 +62,7 @@ pub record CanMake (s : IssueInput) (rows : List KeyRow) (signers : ℕ) : Type 
   -- signers that are there
   pub new_signers : All (λ new. new.signer < signers) s.work.new_keys
   pub live_signers : All (λ row. row.signer < signers) rows
-  -- desks that are places in the list of names
+  -- desks that are positions in the list of names
   pub new_desks : All (λ new. new.desk < length s.names) s.work.new_keys
   pub desks : All (λ row. row.desk < length s.names) (kept_rows s.work rows)
   -- names that an authority can have

@@ -13,9 +13,9 @@ use Rattle.issue_keys.specs.declared.fault.MakeFault.{MakeFault}
 use Rattle.issue_keys.specs.declared.fault.MakeFault.TheVariants.{SignerFault, KeyClash, Memory}
 use Rattle.issue_keys.specs.Keys.{id_of, AreBegun, AreFresh}
 use Rattle.issue_keys.specs.Making.{making, AreApart, IsClash, IsShort}
-use Rattle.issue_drafts.specs.Finding.{all_keys}
-use Rattle.issue_drafts.specs.Certificates.{IssueInput}
-use Rattle.issue_make.specs.declared.outcome.Made.{Made}
+use Rattle.issue_drafts.specs.WorkKeys.{all_keys}
+use Rattle.issue_drafts.specs.IssueInput.{IssueInput}
+use Rattle.issue_make.specs.declared.made.Made.{Made}
 use Rattle.issue_sign.specs.Calls.{first_calls, second_calls, content_calls, last_calls}
 use Rattle.issue_make.specs.Trace.{IssuingTrace, IsIssuingTrace, all_of, made_of, wanted_at}
 use Rattle.issue_make.specs.Trace.{IsIssued}

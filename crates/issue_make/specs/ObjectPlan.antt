@@ -4,12 +4,13 @@ use Rattle.issue_values.specs.Publishers.{publishing}
 use Rattle.issue_values.specs.Bodies.{AreRevoked}
 use Rattle.key_roll.specs.declared.rows.KeyRow.{KeyRow}
 use Rattle.issue_keys.specs.Keys.{id_of}
-use Rattle.issue_drafts.specs.Finding.{Keys, Finds}
-use Rattle.issue_drafts.specs.Certificates.{IssueInput, publishing_of}
-use Rattle.issue_drafts.specs.declared.finder.KeyFinder.{KeyFinder}
+use Rattle.issue_drafts.specs.WorkKeys.{Keys, Finds}
+use Rattle.issue_drafts.specs.IssueInput.{IssueInput}
+use Rattle.issue_drafts.specs.Publishers.{publishing_of}
+use Rattle.issue_drafts.specs.declared.key_finder.KeyFinder.{KeyFinder}
 use Rattle.issue_drafts.specs.Drafts.{Draft, AreOrdered, serial_behind}
 use Rattle.issue_drafts.specs.Drafts as words
-use Rattle.issue_drafts.specs.Views.{draft_of, manifest_of, IsPlaced, IsSubjectPlaced}
+use Rattle.issue_drafts.specs.Views.{draft_of, manifest_of, IsPositioned, IsSubjectPositioned}
 use Rattle.issue_drafts.specs.Serials.{given_serial}
 use Rattle.issue_drafts.specs.Firsts.{AreFirsts}
 use Rattle.issue_drafts.specs.Revoking.{has_point, candidates}
@@ -37,10 +38,10 @@ pub record IsObjectPlan (s : IssueInput) (keys : Keys) (rows : List KeyRow) (pla
     : Type 0 where
   pub publishers : map publishing plan.publishers.items ≡ map (publishing_of s keys) rows
   pub drafts : AreOrdered (words.drafts s keys) (map draft_of plan.drafts.items)
-  pub issuers : All (λ d. IsPlaced rows d.issuer) plan.drafts.items
-  pub subjects : All (λ d. IsSubjectPlaced rows d.kind) plan.drafts.items
+  pub issuers : All (λ d. IsPositioned rows d.issuer) plan.drafts.items
+  pub subjects : All (λ d. IsSubjectPositioned rows d.kind) plan.drafts.items
   pub manifests : AreOrdered (words.manifests s keys) (map manifest_of plan.manifests.items)
-  pub manifest_issuers : All (λ d. IsPlaced rows d.issuer) plan.manifests.items
+  pub manifest_issuers : All (λ d. IsPositioned rows d.issuer) plan.manifests.items
   pub touched : AreTouched s (puts s keys) plan.touched
   pub listed : AreTouched s
       (map draft_of plan.drafts.items ++ map manifest_of plan.manifests.items) plan.touched

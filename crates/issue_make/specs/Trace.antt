@@ -17,8 +17,8 @@ use Rattle.key_roll.specs.declared.issued.What.TheVariants as Whats
 use Rattle.issue_values.specs.Certificates.{certificate_life, point_life}
 use Rattle.issue_keys.specs.Keys.{id_of, kept_rows, AreFresh}
 use Rattle.issue_keys.specs.Making.{AreApart}
-use Rattle.issue_drafts.specs.Finding.{Keys, all_keys}
-use Rattle.issue_drafts.specs.Certificates.{IssueInput}
+use Rattle.issue_drafts.specs.WorkKeys.{Keys, all_keys}
+use Rattle.issue_drafts.specs.IssueInput.{IssueInput}
 use Rattle.issue_drafts.specs.Drafts.{Draft, Kind, drafts, manifests, AreOrdered, serial_at}
 use Rattle.issue_drafts.specs.Drafts.{serial_behind}
 use Rattle.issue_drafts.specs.Drafts.Kind.{Certificate, Roa, Crl, Manifest}

@@ -4,7 +4,7 @@ ghost use Rattle.std.specs.Prelude.{◌≡◌, ◌≤◌, ◌++◌, map, length,
 ghost use Rattle.issue_values.specs.Certificates.{IsEditionMoment};
 ghost use Rattle.issue_drafts.specs.Views.{kind_of, draft_of, manifest_of};
 ghost use Rattle.issue_make.specs.Trace.{life_of};
-ghost use Rattle.issue_make.specs.inner.Putting.{what_of, row_of, draft_rows, next_serials, hashes_of, HavePlaces};
+ghost use Rattle.issue_make.specs.inner.Putting.{what_of, row_of, draft_rows, next_serials, hashes_of, HavePositions};
 
 use issue_drafts::{Draft, DraftKind, ManifestDraft};
 use issue_sign::Object;
@@ -95,8 +95,14 @@ pub fn push_draft_rows(
     ensures { OnOk result (rows.new.items ≡ rows.old.items
         ++ draft_rows moment (map draft_of drafts.now) given.now (hashes_of objects.now)) }
 {
-    for (place, draft) in drafts.iter().enumerate() {
-        let row = draft_row(alloc, moment, draft, given[place], objects[place].hash)?;
+    for (position, draft) in drafts.iter().enumerate() {
+        let row = draft_row(
+            alloc,
+            moment,
+            draft,
+            given[position],
+            objects[position].hash,
+        )?;
         rows.push(row)?;
     }
     Ok(())
@@ -113,14 +119,14 @@ pub fn push_manifest_rows(
     rows: &mut Vec<IssuedRow>,
 ) -> Result<(), AllocError>
     requires moment { IsEditionMoment moment }
-    requires places { HavePlaces drafts.now next.now }
+    requires positions { HavePositions drafts.now next.now }
     requires objects { length objects.now ≡ length drafts.now }
     ensures { OnOk result (rows.new.items ≡ rows.old.items
         ++ draft_rows moment (map manifest_of drafts.now) (next_serials next.now drafts.now) (hashes_of objects.now)) }
 {
-    for (place, draft) in drafts.iter().enumerate() {
-        let serial = next[draft.issuer.place];
-        let row = manifest_row(alloc, moment, draft, serial, objects[place].hash)?;
+    for (position, draft) in drafts.iter().enumerate() {
+        let serial = next[draft.issuer.position];
+        let row = manifest_row(alloc, moment, draft, serial, objects[position].hash)?;
         rows.push(row)?;
     }
     Ok(())

@@ -4,7 +4,7 @@ ghost use Rattle.std.specs.Prelude.{◌≡◌, ◌+◌, ◌<◌, ◌≤◌, ◌^
 ghost use Rattle.std.specs.List.Sorted.{IsSortedBy};
 ghost use Rattle.std.specs.Ordering.{is_lt};
 ghost use Rattle.issue_drafts.specs.Drafts.{serial_behind};
-ghost use Rattle.issue_drafts.specs.Certificates.{IssueInput};
+ghost use Rattle.issue_drafts.specs.IssueInput.{IssueInput};
 ghost use Rattle.issue_drafts.specs.Revoking.{has_point};
 ghost use Rattle.issue_make.specs.Trace.{IssuingTrace, all_of, row_after, rank, is_before};
 ghost use Rattle.issue_make.specs.inner.Keys.{row_with, rows_with, AreAfter};
@@ -81,8 +81,14 @@ fn unordered(
 {
     let mut rows = Vec::with_capacity(alloc, keys.len())?;
     for list in revoked {
-        let place = rows.len();
-        let row = row_after(moment, &keys[place], points[place], next[place], list);
+        let position = rows.len();
+        let row = row_after(
+            moment,
+            &keys[position],
+            points[position],
+            next[position],
+            list,
+        );
         rows.push(row)?;
     }
     Ok(rows)

@@ -4,12 +4,12 @@
 #![tactic(auto)]
 
 mod counting;
+mod edition_keys;
 mod issued;
 mod key_rows;
-mod keys;
+mod made;
 mod making;
 mod objects;
-mod outcome;
 mod outcomes;
 mod plans;
 mod publishing;
@@ -18,6 +18,6 @@ mod standing;
 pub use counting::signatures;
 pub use issue_keys::MakeFault;
 pub use key_rows::rows_after;
+pub use made::Made;
 pub use making::make;
-pub use outcome::Made;
-pub use publishing::{Numbered, Published, publish};
+pub use publishing::{ChangesWithRows, Numbered, publish};

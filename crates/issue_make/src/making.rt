@@ -3,21 +3,21 @@
 ghost use Rattle.std.specs.Prelude.{List, length, IfOk, IfErr};
 ghost use Rattle.signer_ring.specs.Ring.{Keeps};
 ghost use Rattle.key_roll.specs.declared.rows.KeyRow.{KeyRow};
-ghost use Rattle.issue_drafts.specs.Finding.{keys_at};
-ghost use Rattle.issue_drafts.specs.Certificates.{input_of};
+ghost use Rattle.issue_drafts.specs.WorkKeys.{keys_at};
+ghost use Rattle.issue_drafts.specs.IssueInput.{input_of};
 ghost use Rattle.issue_make.specs.CanMake.{input_with, CanMake};
 ghost use Rattle.issue_make.specs.inner.Ready.{AreReady, AreSomehowReady};
 ghost use Rattle.issue_make.specs.inner.Signing.{IsSigningStop};
 ghost use Rattle.issue_make.specs.inner.Finished.{IsFinished};
 ghost use Rattle.issue_make.specs.Made.{IsMade, IsStop};
 
-use crate::keys::{EditionKeys, edition_keys};
+use crate::edition_keys::{EditionKeys, edition_keys};
+use crate::made::Made;
 use crate::objects::sign_objects;
-use crate::outcome::Made;
 use crate::outcomes::outcome;
 use crate::plans::plan_objects;
 use authority_book::NameRow;
-use issue_drafts::{IssueInput, KeyFinder};
+use issue_drafts::{IssueParts, KeyFinder};
 use issue_keys::MakeFault;
 use issue_values::can_be_named;
 use key_ids::Site;
@@ -29,7 +29,7 @@ use std::alloc::Global;
 /// Makes the objects of the work over the edition's keys.
 fn make_objects<S: Signer>(
     alloc: Global,
-    input: &IssueInput<'_>,
+    input: &IssueParts<'_>,
     keys: &EditionKeys,
     ring: &mut Ring<S>,
 ) -> Result<Made, MakeFault>
@@ -81,7 +81,7 @@ pub fn make<S: Signer>(
     ensures kept { Keeps ring.old ring.new }
 {
     let issued = issued.rows.as_slice();
-    let input = IssueInput {
+    let input = IssueParts {
         work,
         names,
         issued,

@@ -3,14 +3,14 @@
 ghost use Rattle.std.specs.Prelude.{◌≡◌, List, map, length, IfOk, IfErr};
 ghost use Rattle.signer_ring.specs.Ring.{Keeps};
 ghost use Rattle.key_roll.specs.declared.rows.KeyRow.{KeyRow};
-ghost use Rattle.issue_drafts.specs.Finding.{Keys};
-ghost use Rattle.issue_drafts.specs.Certificates.{input_of};
+ghost use Rattle.issue_drafts.specs.WorkKeys.{Keys};
+ghost use Rattle.issue_drafts.specs.IssueInput.{input_of};
 ghost use Rattle.issue_sign.specs.Objects.{Entries};
 ghost use Rattle.issue_make.specs.ObjectPlan.{IsObjectPlan};
 ghost use Rattle.issue_make.specs.inner.Signing.{CanBeSigned, AreSigned, IsSigningStop};
 
 use crate::plans::ObjectPlan;
-use issue_drafts::{IssueInput, files};
+use issue_drafts::{IssueParts, files};
 use issue_keys::MakeFault;
 use issue_sign::{Object, SignInput, sign_drafts, sign_manifests};
 use signer_api::Signer;
@@ -40,7 +40,7 @@ fn hashes_of(alloc: Global, objects: &[Object]) -> Result<Vec<[u8; 32]>, AllocEr
 /// Signs the objects of a plan: the manifests, which list the others, behind them.
 pub fn sign_objects<S: Signer>(
     alloc: Global,
-    input: &IssueInput<'_>,
+    input: &IssueParts<'_>,
     plan: &ObjectPlan<'_>,
     ring: &mut Ring<S>,
 ) -> Result<Objects, MakeFault>

@@ -3,27 +3,27 @@
 ghost use Rattle.std.specs.Prelude.{◌≢◌, ◌++◌, AllPairs, IfOk};
 ghost use Rattle.issue_values.specs.Certificates.{IsEditionMoment};
 ghost use Rattle.pub_set.specs.Objects.{Rise};
-ghost use Rattle.issue_drafts.specs.Certificates.{input_of};
+ghost use Rattle.issue_drafts.specs.IssueInput.{input_of};
 ghost use Rattle.issue_make.specs.Trace.{IssuingTrace};
 ghost use Rattle.issue_make.specs.inner.Outcomes.{uris_in, AreWhole, CanComeOut, IsOfPlan, IsOfKeys, IsPublication, IsOutcome};
 
 use crate::counting::signatures;
 use crate::key_rows::rows_after;
+use crate::made::Made;
 use crate::objects::Objects;
-use crate::outcome::Made;
 use crate::plans::ObjectPlan;
-use crate::publishing::{Numbered, Published, publish};
-use issue_drafts::IssueInput;
+use crate::publishing::{ChangesWithRows, Numbered, publish};
+use issue_drafts::IssueParts;
 use key_roll::KeyRow;
 use std::alloc::{AllocError, Global};
 
 /// What the objects of a plan publish.
 fn publish_plan(
     alloc: Global,
-    input: &IssueInput<'_>,
+    input: &IssueParts<'_>,
     plan: &ObjectPlan<'_>,
     objects: Objects,
-) -> Result<Published, AllocError>
+) -> Result<ChangesWithRows, AllocError>
     requires moment { IsEditionMoment input.now.work.now.moment }
     requires standing { Rise (λ row. row.uri) input.now.issued.now }
     requires once { AllPairs (λ a b. a ≢ b) (uris_in plan.now ++ input.now.work.now.withdrawn) }
@@ -45,7 +45,7 @@ fn publish_plan(
 /// What the objects of a plan come to.
 pub fn outcome(
     alloc: Global,
-    input: &IssueInput<'_>,
+    input: &IssueParts<'_>,
     rows: &[KeyRow],
     plan: ObjectPlan<'_>,
     objects: Objects,

@@ -1,12 +1,12 @@
 //! The objects of an edition before they are signed.
 
 ghost use Rattle.std.specs.Prelude.{IfOk};
-ghost use Rattle.issue_drafts.specs.Finding.{keys_at};
-ghost use Rattle.issue_drafts.specs.Certificates.{input_of};
+ghost use Rattle.issue_drafts.specs.WorkKeys.{keys_at};
+ghost use Rattle.issue_drafts.specs.IssueInput.{input_of};
 ghost use Rattle.issue_make.specs.ObjectPlan.{CanPlanObjects, IsObjectPlan};
 
 use issue_drafts::{
-    Draft, Drafting, IssueInput, KeyFinder, ManifestDraft, Serials, Touched, drafts, entries,
+    Draft, DraftInput, IssueParts, KeyFinder, ManifestDraft, Serials, Touched, drafts, entries,
     give_serials, manifest_drafts, points, publishers,
 };
 use issue_values::Publisher;
@@ -35,7 +35,7 @@ pub struct ObjectPlan<'a> {
 /// Plans the objects of the work over the rows of the edition's keys.
 pub fn plan_objects<'a>(
     alloc: Global,
-    input: &'a IssueInput<'a>,
+    input: &'a IssueParts<'a>,
     rows: &'a [KeyRow],
     finder: &'a KeyFinder,
 ) -> Result<ObjectPlan<'a>, AllocError>
@@ -43,7 +43,7 @@ pub fn plan_objects<'a>(
     ensures { IfOk result (IsObjectPlan (input_of input.now) (keys_at rows.now finder.now.first_fresh) rows.now) }
 {
     let publishers = publishers(alloc, input, rows, finder)?;
-    let at = Drafting {
+    let at = DraftInput {
         input,
         rows,
         finder,

@@ -5,13 +5,13 @@ ghost use Rattle.std.specs.List.{filter_map};
 ghost use Rattle.issue_values.specs.Certificates.{IsEditionMoment};
 ghost use Rattle.pub_set.specs.Changes.{uri_of, change_at};
 ghost use Rattle.pub_set.specs.Objects.{Rise};
-ghost use Rattle.issue_drafts.specs.Certificates.{input_of};
+ghost use Rattle.issue_drafts.specs.IssueInput.{input_of};
 ghost use Rattle.issue_make.specs.Trace.{IssuingTrace, made_of, wanted_at, IsIssued};
 ghost use Rattle.issue_make.specs.inner.Putting.{put_by, withdrawal_by, puts_by, contents_of, rows_of, uris_of, IsWhole, IsOf};
 
 use crate::issued::{push_draft_rows, push_manifest_rows};
 use crate::standing::{compare, hash_at};
-use issue_drafts::{Draft, IssueInput, ManifestDraft};
+use issue_drafts::{Draft, IssueParts, ManifestDraft};
 use issue_sign::Object;
 use items::Items;
 use key_roll::IssuedRow;
@@ -33,7 +33,7 @@ pub struct Numbered<'a> {
 
 /// What an edition publishes.
 #[derive(Debug, Drop)]
-pub struct Published {
+pub struct ChangesWithRows {
     /// By rising URI.
     pub changes: Items<Change>,
     /// The rows of the objects that are put, by rising URI.
@@ -133,7 +133,7 @@ fn rows_of(
 /// The changes, puts before withdrawals.
 fn changes_of(
     alloc: Global,
-    at: &IssueInput<'_>,
+    at: &IssueParts<'_>,
     rows: &[IssuedRow],
     objects: Vec<Object>,
 ) -> Result<Vec<Change>, AllocError>
@@ -161,11 +161,11 @@ fn joined(objects: Vec<Object>, listed: Vec<Object>) -> Result<Vec<Object>, Allo
 /// What an edition publishes: its changes, and the rows of what it puts.
 pub fn publish(
     alloc: Global,
-    at: &IssueInput<'_>,
+    at: &IssueParts<'_>,
     numbered: &Numbered<'_>,
     objects: Vec<Object>,
     listed: Vec<Object>,
-) -> Result<Published, AllocError>
+) -> Result<ChangesWithRows, AllocError>
     requires moment { IsEditionMoment at.now.work.now.moment }
     requires standing { Rise (λ row. row.uri) at.now.issued.now }
     requires whole { IsWhole numbered.now (length objects.items) (length listed.items) }
@@ -191,7 +191,7 @@ pub fn publish(
     let mut changes = changes_of(alloc, at, &rows, all)?;
     changes.sort_by(|a, b| compare(a.uri(), b.uri()))?;
     rows.sort_by(|a, b| compare(&a.uri, &b.uri))?;
-    Ok(Published {
+    Ok(ChangesWithRows {
         changes: Items::new(changes),
         issued: Items::new(rows),
     })

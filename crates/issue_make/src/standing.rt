@@ -17,7 +17,7 @@ pub fn compare(a: &Uri, b: &Uri) -> Ordering
 }
 
 /// Where a URI stands among rows, or else where it would stand.
-fn place_of(issued: &[IssuedRow], uri: &Uri) -> Result<usize, usize>
+fn position_of(issued: &[IssuedRow], uri: &Uri) -> Result<usize, usize>
     ensures bound { IsSearchInRange result (length issued.now) }
     ensures found { IsBinarySearchResult (λ row. uri_cmp row.uri uri.now) issued.now result }
 {
@@ -29,8 +29,8 @@ pub fn hash_at(issued: &[IssuedRow], uri: &Uri) -> Option<[u8; 32]>
     requires { Rise (λ row. row.uri) issued.now }
     ensures { result ≡ hash_in issued.now uri.now }
 {
-    match place_of(issued, uri) {
-        Ok(place) => Some(issued[place].hash),
+    match position_of(issued, uri) {
+        Ok(position) => Some(issued[position].hash),
         Err(_) => None,
     }
 }

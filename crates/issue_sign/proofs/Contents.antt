@@ -18,10 +18,11 @@ use Rattle.issue_sign.specs.Signed.{object_bytes, IsEnd, IsObject}
 use Rattle.issue_keys.specs.declared.fault.MakeFault.{MakeFault}
 use Rattle.issue_keys.specs.declared.fault.MakeFault.TheVariants.{Memory}
 use Rattle.issue_keys.specs.Faults.{fault_of}
-use Rattle.issue_drafts.specs.Certificates.{IssueInput, input_of, publishing_of}
+use Rattle.issue_drafts.specs.IssueInput.{IssueInput, input_of}
+use Rattle.issue_drafts.specs.Publishers.{publishing_of}
 use Rattle.issue_drafts.specs.Drafts.{serial_behind}
 use Rattle.issue_drafts.specs.Drafts.Kind.{Manifest}
-use Rattle.issue_drafts.specs.Views.{manifest_of, IsPlaced}
+use Rattle.issue_drafts.specs.Views.{manifest_of, IsPositioned}
 use Rattle.issue_drafts.specs.declared.draft.ManifestDraft.{ManifestDraft}
 use Rattle.issue_sign.specs.declared.sign_input.SignInput.{SignInput}
 use Rattle.issue_sign.specs.declared.object.Object.{Object}
@@ -36,10 +37,10 @@ use Rattle.issue_sign.specs.inner.Steps.{manifest_text, IsContent, AreContents, 
 use Rattle.issue_sign.proofs.Lists.{with_answers, pairs-nil, pairs-push}
 use Rattle.issue_sign.proofs.Going.{Stays, IsSpread, with_last, called-one, first-called-more, first-none, first-short, first-stop}
 use Rattle.issue_sign.proofs.Halts.{halt-as, halt-of-end}
-use Rattle.issue_sign.proofs.Places.{mapped-at, all-at, IsTurn}
+use Rattle.issue_sign.proofs.Positions.{mapped-at, all-at, IsTurn}
 use Rattle.issue_sign.proofs.Said.{publishes}
 use Rattle.issue_sign.proofs.Seconds.{answers-of-once}
-use Rattle.issue_sign.proofs.Finishing.{Finishing, IsPlace, place, known_of, finishing-start, finishing-more, finishing-short, finishing-stop, finishing-end}
+use Rattle.issue_sign.proofs.Finishing.{Finishing, IsPosition, position, known_of, finishing-start, finishing-more, finishing-short, finishing-stop, finishing-end}
 
 abbrev pub content_of : IssueInput → SignInputValue → Signed → Call
 content_of s b x = by_once x.draft.issuer (attributes s ObjectKinds.Manifest (manifest_content s b.files x.draft.issuer)) x.answers
@@ -47,14 +48,14 @@ content_of s b x = by_once x.draft.issuer (attributes s ObjectKinds.Manifest (ma
 abbrev pub lasts_of : IssueInput → SignInputValue → List Signed → List Call
 lasts_of s b made = last_calls s b.keys b.all made
 
--- The manifest that was read is the one at its place.
+-- The manifest that was read is the one at its position.
 manifest-here : (drafts : List ManifestDraft) (i : ℕ) (draft : ManifestDraft) → i < length drafts → draft ≡ get_or drafts i draft
     → get_or (map manifest_of drafts) i (manifest_of draft) ≡ manifest_of draft
 manifest-here drafts i draft lt is = get_or-map manifest_of drafts i draft (manifest_of draft) lt ∙ ap manifest_of (sym is)
 
 -- ---- contents
 
--- The files that were read are those of the manifest at their place.
+-- The files that were read are those of the manifest at their position.
 pub files-at : (b : SignInputValue) (drafts : List ManifestDraft) (next : List ℕ) (lists left : List (List ListedFile)) (k : ℕ) (draft : ManifestDraft)
     (list : List ListedFile) → AreManifests b drafts next lists → IsTurn ManifestDraft (List ListedFile) drafts lists k left draft list
     → map file_view list ≡ b.files draft.issuer.row.now
@@ -134,32 +135,32 @@ contents-stop s b drafts contents draft files old now after fault n e are halt =
 -- What a manifest and its serial are to the basis.
 pub issuer-at : (b : SignInputValue) (drafts : List ManifestDraft) (next : List ℕ) (lists : List (List ListedFile)) (contents left : List SignedContent)
     (k : ℕ) (draft : ManifestDraft) (c : SignedContent) → AreManifests b drafts next lists
-    → IsTurn ManifestDraft SignedContent drafts contents k left draft c → IsPlaced b.rows draft.issuer
+    → IsTurn ManifestDraft SignedContent drafts contents k left draft c → IsPositioned b.rows draft.issuer
 issuer-at b drafts next lists contents left k draft c are t =
-    all-at (λ (d : ManifestDraft). IsPlaced b.rows d.issuer) drafts k draft are.issuers t.few t.is
+    all-at (λ (d : ManifestDraft). IsPositioned b.rows d.issuer) drafts k draft are.issuers t.few t.is
 
 pub serial-at : (b : SignInputValue) (drafts : List ManifestDraft) (next : List ℕ) (lists : List (List ListedFile)) (contents left : List SignedContent)
     (k : ℕ) (draft : ManifestDraft) (c : SignedContent) → AreManifests b drafts next lists
-    → IsTurn ManifestDraft SignedContent drafts contents k left draft c → get_or next draft.issuer.place 0 ≡ serial_behind b.all draft.issuer.row.now
+    → IsTurn ManifestDraft SignedContent drafts contents k left draft c → get_or next draft.issuer.position 0 ≡ serial_behind b.all draft.issuer.row.now
 serial-at b drafts next lists contents left k draft c are t =
-    mapped-at (serial_behind b.all) b.rows next draft.issuer.place draft.issuer.row.now 0 are.serials (issuer-at b drafts next lists contents left k draft c are t)
+    mapped-at (serial_behind b.all) b.rows next draft.issuer.position draft.issuer.row.now 0 are.serials (issuer-at b drafts next lists contents left k draft c are t)
 
 -- ---- one manifest
 
 -- What is known of the certificate of a manifest, whichever basis it is of.
 abbrev pub IsManifestCert : SignInput → ManifestDraft → ℕ → List ℕ → Cert → Type 0
-IsManifestCert sign_input draft given key cert = (b : SignInputValue) → IsSignInput sign_input b → IsPlaced b.rows draft.issuer
+IsManifestCert sign_input draft given key cert = (b : SignInputValue) → IsSignInput sign_input b → IsPositioned b.rows draft.issuer
     → given ≡ serial_behind b.all draft.issuer.row.now → cert_value cert ≡ manifest_certificate (input_of sign_input.input.now) b.keys b.all
     (manifest_of draft) key
 
 pub certificate-made : {E : Type 0} (sign_input : SignInput) (draft : ManifestDraft) (key : List ℕ) (given : ℕ) (by : Publisher) (r : Result Cert E)
-    → draft.issuer.place < length sign_input.publishers.now → by ≡ get_or sign_input.publishers.now draft.issuer.place by
+    → draft.issuer.position < length sign_input.publishers.now → by ≡ get_or sign_input.publishers.now draft.issuer.position by
     → IfOk r (λ cert. cert_value cert ≡ values.manifest_certificate sign_input.input.now.site.now sign_input.input.now.work.now.moment
     (publishing by) key given) → IfOk r (IsManifestCert sign_input draft given key)
-certificate-made sign_input draft key given by (Ok cert) lt is made = λ b basis placed serial.
+certificate-made sign_input draft key given by (Ok cert) lt is made = λ b basis positioned serial.
     made
     ∙ (ap (λ (p : Publishing). values.manifest_certificate sign_input.input.now.site.now sign_input.input.now.work.now.moment p key given)
-    (publishes sign_input b draft.issuer by basis placed lt is)
+    (publishes sign_input b draft.issuer by basis positioned lt is)
     ∙ ap (λ (n : ℕ). values.manifest_certificate sign_input.input.now.site.now sign_input.input.now.work.now.moment
     (publishing_of (input_of sign_input.input.now) b.keys draft.issuer.row.now) key n) serial)
 certificate-made sign_input draft key given by (Err e) lt is made = tt
@@ -226,13 +227,13 @@ manifests-start s b drafts contents objects old now e long are =
 abbrev pub IsManifestTurn : List ManifestDraft → List SignedContent → List Object → List SignedContent → ManifestDraft → SignedContent → Type 0
 IsManifestTurn drafts contents objects left draft c = IsTurn ManifestDraft SignedContent drafts contents (length objects) left draft c
 
-manifest-place : (drafts : List ManifestDraft) (contents : List SignedContent) (objects : List Object) (left : List SignedContent)
+manifest-position : (drafts : List ManifestDraft) (contents : List SignedContent) (objects : List Object) (left : List SignedContent)
     (draft : ManifestDraft) (c : SignedContent) → IsManifestTurn drafts contents objects left draft c
-    → IsPlace (map manifest_of drafts) objects (manifest_of draft)
-manifest-place drafts contents objects left draft c t =
+    → IsPosition (map manifest_of drafts) objects (manifest_of draft)
+manifest-position drafts contents objects left draft c t =
     let many = length-map drafts manifest_of in
     let few = t.few in
-    place (map manifest_of drafts) objects (manifest_of draft) (omega arith) (manifest-here drafts (length objects) draft t.few t.is)
+    position (map manifest_of drafts) objects (manifest_of draft) (omega arith) (manifest-here drafts (length objects) draft t.few t.is)
 
 pub manifest-more : Stays → (s : IssueInput) (b : SignInputValue) (drafts : List ManifestDraft) (contents : List SignedContent) (objects : List Object)
     (left : List SignedContent) (draft : ManifestDraft) (c : SignedContent) (o : Object) (old now after : List SignerState)
@@ -244,7 +245,7 @@ manifest-more stays s b drafts contents objects left draft c o old now after t w
     finishing-more stays (of_manifests s b) (content_of s b) (lasts_of s b) (known_of s b) (map manifest_of drafts)
     (map (content_of s b) (signed (map manifest_of drafts) (map content_answers contents)))
     objects (map content_answers left) (content_answers c) old now after d o (spread s b)
-    (manifest-place drafts contents objects left draft c t) was
+    (manifest-position drafts contents objects left draft c t) was
     (ap (λ (a : Answers). content_of s b (with_answers d a)) e)
     (called-one now after (last_call s b d (answers_of o).once o.signature.bytes)
     (subst (λ (a : Answers). IsCalled now after (last_call s b d a.once o.signature.bytes)) (sym e) is.call))
@@ -259,7 +260,7 @@ manifest-stop s b drafts contents objects left draft c old now after fault t was
     finishing-stop (of_manifests s b) (content_of s b) (lasts_of s b) (known_of s b) (map manifest_of drafts)
     (map (content_of s b) (signed (map manifest_of drafts) (map content_answers contents)))
     objects (map content_answers left) (content_answers c) old now after (manifest_of draft) (λ a. last_call s b (manifest_of draft) c.once.key.bytes a.last) fault
-    (λ made. refl) (spread s b) (manifest-place drafts contents objects left draft c t) was (λ a. refl) (λ a. refl) halt
+    (λ made. refl) (spread s b) (manifest-position drafts contents objects left draft c t) was (λ a. refl) (λ a. refl) halt
 
 pub manifests-short : (s : IssueInput) (b : SignInputValue) (drafts : List ManifestDraft) (contents : List SignedContent) (objects : List Object)
     (left : List SignedContent) (old now : List SignerState) → AreEnding s b drafts contents objects left old now

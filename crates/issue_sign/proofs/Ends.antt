@@ -4,7 +4,7 @@ use Rattle.std.specs.Prelude.{Result, Ok, Err, IfOk, IfErr}
 use Rattle.signer_api.specs.State.{SignerState}
 use Rattle.payloads.specs.declared.values.ListedFile.{ListedFile}
 use Rattle.issue_keys.specs.declared.fault.MakeFault.{MakeFault}
-use Rattle.issue_drafts.specs.Certificates.{input_of}
+use Rattle.issue_drafts.specs.IssueInput.{input_of}
 use Rattle.issue_drafts.specs.Views.{draft_of, manifest_of}
 use Rattle.issue_drafts.specs.declared.draft.Draft as code
 use Rattle.issue_drafts.specs.declared.draft.ManifestDraft.{ManifestDraft}

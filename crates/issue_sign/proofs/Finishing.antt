@@ -7,7 +7,7 @@ use Rattle.sha2.specs.Sha256.{sha256}
 use Rattle.signer_api.specs.State.{SignerState}
 use Rattle.signer_ring.specs.Calls.{Call}
 use Rattle.issue_keys.specs.declared.fault.MakeFault.{MakeFault}
-use Rattle.issue_drafts.specs.Certificates.{IssueInput}
+use Rattle.issue_drafts.specs.IssueInput.{IssueInput}
 use Rattle.issue_drafts.specs.Drafts.{Draft}
 use Rattle.issue_sign.specs.declared.object.Object.{Object}
 use Rattle.issue_sign.specs.Objects.{Answers, Signed}
@@ -42,13 +42,13 @@ finishing-start way f second Known ds objects left old now spread e long are =
     })
 
 -- Where the next object stands.
-pub record IsPlace (ds : List Draft) (objects : List Object) (d : Draft) : Type 0 where
+pub record IsPosition (ds : List Draft) (objects : List Object) (d : Draft) : Type 0 where
   pub few : length objects < length ds
   pub done : get_or ds (length (map answers_of objects)) d ≡ d
   pub here : get_or ds (length objects) d ≡ d
 
-pub place : (ds : List Draft) (objects : List Object) (d : Draft) → length objects < length ds → get_or ds (length objects) d ≡ d → IsPlace ds objects d
-place ds objects d lt here = record {
+pub position : (ds : List Draft) (objects : List Object) (d : Draft) → length objects < length ds → get_or ds (length objects) d ≡ d → IsPosition ds objects d
+position ds objects d lt here = record {
   few = lt;
   done = ap (λ (n : ℕ). get_or ds n d) (length-map objects answers_of) ∙ here;
   here = here;
@@ -56,7 +56,7 @@ place ds objects d lt here = record {
 
 pub finishing-more : Stays → (way : Way) (f : Signed → Call) (second : List Signed → List Call) (Known : Signed → Type 0) (ds : List Draft)
     (firsts : List Call) (objects : List Object) (left : List Answers) (h : Answers) (old now after : List SignerState) (d : Draft) (o : Object)
-    → IsSpread second → IsPlace ds objects d → Finishing way f second Known ds firsts objects (h ∷ left) old now
+    → IsSpread second → IsPosition ds objects d → Finishing way f second Known ds firsts objects (h ∷ left) old now
     → f (with_answers d (answers_of o)) ≡ f (with_answers d h) → AreCalled now after (second (with_answers d (answers_of o) ∷ []))
     → IsFor way Known d o → Finishing way f second Known ds firsts (objects ++ o ∷ []) left old after
 finishing-more stays way f second Known ds firsts objects left h old now after d o spread at was same calls is =
@@ -82,7 +82,7 @@ finishing-short way f second Known ds firsts objects left old now is spread was 
 
 pub finishing-stop : (way : Way) (f : Signed → Call) (second : List Signed → List Call) (Known : Signed → Type 0) (ds : List Draft)
     (firsts : List Call) (objects : List Object) (left : List Answers) (h : Answers) (old now after : List SignerState) (d : Draft)
-    (call : Answers → Call) (fault : MakeFault) → IsWay way f second → IsSpread second → IsPlace ds objects d
+    (call : Answers → Call) (fault : MakeFault) → IsWay way f second → IsSpread second → IsPosition ds objects d
     → Finishing way f second Known ds firsts objects (h ∷ left) old now → ((a : Answers) → f (with_answers d (with_last h a)) ≡ f (with_answers d h))
     → ((a : Answers) → second (with_answers d (with_last h a) ∷ []) ≡ call a ∷ []) → IsHalt call now after fault → IsStop way ds old after fault
 finishing-stop way f second Known ds firsts objects left h old now after d call fault is spread at was same calls halt =

@@ -103,7 +103,7 @@ first-called-more stays f ds old now after xs a d lt here was is =
 pub first-none : (f : Signed → Call) (ds : List Draft) (ring : List SignerState) → AreCalled ring ring (map f (signed ds []))
 first-none f ds ring = called-as ring ring [] (map f (signed ds [])) (sym (ap (map f) (signed-nil ds))) (none-called ring)
 
--- What is left of drafts at a place.
+-- What is left of drafts at a position.
 pub left-at : (ds : List Draft) (k : ℕ) (d : Draft) → k < length ds → get_or ds k d ≡ d → drop k ds ≡ d ∷ drop (k + 1) ds
 left-at ds k d lt here = drop_more ds k d lt ∙ ap (λ (e : Draft). e ∷ drop (k + 1) ds) here
 

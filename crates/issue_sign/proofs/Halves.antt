@@ -12,7 +12,7 @@ use Rattle.crl_obj.specs.Formats as crls
 use Rattle.issue_sign.specs.Signed.{framed, IsEnd, IsCertificate}
 use Rattle.issue_keys.specs.declared.fault.MakeFault.{MakeFault}
 use Rattle.issue_keys.specs.Faults.{fault_of}
-use Rattle.issue_drafts.specs.Certificates.{IssueInput}
+use Rattle.issue_drafts.specs.IssueInput.{IssueInput}
 use Rattle.issue_drafts.specs.Views.{draft_of, kind_of}
 use Rattle.issue_drafts.specs.declared.draft.KeyAt.{KeyAt}
 use Rattle.issue_drafts.specs.declared.draft.Draft as code
@@ -30,7 +30,7 @@ use Rattle.issue_sign.specs.inner.Steps.{half_answers, IsHalf, IsFirst, IsDraft,
 use Rattle.issue_sign.proofs.Lists.{pairs-nil, pairs-push}
 use Rattle.issue_sign.proofs.Going.{Stays, first-called-more, first-none, first-short, first-stop}
 use Rattle.issue_sign.proofs.Halts.{halt-as, halt-of-end}
-use Rattle.issue_sign.proofs.Places.{draft-here}
+use Rattle.issue_sign.proofs.Positions.{draft-here}
 use Rattle.issue_sign.proofs.Said.{certificate-is}
 
 -- ---- one draft
@@ -109,7 +109,7 @@ next drafts halves draft i long lt is =
       is = is ∙ ap (λ (n : ℕ). get_or drafts n draft) (sym long);
     }
 
--- The same relation at the place of the next draft.
+-- The same relation at the position of the next draft.
 pub at-next : (R : code.Draft → Half → Type 0) (drafts : List code.Draft) (halves : List Half) (draft : code.Draft) (half : Half)
     → IsNext drafts halves draft → Pairs R drafts halves → R draft half → Pairs R drafts (halves ++ half ∷ [])
 at-next R drafts halves draft half n pairs r =

@@ -5,7 +5,7 @@ pub mod Going
 pub mod Halts
 pub mod Halves
 pub mod Lists
-pub mod Places
+pub mod Positions
 pub mod Said
 pub mod Seconds
 pub mod SignedEnds

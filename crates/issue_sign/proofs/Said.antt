@@ -15,11 +15,12 @@ use Rattle.issue_values.specs.Publishers.{Publishing, publishing}
 use Rattle.issue_values.specs.Certificates as values
 use Rattle.issue_values.specs.Bodies.{crl_value_of}
 use Rattle.key_roll.specs.declared.rows.RevokedRow.{RevokedRow}
-use Rattle.issue_drafts.specs.Certificates.{IssueInput, input_of, is_key, publishing_of}
-use Rattle.issue_drafts.specs.Finding.{Keys}
+use Rattle.issue_drafts.specs.IssueInput.{IssueInput, input_of}
+use Rattle.issue_drafts.specs.Publishers.{is_key, publishing_of}
+use Rattle.issue_drafts.specs.WorkKeys.{Keys}
 use Rattle.issue_drafts.specs.Drafts.{has_serial, serial_at}
 use Rattle.issue_drafts.specs.Drafts.Kind.{Roa}
-use Rattle.issue_drafts.specs.Views.{draft_of, kind_of, IsPlaced, IsSubjectPlaced}
+use Rattle.issue_drafts.specs.Views.{draft_of, kind_of, IsPositioned, IsSubjectPositioned}
 use Rattle.issue_drafts.specs.declared.draft.KeyAt.{KeyAt}
 use Rattle.issue_drafts.specs.declared.draft.Draft as code
 use Rattle.issue_drafts.specs.declared.draft.DraftKind.{DraftKind}
@@ -28,17 +29,17 @@ use Rattle.issue_sign.specs.declared.sign_input.SignInput.{SignInput}
 use Rattle.issue_sign.specs.Objects.{certificate, certificate_with, crl_of, number_of, roa_certificate}
 use Rattle.issue_sign.specs.SignInput.{SignInputValue, IsSignInput}
 use Rattle.issue_sign.specs.inner.Steps.{IsDraft}
-use Rattle.issue_sign.proofs.Places.{mapped-at}
+use Rattle.issue_sign.proofs.Positions.{mapped-at}
 
 -- A key's publishing, as it was read.
-pub publishes : (sign_input : SignInput) (b : SignInputValue) (k : KeyAt) (p : Publisher) → IsSignInput sign_input b → IsPlaced b.rows k
-    → k.place < length sign_input.publishers.now → p ≡ get_or sign_input.publishers.now k.place p
+pub publishes : (sign_input : SignInput) (b : SignInputValue) (k : KeyAt) (p : Publisher) → IsSignInput sign_input b → IsPositioned b.rows k
+    → k.position < length sign_input.publishers.now → p ≡ get_or sign_input.publishers.now k.position p
     → publishing p ≡ publishing_of (input_of sign_input.input.now) b.keys k.row.now
-publishes sign_input b k p basis placed lt is =
+publishes sign_input b k p basis positioned lt is =
     ap publishing is
-    ∙ (sym (get_or-map publishing sign_input.publishers.now k.place p (publishing p) lt)
-    ∙ mapped-at (publishing_of (input_of sign_input.input.now) b.keys) b.rows (map publishing sign_input.publishers.now) k.place k.row.now
-    (publishing p) basis.publishers placed)
+    ∙ (sym (get_or-map publishing sign_input.publishers.now k.position p (publishing p) lt)
+    ∙ mapped-at (publishing_of (input_of sign_input.input.now) b.keys) b.rows (map publishing sign_input.publishers.now) k.position k.row.now
+    (publishing p) basis.publishers positioned)
 
 -- ---- certificates
 
@@ -78,11 +79,11 @@ authority-with s keys issuer subject held serial by of cert e f test is =
 
 -- What was made is the certificate of whichever basis the edition is.
 pub anchor-made : {E : Type 0} (sign_input : SignInput) (issuer subject : KeyAt) (held : Resources) (serial : ℕ) (by of : Publisher) (r : Result Cert E)
-    → issuer.place < length sign_input.publishers.now → subject.place < length sign_input.publishers.now
-    → by ≡ get_or sign_input.publishers.now issuer.place by → of ≡ get_or sign_input.publishers.now subject.place of
+    → issuer.position < length sign_input.publishers.now → subject.position < length sign_input.publishers.now
+    → by ≡ get_or sign_input.publishers.now issuer.position by → of ≡ get_or sign_input.publishers.now subject.position of
     → bytes_eq by.id.bytes of.id.bytes ≡ true
     → IfOk r (λ cert. cert_value cert ≡ values.anchor_certificate sign_input.input.now.site.now sign_input.input.now.work.now.moment
-    (publishing by) held serial) → IfOk r (λ cert. (b : SignInputValue) → IsSignInput sign_input b → IsPlaced b.rows issuer → IsPlaced b.rows subject
+    (publishing by) held serial) → IfOk r (λ cert. (b : SignInputValue) → IsSignInput sign_input b → IsPositioned b.rows issuer → IsPositioned b.rows subject
     → cert_value cert ≡ certificate_with (input_of sign_input.input.now) b.keys issuer.row.now subject.row.now held serial)
 anchor-made sign_input issuer subject held serial by of (Ok cert) in-issuer in-subject is-by is-of test made = λ b basis p q.
     anchor-with (input_of sign_input.input.now) b.keys issuer.row.now subject.row.now held serial (publishing by) (publishing of) (cert_value cert)
@@ -90,11 +91,11 @@ anchor-made sign_input issuer subject held serial by of (Ok cert) in-issuer in-s
 anchor-made sign_input issuer subject held serial by of (Err e) in-issuer in-subject is-by is-of test made = tt
 
 pub authority-made : {E : Type 0} (sign_input : SignInput) (issuer subject : KeyAt) (held : Resources) (serial : ℕ) (by of : Publisher) (r : Result Cert E)
-    → issuer.place < length sign_input.publishers.now → subject.place < length sign_input.publishers.now
-    → by ≡ get_or sign_input.publishers.now issuer.place by → of ≡ get_or sign_input.publishers.now subject.place of
+    → issuer.position < length sign_input.publishers.now → subject.position < length sign_input.publishers.now
+    → by ≡ get_or sign_input.publishers.now issuer.position by → of ≡ get_or sign_input.publishers.now subject.position of
     → bytes_eq by.id.bytes of.id.bytes ≡ false
     → IfOk r (λ cert. cert_value cert ≡ values.authority_certificate sign_input.input.now.site.now sign_input.input.now.work.now.moment (publishing by)
-    (publishing of) held serial) → IfOk r (λ cert. (b : SignInputValue) → IsSignInput sign_input b → IsPlaced b.rows issuer → IsPlaced b.rows subject
+    (publishing of) held serial) → IfOk r (λ cert. (b : SignInputValue) → IsSignInput sign_input b → IsPositioned b.rows issuer → IsPositioned b.rows subject
     → cert_value cert ≡ certificate_with (input_of sign_input.input.now) b.keys issuer.row.now subject.row.now held serial)
 authority-made sign_input issuer subject held serial by of (Ok cert) in-issuer in-subject is-by is-of test made = λ b basis p q.
     authority-with (input_of sign_input.input.now) b.keys issuer.row.now subject.row.now held serial (publishing by) (publishing of) (cert_value cert)
@@ -104,28 +105,28 @@ authority-made sign_input issuer subject held serial by of (Err e) in-issuer in-
 -- ---- CRLs
 
 crl-is : (sign_input : SignInput) (b : SignInputValue) (k : KeyAt) (p : Publisher) (item entries : List RevokedRow) (crl : CrlValue) → IsSignInput sign_input b
-    → IsPlaced b.rows k → publishing p ≡ publishing_of (input_of sign_input.input.now) b.keys k.row.now
-    → entries ≡ get_or sign_input.revoked.now k.place item → crl ≡ crl_value_of sign_input.input.now.work.now.moment p.id.bytes
+    → IsPositioned b.rows k → publishing p ≡ publishing_of (input_of sign_input.input.now) b.keys k.row.now
+    → entries ≡ get_or sign_input.revoked.now k.position item → crl ≡ crl_value_of sign_input.input.now.work.now.moment p.id.bytes
     (number_of k.row.now) entries → crl ≡ crl_of (input_of sign_input.input.now) b.entries k.row.now
-crl-is sign_input b k p item entries crl basis placed e is made =
-    let here : entries ≡ b.entries k.row.now = is ∙ mapped-at b.entries b.rows sign_input.revoked.now k.place k.row.now item basis.entries placed in
+crl-is sign_input b k p item entries crl basis positioned e is made =
+    let here : entries ≡ b.entries k.row.now = is ∙ mapped-at b.entries b.rows sign_input.revoked.now k.position k.row.now item basis.entries positioned in
     made
     ∙ (ap (λ (q : Publishing). crl_value_of sign_input.input.now.work.now.moment q.id (number_of k.row.now) entries) e
     ∙ ap (λ (l : List RevokedRow). crl_value_of sign_input.input.now.work.now.moment
     (publishing_of (input_of sign_input.input.now) b.keys k.row.now).id (number_of k.row.now) l) here)
 
 pub crl-made : {E : Type 0} (sign_input : SignInput) (k : KeyAt) (p : Publisher) (item entries : List RevokedRow) (r : Result Crl E)
-    → k.place < length sign_input.publishers.now → p ≡ get_or sign_input.publishers.now k.place p → entries ≡ get_or sign_input.revoked.now k.place item
+    → k.position < length sign_input.publishers.now → p ≡ get_or sign_input.publishers.now k.position p → entries ≡ get_or sign_input.revoked.now k.position item
     → IfOk r (λ crl. crl_value crl ≡ crl_value_of sign_input.input.now.work.now.moment p.id.bytes (number_of k.row.now) entries)
-    → IfOk r (λ crl. (b : SignInputValue) → IsSignInput sign_input b → IsPlaced b.rows k
+    → IfOk r (λ crl. (b : SignInputValue) → IsSignInput sign_input b → IsPositioned b.rows k
     → crl_value crl ≡ crl_of (input_of sign_input.input.now) b.entries k.row.now)
-crl-made sign_input k p item entries (Ok crl) lt is-p is-item made = λ b basis placed.
-    crl-is sign_input b k p item entries (crl_value crl) basis placed (publishes sign_input b k p basis placed lt is-p) is-item made
+crl-made sign_input k p item entries (Ok crl) lt is-p is-item made = λ b basis positioned.
+    crl-is sign_input b k p item entries (crl_value crl) basis positioned (publishes sign_input b k p basis positioned lt is-p) is-item made
 crl-made sign_input k p item entries (Err e) lt is-p is-item made = tt
 
 -- ---- serials
 
--- A draft of such a kind has the serial of its place.
+-- A draft of such a kind has the serial of its position.
 pub numbered : (b : SignInputValue) (d : code.Draft) (given : ℕ) → IsDraft b d given → has_serial (kind_of d.kind) ≡ true → given ≡ serial_at b.all d.issuer.row.now d.uri
 numbered b d given is e =
     is.serial ∙ sym (chosen (has_serial (kind_of d.kind)) (serial_at b.all d.issuer.row.now d.uri) 0 e)
@@ -140,12 +141,12 @@ certificate-is s b d subject held given cert e is made =
     ∙ ap (λ (n : ℕ). certificate_with s b.keys d.issuer.row.now subject.row.now held.now n)
     (numbered b d given is (ap (λ (k : DraftKind). has_serial (kind_of k)) e))
 
-pub subject-placed : (b : SignInputValue) (d : code.Draft) (subject : KeyAt) (held : Bor Resources) (given : ℕ) → d.kind ≡ kinds.Authority subject held
-    → IsDraft b d given → IsPlaced b.rows subject
-subject-placed b d subject held given e is = subst (λ (k : DraftKind). IsSubjectPlaced b.rows k) e is.subject
+pub subject-positioned : (b : SignInputValue) (d : code.Draft) (subject : KeyAt) (held : Bor Resources) (given : ℕ) → d.kind ≡ kinds.Authority subject held
+    → IsDraft b d given → IsPositioned b.rows subject
+subject-positioned b d subject held given e is = subst (λ (k : DraftKind). IsSubjectPositioned b.rows k) e is.subject
 
 pub roa-made : {E : Type 0} (sign_input : SignInput) (d : code.Draft) (uri : List ℕ) (origin : Origin) (key : List ℕ) (given : ℕ) (by : Publisher)
-    (r : Result Cert E) → d.issuer.place < length sign_input.publishers.now → by ≡ get_or sign_input.publishers.now d.issuer.place by → uri ≡ d.uri
+    (r : Result Cert E) → d.issuer.position < length sign_input.publishers.now → by ≡ get_or sign_input.publishers.now d.issuer.position by → uri ≡ d.uri
     → IfOk r (λ cert. cert_value cert ≡ values.roa_certificate sign_input.input.now.site.now sign_input.input.now.work.now.moment
     (publishing by) key origin.prefix uri given)
     → IfOk r (λ cert. (b : SignInputValue) → IsSignInput sign_input b → IsDraft b d given → kind_of d.kind ≡ Roa origin

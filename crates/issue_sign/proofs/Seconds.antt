@@ -20,7 +20,7 @@ use Rattle.issue_sign.specs.Signed.{object_bytes, IsEnd, IsObject}
 use Rattle.issue_keys.specs.declared.fault.MakeFault.{MakeFault}
 use Rattle.issue_keys.specs.declared.fault.MakeFault.TheVariants.{Memory}
 use Rattle.issue_keys.specs.Faults.{fault_of}
-use Rattle.issue_drafts.specs.Certificates.{IssueInput, input_of}
+use Rattle.issue_drafts.specs.IssueInput.{IssueInput, input_of}
 use Rattle.issue_drafts.specs.Drafts.{Draft, Kind}
 use Rattle.issue_drafts.specs.Drafts.Kind.{Roa}
 use Rattle.issue_drafts.specs.Views.{draft_of, kind_of}
@@ -40,9 +40,9 @@ use Rattle.issue_sign.specs.inner.Steps.{AreHalves, IsFinished, IsFinishHalt}
 use Rattle.issue_sign.proofs.Lists.{with_answers}
 use Rattle.issue_sign.proofs.Going.{Stays, IsSpread, with_last, called-one, called-as}
 use Rattle.issue_sign.proofs.Halts.{halt-as, halt-of-end}
-use Rattle.issue_sign.proofs.Places.{draft-here, IsTurn}
+use Rattle.issue_sign.proofs.Positions.{draft-here, IsTurn}
 use Rattle.issue_sign.proofs.Halves.{first_of, seconds_of}
-use Rattle.issue_sign.proofs.Finishing.{Finishing, IsPlace, place, finishing-start, finishing-more, finishing-short, finishing-stop, finishing-end, known_of}
+use Rattle.issue_sign.proofs.Finishing.{Finishing, IsPosition, position, finishing-start, finishing-more, finishing-short, finishing-stop, finishing-end, known_of}
 
 -- ---- ROAs
 
@@ -155,12 +155,12 @@ drafts-start s b drafts halves objects old now e long are =
 abbrev pub IsDraftTurn : List code.Draft → List Half → List Object → List Half → code.Draft → Half → Type 0
 IsDraftTurn drafts halves objects left draft half = IsTurn code.Draft Half drafts halves (length objects) left draft half
 
-turn-place : (drafts : List code.Draft) (halves : List Half) (objects : List Object) (left : List Half) (draft : code.Draft) (half : Half)
-    → IsDraftTurn drafts halves objects left draft half → IsPlace (map draft_of drafts) objects (draft_of draft)
-turn-place drafts halves objects left draft half t =
+turn-position : (drafts : List code.Draft) (halves : List Half) (objects : List Object) (left : List Half) (draft : code.Draft) (half : Half)
+    → IsDraftTurn drafts halves objects left draft half → IsPosition (map draft_of drafts) objects (draft_of draft)
+turn-position drafts halves objects left draft half t =
     let many = length-map drafts draft_of in
     let few = t.few in
-    place (map draft_of drafts) objects (draft_of draft) (omega arith) (draft-here drafts (length objects) draft t.few t.is)
+    position (map draft_of drafts) objects (draft_of draft) (omega arith) (draft-here drafts (length objects) draft t.few t.is)
 
 pub turn-more : Stays → (s : IssueInput) (b : SignInputValue) (drafts : List code.Draft) (halves : List Half) (objects : List Object) (left : List Half)
     (draft : code.Draft) (half : Half) (o : Object) (old now after : List SignerState) → IsDraftTurn drafts halves objects left draft half
@@ -170,7 +170,7 @@ turn-more stays s b drafts halves objects left draft half o old now after t was 
     finishing-more stays (of_drafts s b) (first_of s b) (seconds_of s b) (known_of s b) (map draft_of drafts)
     (map (first_of s b) (signed (map draft_of drafts) (map half_answers halves)))
     objects (map half_answers left) (half_answers half) old now after (draft_of draft) o (spread s b)
-    (turn-place drafts halves objects left draft half t) was is.same
+    (turn-position drafts halves objects left draft half t) was is.same
     (called-as now after (option_to_list (second_call s b.keys b.all (draft_of draft) (kind_of draft.kind) (answers_of o)))
     (seconds_of s b (with_answers (draft_of draft) (answers_of o) ∷ []))
     (one-call (second_call s b.keys b.all (draft_of draft) (kind_of draft.kind) (answers_of o))) is.calls)
@@ -188,7 +188,7 @@ turn-stop s b drafts halves objects left draft (Begun origin c) old now after fa
     finishing-stop (of_drafts s b) (first_of s b) (seconds_of s b) (known_of s b) (map draft_of drafts)
     (map (first_of s b) (signed (map draft_of drafts) (map half_answers halves)))
     objects (map half_answers left) h old now after d call fault (λ made. refl) (spread s b)
-    (turn-place drafts halves objects left draft (Begun origin c) t) was
+    (turn-position drafts halves objects left draft (Begun origin c) t) was
     (λ a. subst (λ (k : Kind). first_call s b.keys b.all b.entries d k (with_last h a) ≡ first_call s b.keys b.all b.entries d k h) (sym is.0) refl)
     (λ a. subst (λ (k : Kind). cons_option (second_call s b.keys b.all d k (with_last h a)) [] ≡ call a ∷ []) (sym is.0) refl)
     halt

@@ -7,8 +7,8 @@ use Rattle.cms_obj.specs.declared.values.ObjectKind.TheVariants as ObjectKinds
 use Rattle.signer_ring.specs.Calls.{Call}
 use Rattle.key_roll.specs.declared.rows.KeyRow.{KeyRow}
 use Rattle.issue_sign.specs.Signed.{by_key, by_one_use}
-use Rattle.issue_drafts.specs.Finding.{Keys}
-use Rattle.issue_drafts.specs.Certificates.{IssueInput}
+use Rattle.issue_drafts.specs.WorkKeys.{Keys}
+use Rattle.issue_drafts.specs.IssueInput.{IssueInput}
 use Rattle.issue_drafts.specs.Drafts.{Draft, Kind}
 use Rattle.issue_drafts.specs.Drafts.Kind.{Certificate, Roa, Crl, Manifest}
 use Rattle.issue_sign.specs.Objects.{Answers, Signed, Entries, Files, certificate}

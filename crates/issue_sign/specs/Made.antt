@@ -7,7 +7,7 @@ use Rattle.signer_ring.specs.Ring.{ChangesOne}
 use Rattle.signer_ring.specs.Calls.{Call, signer_of, after_calls, IsVouched}
 use Rattle.issue_keys.specs.declared.fault.MakeFault.{MakeFault}
 use Rattle.issue_keys.specs.declared.fault.MakeFault.TheVariants.{SignerFault, KeyClash, Memory}
-use Rattle.issue_drafts.specs.Certificates.{IssueInput}
+use Rattle.issue_drafts.specs.IssueInput.{IssueInput}
 use Rattle.issue_drafts.specs.Drafts.{Draft}
 use Rattle.issue_sign.specs.declared.object.Object.{Object}
 use Rattle.issue_sign.specs.Objects.{Answers, Signed, bytes_of, manifest_bytes}

@@ -18,8 +18,9 @@ use Rattle.issue_values.specs.Certificates as values
 use Rattle.issue_values.specs.Bodies.{roa_of, crl_value_of, manifest_value_of}
 use Rattle.issue_sign.specs.Signed.{framed, object_bytes}
 use Rattle.issue_keys.specs.Keys.{id_of}
-use Rattle.issue_drafts.specs.Finding.{Keys}
-use Rattle.issue_drafts.specs.Certificates.{IssueInput, is_key, publishing_of}
+use Rattle.issue_drafts.specs.WorkKeys.{Keys}
+use Rattle.issue_drafts.specs.IssueInput.{IssueInput}
+use Rattle.issue_drafts.specs.Publishers.{is_key, publishing_of}
 use Rattle.issue_drafts.specs.Drafts.{Draft, Kind, serial_at, serial_behind}
 use Rattle.issue_drafts.specs.Drafts.Kind.{Certificate, Roa, Crl, Manifest}
 

@@ -8,10 +8,11 @@ use Rattle.key_roll.specs.declared.rows.KeyRow.{KeyRow}
 use Rattle.issue_values.specs.Publishers.{publishing}
 use Rattle.issue_values.specs.Certificates.{IsEditionMoment}
 use Rattle.issue_values.specs.Bodies.{AreRevoked}
-use Rattle.issue_drafts.specs.Finding.{Keys}
-use Rattle.issue_drafts.specs.Certificates.{input_of, publishing_of}
+use Rattle.issue_drafts.specs.WorkKeys.{Keys}
+use Rattle.issue_drafts.specs.IssueInput.{input_of}
+use Rattle.issue_drafts.specs.Publishers.{publishing_of}
 use Rattle.issue_drafts.specs.Drafts.{Draft, serial_behind}
-use Rattle.issue_drafts.specs.Views.{draft_of, IsPlaced, IsSubjectPlaced}
+use Rattle.issue_drafts.specs.Views.{draft_of, IsPositioned, IsSubjectPositioned}
 use Rattle.issue_drafts.specs.Serials.{given_serial}
 use Rattle.issue_drafts.specs.declared.draft.KeyAt.{KeyAt}
 use Rattle.issue_drafts.specs.declared.draft.Draft as code
@@ -38,15 +39,15 @@ pub record IsSignInput (sign_input : SignInput) (b : SignInputValue) : Type 0 wh
 
 -- The same of drafts, with the serials that they take.
 pub record AreDrafts (b : SignInputValue) (drafts : List code.Draft) (given : List ℕ) : Type 0 where
-  pub issuers : All (λ d. IsPlaced b.rows d.issuer) drafts
-  pub subjects : All (λ d. IsSubjectPlaced b.rows d.kind) drafts
+  pub issuers : All (λ d. IsPositioned b.rows d.issuer) drafts
+  pub subjects : All (λ d. IsSubjectPositioned b.rows d.kind) drafts
   pub serials : given ≡ map (λ d. given_serial b.all (draft_of d)) drafts
 
 -- The same of manifests, with the next serial of each key and the files of each manifest.
 pub record AreManifests
     (b : SignInputValue) (drafts : List manifests.ManifestDraft) (next : List ℕ)
     (lists : List (List ListedFile)) : Type 0 where
-  pub issuers : All (λ d. IsPlaced b.rows d.issuer) drafts
+  pub issuers : All (λ d. IsPositioned b.rows d.issuer) drafts
   pub serials : next ≡ map (serial_behind b.all) b.rows
   pub files : map (map file_view) lists ≡ map (λ d. b.files d.issuer.row.now) drafts
 
@@ -59,14 +60,15 @@ pub record CanSign (sign_input : SignInput) : Type 0 where
 
 -- A key that can issue: it has one more number, and certificates can name its own.
 pub record CanIssue (sign_input : SignInput) (key : KeyAt) : Type 0 where
-  pub inside : key.place < length sign_input.publishers.now
-  pub certified : HoldsAt (λ p. is_uri p.certificate ≡ true) sign_input.publishers.now key.place
+  pub inside : key.position < length sign_input.publishers.now
+  pub certified : HoldsAt (λ p. is_uri p.certificate ≡ true) sign_input.publishers.now key.position
   pub number : key.row.now.number < 2 ^ 62
 
 abbrev pub CanBeOfKind : SignInput → code.Draft → DraftKind → Type 0
-CanBeOfKind sign_input d (Authority subject held) = subject.place < length sign_input.publishers.now
+CanBeOfKind sign_input d (Authority subject held) =
+    subject.position < length sign_input.publishers.now
 CanBeOfKind sign_input d (Route origin) = is_uri d.uri ≡ true
-CanBeOfKind sign_input d Crl = d.issuer.place < length sign_input.revoked.now
+CanBeOfKind sign_input d Crl = d.issuer.position < length sign_input.revoked.now
 
 -- An object that can be made.
 pub record CanBeMade (sign_input : SignInput) (d : code.Draft) : Type 0 where

@@ -4,7 +4,7 @@ use Rattle.payloads.specs.RoaFormats.{IsRoa}
 use Rattle.payloads.specs.ManifestFormats.{IsManifest}
 use Rattle.issue_values.specs.Bodies.{roa_of, manifest_value_of}
 use Rattle.issue_sign.specs.Signed.{IsCertificate, IsCrlOf, IsObject}
-use Rattle.issue_drafts.specs.Certificates.{IssueInput}
+use Rattle.issue_drafts.specs.IssueInput.{IssueInput}
 use Rattle.issue_drafts.specs.Drafts.{Draft, Kind}
 use Rattle.issue_drafts.specs.Drafts.Kind.{Certificate, Roa, Crl, Manifest}
 use Rattle.issue_sign.specs.Objects.{Answers, certificate, roa_certificate, roa_content, crl_of}

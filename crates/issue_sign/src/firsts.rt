@@ -3,7 +3,7 @@
 
 ghost use Rattle.std.specs.Prelude.{◌≡◌, ◌<◌, map, length, All, IfOk, IfErr};
 ghost use Rattle.signer_ring.specs.Ring.{Keeps};
-ghost use Rattle.issue_drafts.specs.Certificates.{input_of};
+ghost use Rattle.issue_drafts.specs.IssueInput.{input_of};
 ghost use Rattle.issue_drafts.specs.Views.{draft_of, kind_of};
 ghost use Rattle.issue_sign.specs.Calls.{first_call};
 ghost use Rattle.issue_sign.specs.SignInput.{SignInputValue, IsSignInput, AreDrafts, CanSign, CanBeMade};
@@ -109,8 +109,8 @@ pub fn sign_firsts<S: Signer>(
     vouched_stays();
     let mut halves = Vec::with_capacity(alloc, drafts.len())?;
     for draft in drafts {
-        let place = halves.len();
-        let half = sign_first(alloc, sign_input, draft, serials[place], ring)?;
+        let position = halves.len();
+        let half = sign_first(alloc, sign_input, draft, serials[position], ring)?;
         halves.push(half)?;
     }
     Ok(halves)

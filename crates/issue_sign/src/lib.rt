@@ -15,6 +15,4 @@ mod values;
 pub use manifests::sign_manifests;
 pub use object::Object;
 pub use sign_input::SignInput;
-pub use signed_bytes::{SignedBytes, sign_certificate};
-pub use signed_objects::{sign_content, sign_crl, sign_object};
 pub use signing::sign_drafts;

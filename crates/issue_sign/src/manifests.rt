@@ -8,9 +8,9 @@ ghost use Rattle.cms_obj.specs.declared.values.ObjectKind.TheVariants.{Manifest}
 ghost use Rattle.payloads.specs.declared.values.ListedFile.{ListedFile};
 ghost use Rattle.payloads.specs.ManifestFormats.{IsManifest, file_view};
 ghost use Rattle.issue_values.specs.Bodies.{AreListed, manifest_value_of};
-ghost use Rattle.issue_drafts.specs.Certificates.{input_of};
+ghost use Rattle.issue_drafts.specs.IssueInput.{input_of};
 ghost use Rattle.issue_drafts.specs.Drafts.{serial_behind};
-ghost use Rattle.issue_drafts.specs.Views.{manifest_of, IsPlaced};
+ghost use Rattle.issue_drafts.specs.Views.{manifest_of, IsPositioned};
 ghost use Rattle.issue_sign.specs.Objects.{attributes, number_of, manifest_certificate};
 ghost use Rattle.issue_sign.specs.Calls.{by_once};
 ghost use Rattle.issue_sign.specs.SignInput.{SignInputValue, IsSignInput, AreManifests, CanSign, CanIssue};
@@ -106,8 +106,8 @@ fn sign_contents<S: Signer>(
     vouched_stays();
     let mut contents = Vec::with_capacity(alloc, manifests.len())?;
     for list in files {
-        let place = contents.len();
-        let manifest = &manifests[place];
+        let position = contents.len();
+        let manifest = &manifests[position];
         let content = sign_first(alloc, sign_input, manifest, list, ring)?;
         contents.push(content)?;
     }
@@ -125,7 +125,7 @@ fn certificate(
     requires sign { CanSign sign_input.now }
     requires issuer { CanIssue sign_input.now manifest.now.issuer }
     ensures spelled { IfOk result (λ cert. IsCert (cert_value cert)) }
-    ensures value { IfOk result (λ cert. (b : SignInputValue) → IsSignInput sign_input.now b → IsPlaced b.rows manifest.now.issuer
+    ensures value { IfOk result (λ cert. (b : SignInputValue) → IsSignInput sign_input.now b → IsPositioned b.rows manifest.now.issuer
         → serial ≡ serial_behind b.all manifest.now.issuer.row.now
         → cert_value cert ≡ manifest_certificate (input_of sign_input.now.input.now) b.keys b.all
         (manifest_of manifest.now) key.now.bytes) }
@@ -134,7 +134,7 @@ fn certificate(
         alloc,
         sign_input.input.site,
         sign_input.input.work.moment,
-        &sign_input.publishers[manifest.issuer.place],
+        &sign_input.publishers[manifest.issuer.position],
         key,
         serial,
     )
@@ -152,13 +152,13 @@ fn finish_manifest<S: Signer>(
     requires sign { CanSign sign_input.now }
     requires issuer { CanIssue sign_input.now manifest.now.issuer }
     requires signer { manifest.now.issuer.row.now.signer < length ring.old }
-    ensures finished { IfOk result (λ object. (b : SignInputValue) → IsSignInput sign_input.now b → IsPlaced b.rows manifest.now.issuer
+    ensures finished { IfOk result (λ object. (b : SignInputValue) → IsSignInput sign_input.now b → IsPositioned b.rows manifest.now.issuer
         → serial ≡ serial_behind b.all manifest.now.issuer.row.now
         → IsContent (input_of sign_input.now.input.now) manifest.now.issuer.row.now
         (b.files manifest.now.issuer.row.now) content
         → IsManifestOf (input_of sign_input.now.input.now) b (manifest_of manifest.now) content object
         ring.old ring.new) }
-    ensures stopped { IfErr result (λ fault. (b : SignInputValue) → IsSignInput sign_input.now b → IsPlaced b.rows manifest.now.issuer
+    ensures stopped { IfErr result (λ fault. (b : SignInputValue) → IsSignInput sign_input.now b → IsPositioned b.rows manifest.now.issuer
         → serial ≡ serial_behind b.all manifest.now.issuer.row.now
         → IsHalt (λ a. last_call (input_of sign_input.now.input.now) b (manifest_of manifest.now)
         content.once.key.bytes a.last) ring.old ring.new fault) }
@@ -210,9 +210,9 @@ fn finish_all<S: Signer>(
     vouched_stays();
     let mut objects = Vec::with_capacity(alloc, contents.len())?;
     for content in contents {
-        let place = objects.len();
-        let manifest = &manifests[place];
-        let serial = next[manifest.issuer.place];
+        let position = objects.len();
+        let manifest = &manifests[position];
+        let serial = next[manifest.issuer.position];
         let object = finish_manifest(alloc, sign_input, manifest, serial, content, ring)?;
         objects.push(object)?;
     }

@@ -5,7 +5,7 @@ ghost use Rattle.std.specs.Prelude.{◌≡◌, ◌<◌, true, List, map, length,
 ghost use Rattle.signer_api.specs.State.{SignerState};
 ghost use Rattle.signer_ring.specs.Ring.{Keeps};
 ghost use Rattle.cert_obj.specs.Values.{IsCert, cert_value, is_uri};
-ghost use Rattle.issue_drafts.specs.Certificates.{input_of};
+ghost use Rattle.issue_drafts.specs.IssueInput.{input_of};
 ghost use Rattle.issue_drafts.specs.Drafts.Kind.{Roa};
 ghost use Rattle.issue_drafts.specs.Views.{draft_of, kind_of};
 ghost use Rattle.issue_sign.specs.Objects.{roa_certificate};
@@ -49,7 +49,7 @@ fn certificate(
         alloc,
         sign_input.input.site,
         sign_input.input.work.moment,
-        &sign_input.publishers[draft.issuer.place],
+        &sign_input.publishers[draft.issuer.position],
         key,
         &origin.prefix,
         draft.uri.as_str(),
@@ -130,12 +130,12 @@ pub fn finish_all<S: Signer>(
     vouched_stays();
     let mut objects = Vec::with_capacity(alloc, halves.len())?;
     for half in halves {
-        let place = objects.len();
+        let position = objects.len();
         let object = finish_draft(
             alloc,
             sign_input,
-            &drafts[place],
-            serials[place],
+            &drafts[position],
+            serials[position],
             half,
             ring,
         )?;

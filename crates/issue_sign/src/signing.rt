@@ -2,7 +2,7 @@
 
 ghost use Rattle.std.specs.Prelude.{◌≡◌, ◌<◌, map, length, All, IfOk, IfErr};
 ghost use Rattle.signer_ring.specs.Ring.{Keeps};
-ghost use Rattle.issue_drafts.specs.Certificates.{input_of};
+ghost use Rattle.issue_drafts.specs.IssueInput.{input_of};
 ghost use Rattle.issue_drafts.specs.Views.{draft_of};
 ghost use Rattle.issue_sign.specs.SignInput.{SignInputValue, IsSignInput, AreDrafts, CanSign, CanBeMade};
 ghost use Rattle.issue_sign.specs.Made.{answers_of, signed, of_drafts, AreMade, IsStop};

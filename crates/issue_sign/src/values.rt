@@ -7,8 +7,8 @@ ghost use Rattle.crl_obj.specs.Values.{IsCrl, crl_value};
 ghost use Rattle.payloads.specs.RoaFormats.{IsRoa};
 ghost use Rattle.issue_values.specs.Certificates.{IsEditionMoment};
 ghost use Rattle.issue_values.specs.Bodies.{roa_of};
-ghost use Rattle.issue_drafts.specs.Certificates.{input_of};
-ghost use Rattle.issue_drafts.specs.Views.{IsPlaced};
+ghost use Rattle.issue_drafts.specs.IssueInput.{input_of};
+ghost use Rattle.issue_drafts.specs.Views.{IsPositioned};
 ghost use Rattle.issue_sign.specs.Objects.{certificate_with, roa_content, crl_of};
 ghost use Rattle.issue_sign.specs.SignInput.{SignInputValue, IsSignInput, CanSign, CanIssue};
 
@@ -32,16 +32,16 @@ pub fn certificate(
 ) -> Result<Cert, AllocError>
     requires moment { IsEditionMoment sign_input.now.input.now.work.now.moment }
     requires issuer { CanIssue sign_input.now issuer.now }
-    requires subject { subject.now.place < length sign_input.now.publishers.now }
+    requires subject { subject.now.position < length sign_input.now.publishers.now }
     ensures spelled { IfOk result (λ cert. IsCert (cert_value cert)) }
     ensures value { IfOk result (λ cert. (b : SignInputValue) → IsSignInput sign_input.now b
-        → IsPlaced b.rows issuer.now → IsPlaced b.rows subject.now
+        → IsPositioned b.rows issuer.now → IsPositioned b.rows subject.now
         → cert_value cert ≡ certificate_with (input_of sign_input.now.input.now) b.keys
         issuer.now.row.now subject.now.row.now held.now serial) }
 {
     let (site, moment) = (sign_input.input.site, sign_input.input.work.moment);
-    let by = &sign_input.publishers[issuer.place];
-    let of = &sign_input.publishers[subject.place];
+    let by = &sign_input.publishers[issuer.position];
+    let of = &sign_input.publishers[subject.position];
     if by.id.bytes == of.id.bytes {
         anchor_certificate(alloc, site, moment, by, held, serial)
     } else {
@@ -53,14 +53,14 @@ pub fn certificate(
 pub fn crl(alloc: Global, sign_input: &SignInput<'_>, issuer: &KeyAt<'_>) -> Result<Crl, AllocError>
     requires sign { CanSign sign_input.now }
     requires issuer { CanIssue sign_input.now issuer.now }
-    requires entries { issuer.now.place < length sign_input.now.revoked.now }
+    requires entries { issuer.now.position < length sign_input.now.revoked.now }
     ensures spelled { IfOk result (λ crl. IsCrl (crl_value crl)) }
-    ensures value { IfOk result (λ crl. (b : SignInputValue) → IsSignInput sign_input.now b → IsPlaced b.rows issuer.now
+    ensures value { IfOk result (λ crl. (b : SignInputValue) → IsSignInput sign_input.now b → IsPositioned b.rows issuer.now
         → crl_value crl ≡ crl_of (input_of sign_input.now.input.now) b.entries issuer.now.row.now) }
 {
     let moment = sign_input.input.work.moment;
-    let by = &sign_input.publishers[issuer.place];
-    let entries = sign_input.revoked[issuer.place].as_slice();
+    let by = &sign_input.publishers[issuer.position];
+    let entries = sign_input.revoked[issuer.position].as_slice();
     key_crl(alloc, moment, by, issuer.row.number + 1, entries)
 }
 

@@ -1,7 +1,7 @@
 -- The texts of the replies: compact JSON, the members in byte order (RFC 8259 section 4).
 use Rattle.std.specs.Prelude.{ℕ, List, ◌++◌, codes, decimal}
 use Rattle.json.specs.Print.{quoted}
-use Rattle.json_api.specs.declared.reply.Published.{Published}
+use Rattle.json_api.specs.declared.reply.PublishedReply.{PublishedReply}
 
 -- The reply to an accepted command: the authority's name and the new number of its commands.
 abbrev pub accepted_spelling : List ℕ → ℕ → List ℕ
@@ -9,7 +9,7 @@ accepted_spelling authority count =
     codes "{\"authority\":" ++ quoted authority ++ codes ",\"count\":" ++ decimal count ++ codes ",\"reply\":\"accepted\"}"
 
 -- The reply to a publication: its serial and moment, and how many objects and origins stand published.
-abbrev pub published_spelling : Published → List ℕ
+abbrev pub published_spelling : PublishedReply → List ℕ
 published_spelling published =
     codes "{\"moment\":" ++ decimal published.moment ++ codes ",\"objects\":" ++ decimal published.objects
     ++ codes ",\"origins\":" ++ decimal published.origins ++ codes ",\"reply\":\"published\",\"serial\":" ++ decimal published.serial ++ codes "}"

@@ -11,7 +11,7 @@ use std::alloc::{AllocError, Global};
 
 /// What a publication comes to.
 #[derive(Clone, Copy, Debug, PartialEq, Eq)]
-pub struct Published {
+pub struct PublishedReply {
     /// The serial of the edition.
     pub serial: u64,
     /// Seconds since 1970.
@@ -88,7 +88,7 @@ pub fn accepted_into(out: &mut Vec<u8>, name: &Name, count: u64)
 }
 
 /// Appends the reply to a publication, in the room that is there.
-pub fn published_into(out: &mut Vec<u8>, published: &Published)
+pub fn published_into(out: &mut Vec<u8>, published: &PublishedReply)
     requires { vec_len out.old + 200 ≤ vec_capacity out.old }
     ensures text { out.new.items ≡ out.old.items ++ published_spelling published.now }
     ensures short { vec_len out.new ≤ vec_len out.old + 200 }

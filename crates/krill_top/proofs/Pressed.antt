@@ -8,7 +8,7 @@ use Rattle.notice_board.specs.declared.sheets.Sheet.{Sheet}
 use Rattle.editions.specs.Edition.{Edition}
 use Rattle.editions.specs.declared.ended.EndedKey.{EndedKey}
 use Rattle.editions.specs.declared.gathered.Gathered.{Gathered}
-use Rattle.editions.specs.declared.published_state.Published.{Published}
+use Rattle.editions.specs.declared.published_state.PublishedNumbers.{PublishedNumbers}
 use Rattle.editions.specs.PublishedState.{published_of}
 use Rattle.editions.specs.Sheets.{sheet_of}
 use Rattle.press_core.specs.Press.{PressValue, DropsEach}
@@ -28,7 +28,7 @@ pub record IsReady (old ready : PressValue) : Type 0 where
   pub held : HoldKeys old.ring ready.ring
 
 -- it became the last one
-pub record IsCommitted (prepared : NextValue) (told : Published) (ready committed : PressValue) : Type 0 where
+pub record IsCommitted (prepared : NextValue) (told : PublishedNumbers) (ready committed : PressValue) : Type 0 where
   pub at : committed.at ≡ prepared.next
   pub ended : committed.ended ≡ prepared.ended
   pub site : committed.site ≡ ready.site
@@ -45,7 +45,7 @@ pub record AreRetired (committed new : PressValue) : Type 0 where
   pub others : new ≡ record committed { ring = new.ring; ended = [] }
   pub kept : Keeps committed.ring new.ring
 
-pub pressed_by : {D : Type 0} (clock : ℕ) (desks : List (View D)) (groups : List Gathered) (prepared : NextValue) (told : Published) (sheet : Sheet) (old ready committed new : PressValue)
+pub pressed_by : {D : Type 0} (clock : ℕ) (desks : List (View D)) (groups : List Gathered) (prepared : NextValue) (told : PublishedNumbers) (sheet : Sheet) (old ready committed new : PressValue)
     → AreSince 0 desks old.at.cut groups → IsNextEdition (start_of old clock groups) ready.ring prepared → IsReady old ready
     → IsCommitted prepared told ready committed → AreRetired committed new → sheet ≡ sheet_of prepared.next
     → IsPressed clock desks old new told sheet

@@ -24,7 +24,7 @@ use Rattle.editions.specs.Published.{IsPublished}
 use Rattle.key_roll.specs.declared.rows.KeyRow.{KeyRow}
 use Rattle.editions.specs.declared.gathered.Gathered.{Gathered}
 use Rattle.editions.specs.declared.ended.EndedKey.{EndedKey}
-use Rattle.editions.specs.declared.published_state.Published.{Published}
+use Rattle.editions.specs.declared.published_state.PublishedNumbers.{PublishedNumbers}
 use Rattle.editions.specs.PublishedState.{PublishedStateValue, IsConsistentState}
 use Rattle.editions.specs.Sheets.{sheet_of}
 use Rattle.editions.specs.Ended.{ended_keys}
@@ -249,7 +249,7 @@ module _ {D O : Type 0} (outlet_of : OutletGhosts O) where
   abbrev pressed : InstanceValue D O → PressValue → Sheet → InstanceValue D O
   pressed old press sheet = record old { press = press; sheet = sheet }
 
-  module _ (law : VouchLaw) (still_coherent : CoherentLaw) (still_shown : ShownLaw) (clock : ℕ) (old : InstanceValue D O) (press : PressValue) (told : Published) (sheet : Sheet) (done : IsPressed clock old.desks old.press press told sheet)
+  module _ (law : VouchLaw) (still_coherent : CoherentLaw) (still_shown : ShownLaw) (clock : ℕ) (old : InstanceValue D O) (press : PressValue) (told : PublishedNumbers) (sheet : Sheet) (done : IsPressed clock old.desks old.press press told sheet)
       (before : InstanceState) (stands : IsInState outlet_of old before) where
     abbrev groups : List Gathered
     groups = done.groups
@@ -313,15 +313,15 @@ module _ {D O : Type 0} (outlet_of : OutletGhosts O) where
       one_more = refl;
       takes_all = takes;
       numbers = record {
-        serial = ap (λ (p : Published). p.serial) done.told_is;
-        moment = ap (λ (p : Published). p.moment) done.told_is;
+        serial = ap (λ (p : PublishedNumbers). p.serial) done.told_is;
+        moment = ap (λ (p : PublishedNumbers). p.moment) done.told_is;
         objects = prepared.next.set;
         ascending = done.edition.is_prepared.next.ascending;
         stand = left_then.set;
-        as_many = ap (λ (p : Published). p.objects) done.told_is;
+        as_many = ap (λ (p : PublishedNumbers). p.objects) done.told_is;
         owed = prepared.next.owed;
         owes = subst (λ (c : List Settings). AreOwed c prepared.next.owed) left_then.configs done.edition.is_prepared.next.kept.owes;
-        as_many_owed = ap (λ (p : Published). p.origins) done.told_is;
+        as_many_owed = ap (λ (p : PublishedNumbers). p.origins) done.told_is;
       };
       signers = record {
         kept = subst (λ (s : List SignerState). Keeps s made) stands.ring done.kept;
@@ -385,7 +385,7 @@ module _ {D O : Type 0} (outlet_of : OutletGhosts O) where
           name_signers = subst (λ (n : ℕ). All (λ (name : NameRow). name.signer < n) (names_in before.desk_states)) count stands.name_signers;
         }
 
-  pub published : VouchLaw → CoherentLaw → ShownLaw → (disk_of : DiskGhosts D) (clock : ℕ) (old : InstanceValue D O) (press : PressValue) (told : Published) (sheet : Sheet)
+  pub published : VouchLaw → CoherentLaw → ShownLaw → (disk_of : DiskGhosts D) (clock : ℕ) (old : InstanceValue D O) (press : PressValue) (told : PublishedNumbers) (sheet : Sheet)
       → IsPressed clock old.desks old.press press told sheet → Moves disk_of outlet_of (λ b a. MakesOrNot clock (Ok told) b a) old (pressed old press sheet)
   published law still_coherent still_shown disk_of clock old press told sheet done before stands = record {
     after = after law still_coherent still_shown clock old press told sheet done before stands;
@@ -400,12 +400,12 @@ module _ {D O : Type 0} (outlet_of : OutletGhosts O) where
   }
 
   -- the serial of what was pressed
-  pub pressed_serial : (clock : ℕ) (old : InstanceValue D O) (press : PressValue) (told : Published) (sheet : Sheet) → IsPressed clock old.desks old.press press told sheet
+  pub pressed_serial : (clock : ℕ) (old : InstanceValue D O) (press : PressValue) (told : PublishedNumbers) (sheet : Sheet) → IsPressed clock old.desks old.press press told sheet
       → (told.serial ≡ press.at.serial) × (press.at.serial ≢ 0)
   pressed_serial clock old press told sheet done =
       let at : press.at.serial ≡ done.prepared.next.serial = ap (λ (s : PublishedStateValue). s.serial) done.at in
       let next = done.edition.is_prepared.next.serial in (
-        ap (λ (p : Published). p.serial) done.told_is ∙ sym at,
+        ap (λ (p : PublishedNumbers). p.serial) done.told_is ∙ sym at,
         λ none. absurd (omega (arith, at, next, none)),
       )
 

@@ -4,7 +4,7 @@ use Rattle.std.specs.Prelude.{Ok, Err}
 use Rattle.disk_api.specs.declared.disk.Disk.{Ghosts as DiskGhosts}
 use Rattle.outlet_api.specs.declared.outlet.Outlet.{Ghosts as OutletGhosts}
 use Rattle.outlet_api.specs.declared.exports.ExportFault.{ExportFault}
-use Rattle.editions.specs.declared.published_state.Published.{Published as PublishedNumbers}
+use Rattle.editions.specs.declared.published_state.PublishedNumbers.{PublishedNumbers}
 use Rattle.press_core.specs.declared.fault.PressFault.{PressFault}
 use Rattle.krill_top.specs.InstanceState.{InstanceState, last_serial, is_exported}
 use Rattle.krill_top.specs.Exports.{ExportsAll, ExportStops, Repeats, stop_of}

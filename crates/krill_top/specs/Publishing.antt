@@ -13,7 +13,7 @@ use Rattle.editions.specs.Due.{IsCalledFor}
 use Rattle.editions.specs.Profile.{IsInProfile}
 use Rattle.editions.specs.Published.{IsPublished}
 use Rattle.editions.specs.declared.gathered.Gathered.{Gathered}
-use Rattle.editions.specs.declared.published_state.Published.{Published as PublishedNumbers}
+use Rattle.editions.specs.declared.published_state.PublishedNumbers.{PublishedNumbers}
 use Rattle.editions.specs.Ended.{ended_keys}
 use Rattle.editions.specs.Gathering.{cut_with, AreNextCommands}
 use Rattle.press_core.specs.declared.fault.PressFault.{PressFault}

@@ -8,13 +8,13 @@ use Rattle.json_api.specs.declared.line.Line.TheVariants as line
 use Rattle.json_api.specs.declared.line.LineFault.{LineFault}
 use Rattle.json_api.specs.declared.refusals.Refused.{Refused}
 use Rattle.json_api.specs.declared.refusals.Refused.TheVariants as refused
-use Rattle.json_api.specs.declared.reply.Published.{Published as ReplyPublished}
+use Rattle.json_api.specs.declared.reply.PublishedReply.{PublishedReply}
 use Rattle.json_api.specs.Refused.{refused_spelling, verdict_spelling, fault_spelling}
 use Rattle.line_loop.specs.declared.TheConstants.{LINE_LIMIT}
 use Rattle.json_api.specs.Line.{ReadsLine}
 use Rattle.json_api.specs.Reply.{accepted_spelling, published_spelling, serial_spelling}
 use Rattle.editions.specs.Edition.{state_after}
-use Rattle.editions.specs.declared.published_state.Published.{Published}
+use Rattle.editions.specs.declared.published_state.PublishedNumbers.{PublishedNumbers}
 use Rattle.press_core.specs.declared.fault.PressFault.{PressFault}
 use Rattle.press_core.specs.declared.fault.PressFault.TheVariants as press
 use Rattle.line_loop.specs.Readings.{IsReading}
@@ -86,7 +86,7 @@ pub record CommandText (name : List ℕ) (command : Command) (before : TimedInst
 -- ---- a publication
 
 -- What a publication is called in replies.
-abbrev pub published_in_reply : Published → ReplyPublished
+abbrev pub published_in_reply : PublishedNumbers → PublishedReply
 published_in_reply published = record {
   serial = published.serial;
   moment = published.moment;

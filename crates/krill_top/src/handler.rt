@@ -17,8 +17,8 @@ use crate::publication::Publication;
 use authority_book::{Command, Refusal};
 use disk_api::Disk;
 use json_api::{
-    Line, LineFault, LineReader, Published, Refused, accepted_into, fault_into, published_into,
-    refused_into, serial_into, verdict_into,
+    Line, LineFault, LineReader, PublishedReply, Refused, accepted_into, fault_into,
+    published_into, refused_into, serial_into, verdict_into,
 };
 use line_loop::{Clock, LINE_LIMIT, LineHandler};
 use names::Name;
@@ -166,10 +166,10 @@ fn append_accepted(out: &mut Vec<u8>, name: &Name, count: u64)
 }
 
 // What a publication is called in replies.
-fn published_of(published: editions::Published) -> Published
+fn published_of(published: editions::PublishedNumbers) -> PublishedReply
     ensures { result ≡ published_in_reply published }
 {
-    Published {
+    PublishedReply {
         serial: published.serial,
         moment: published.moment,
         objects: published.objects,
@@ -218,7 +218,7 @@ fn unexported_as<O: Outlet>(serial: u64, fault: ExportFault<O>) -> Refused
 }
 
 // Appends what was published, in the room that is there.
-fn append_published(out: &mut Vec<u8>, published: &Published)
+fn append_published(out: &mut Vec<u8>, published: &PublishedReply)
     requires { vec_len out.old + REPLY_ROOM ≤ vec_capacity out.old }
     ensures { out.new.items ≡ out.old.items ++ published_spelling published.now ++ 10 ∷ [] }
 {

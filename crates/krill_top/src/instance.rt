@@ -22,7 +22,7 @@ use crate::pressing::{Pressed, press_all};
 use crate::publication::Publication;
 use authority_book::Command;
 use disk_api::Disk;
-use editions::{Published, gathered_commands_go_on};
+use editions::{PublishedNumbers, gathered_commands_go_on};
 use key_ids::Site;
 use names::Name;
 use notice_board::Sheet;
@@ -222,7 +222,7 @@ impl<D: Disk, G: Signer, O: Outlet> Instance<D, G, O> {
     }
 
     // Makes the next edition of all that the desks have accepted. It isn't exported yet.
-    fn make_edition(&mut self, alloc: Global, now: u64) -> Result<Published, PressFault>
+    fn make_edition(&mut self, alloc: Global, now: u64) -> Result<PublishedNumbers, PressFault>
         ensures moves { Moves D.Disk O.Outlet (λ b a. MakesOrNot now result b a) self.old self.new }
         ensures serial { IfOk result (λ published. published.serial ≡ self.new.press.at.serial) }
         ensures some { IfOk result (λ published. self.new.press.at.serial ≢ 0) }
@@ -240,7 +240,7 @@ impl<D: Disk, G: Signer, O: Outlet> Instance<D, G, O> {
     }
 
     // Brings the edition that was made to the outlet.
-    fn export_made(&mut self, alloc: Global, published: Published) -> Publication<O>
+    fn export_made(&mut self, alloc: Global, published: PublishedNumbers) -> Publication<O>
         requires some { self.old.press.at.serial ≢ 0 }
         requires serial { published.serial ≡ self.old.press.at.serial }
         ensures { Moves D.Disk O.Outlet (ExportsMade published (publishing.outcome_of result)) self.old self.new }

@@ -11,7 +11,7 @@ ghost use Rattle.krill_top.specs.inner.Pressing.{IsPressed, IsNotPressed};
 
 use crate::desks::Desks;
 use disk_api::Disk;
-use editions::Published;
+use editions::PublishedNumbers;
 use notice_board::Sheet;
 use press_core::{Press, PressFault};
 use signer_api::Signer;
@@ -20,7 +20,7 @@ use std::alloc::Global;
 /// An edition that was published, and what readers are shown of it.
 #[derive(Drop)]
 pub(crate) struct Pressed {
-    pub(crate) published: Published,
+    pub(crate) published: PublishedNumbers,
     pub(crate) sheet: Sheet,
 }
 

@@ -4,7 +4,7 @@ ghost use Rattle.std.specs.Prelude.{◌≡◌};
 ghost use Rattle.krill_top.specs.Publishing as spec;
 ghost use Rattle.krill_top.specs.Publishing.{outcome_of};
 
-use editions::Published;
+use editions::PublishedNumbers;
 use outlet_api::{ExportFault, Outlet};
 use press_core::PressFault;
 
@@ -12,7 +12,7 @@ use press_core::PressFault;
 #[derive(Drop)]
 pub enum Publication<O: Outlet> {
     /// An edition was made, and brought to the outlet.
-    Published { published: Published },
+    Published { published: PublishedNumbers },
     /// The edition of that serial stands, made now or before, and couldn't be brought to the outlet. The
     /// next publication tries it again.
     Unexported { serial: u64, fault: ExportFault<O> },

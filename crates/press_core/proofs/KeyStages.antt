@@ -26,11 +26,11 @@ use Rattle.issue_plan.specs.Wanted.{PlanInput}
 use Rattle.issue_plan.specs.Work.{IsPlan, new_key_by}
 use Rattle.issue_plan.specs.Work as plan
 use Rattle.issue_keys.specs.Keys.{id_of, fresh_row}
-use Rattle.issue_drafts.specs.Finding.{Keys, all_keys}
-use Rattle.issue_drafts.specs.Certificates.{IssueInput}
+use Rattle.issue_drafts.specs.WorkKeys.{Keys, all_keys}
+use Rattle.issue_drafts.specs.IssueInput.{IssueInput}
 use Rattle.issue_drafts.specs.Drafts.{serial_behind}
 use Rattle.issue_drafts.specs.Revoking.{has_point}
-use Rattle.issue_make.specs.declared.outcome.Made.{Made}
+use Rattle.issue_make.specs.declared.made.Made.{Made}
 use Rattle.issue_make.specs.Trace.{IssuingTrace, AreKeys, all_of, row_after, is_before}
 use Rattle.issue_make.specs.Made.{IsMade}
 use Rattle.press_records.specs.Rows.{RowValue, row_value}

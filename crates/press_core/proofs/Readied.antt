@@ -23,8 +23,8 @@ use Rattle.issue_plan.specs.Work.{IsPlan}
 use Rattle.issue_keys.specs.declared.fault.MakeFault.{MakeFault}
 use Rattle.issue_keys.specs.declared.fault.MakeFault.TheVariants.{SignerFault, KeyClash, Memory}
 use Rattle.issue_keys.specs.Making.{making as making_of}
-use Rattle.issue_drafts.specs.Certificates.{IssueInput}
-use Rattle.issue_make.specs.declared.outcome.Made.{Made}
+use Rattle.issue_drafts.specs.IssueInput.{IssueInput}
+use Rattle.issue_make.specs.declared.made.Made.{Made}
 use Rattle.issue_make.specs.CanMake as making
 use Rattle.signer_ring.specs.Calls.{after_calls}
 use Rattle.issue_make.specs.Made.{IsMade, IsStop, calls_of}

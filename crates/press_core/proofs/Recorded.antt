@@ -26,9 +26,9 @@ use Rattle.issue_plan.specs.declared.keys.NextKey.{NextKey}
 use Rattle.issue_plan.specs.Keys.{next_keys}
 use Rattle.issue_plan.specs.Wanted.{PlanInput}
 use Rattle.issue_plan.specs.Work as plan
-use Rattle.issue_drafts.specs.Certificates.{IssueInput}
+use Rattle.issue_drafts.specs.IssueInput.{IssueInput}
 use Rattle.issue_drafts.specs.Drafts.{serial_behind, is_numbered}
-use Rattle.issue_drafts.specs.Finding.{Keys, all_keys}
+use Rattle.issue_drafts.specs.WorkKeys.{Keys, all_keys}
 use Rattle.issue_drafts.specs.Firsts.{AreFirsts}
 use Rattle.issue_drafts.specs.Revoking.{has_point, candidates}
 use Rattle.issue_make.specs.Trace.{IssuingTrace, AreKeys, all_of, puts_of, row_after}

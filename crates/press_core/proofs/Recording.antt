@@ -25,7 +25,7 @@ use Rattle.pub_set.specs.Changes.{Contents, uri_of, change_at}
 use Rattle.issue_keys.specs.Keys.{id_of}
 use Rattle.issue_plan.specs.declared.keys.NextKey.{NextKey}
 use Rattle.issue_drafts.specs.Drafts.{serial_behind}
-use Rattle.issue_drafts.specs.Certificates.{IssueInput}
+use Rattle.issue_drafts.specs.IssueInput.{IssueInput}
 use Rattle.issue_drafts.specs.Firsts.{AreFirsts}
 use Rattle.issue_drafts.specs.Revoking.{has_point, is_listed, candidates, revoked_row, is_superseded}
 use Rattle.issue_drafts.specs.laws.UriOrder.{found-some}

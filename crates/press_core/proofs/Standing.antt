@@ -79,7 +79,7 @@ first-stands premises published_state first long =
         configs = first-configs 0 premises.lists published_state.cut published_state.configs zeros (first.configs.one_each ∙ sym long)
             (λ k less. first.configs.empty k (let all = first.configs.one_each in omega (arith, less, all)) ∙ ap (λ (d : ℕ). Some (empty_settings d)) (omega arith));
       };
-      steps = λ place edition there. absurd cc;
+      steps = λ position edition there. absurd cc;
       table = subst (IsTable (set_after [])) (sym first.issued) (record {
         rising = rise-none;
         each = λ row there. absurd (let less = there.1 in omega (arith, less));

@@ -4,7 +4,7 @@ use Rattle.signer_api.specs.State.{SignerState}
 use Rattle.res_sets.specs.declared.holdings.Resources.{Resources}
 use Rattle.key_roll.specs.declared.work.Work.{Work}
 use Rattle.issue_keys.specs.Making.{IsClash}
-use Rattle.issue_make.specs.declared.outcome.Made.{Made}
+use Rattle.issue_make.specs.declared.made.Made.{Made}
 use Rattle.issue_make.specs.Made.{IsMade, IsOut, IsFault}
 use Rattle.editions.specs.PublishedState.{PublishedStateValue}
 use Rattle.editions.specs.Moments.{is_out_of_range, first_at_end}

@@ -8,8 +8,8 @@ use Rattle.entitle.specs.Certified.{names_of, AreCertified}
 use Rattle.key_roll.specs.declared.work.Work.{Work}
 use Rattle.issue_plan.specs.Keys.{Basis, next_keys}
 use Rattle.issue_plan.specs.Work.{IsPlan}
-use Rattle.issue_drafts.specs.Certificates.{IssueInput}
-use Rattle.issue_make.specs.declared.outcome.Made.{Made}
+use Rattle.issue_drafts.specs.IssueInput.{IssueInput}
+use Rattle.issue_make.specs.declared.made.Made.{Made}
 use Rattle.issue_make.specs.CanMake as making
 use Rattle.issue_make.specs.Made.{IsMade, calls_of}
 use Rattle.editions.specs.PublishedState.{PublishedStateValue}

@@ -23,7 +23,7 @@ ghost use Rattle.key_roll.specs.declared.rows.Role.TheVariants.{Current};
 ghost use Rattle.key_roll.specs.declared.work.Work.{Work};
 ghost use Rattle.issue_plan.specs.Keys.{Basis};
 ghost use Rattle.issue_plan.specs.Work.{IsPlan};
-ghost use Rattle.issue_make.specs.declared.outcome.Made.{Made};
+ghost use Rattle.issue_make.specs.declared.made.Made.{Made};
 ghost use Rattle.issue_make.specs.Made.{IsMade};
 ghost use Rattle.press_core.specs.Signers.{HasAllVouched};
 ghost use Rattle.press_core.specs.PrepareInput.{PrepareInput};

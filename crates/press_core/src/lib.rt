@@ -14,7 +14,7 @@ mod press;
 mod record_laws;
 mod setup;
 
-pub use editions::{Gathered, Published};
+pub use editions::{Gathered, PublishedNumbers};
 pub use fault::{Met, PressFault};
 pub use last_export::LastExport;
 pub use laws::{

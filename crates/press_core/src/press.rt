@@ -33,7 +33,7 @@ use crate::laws::{
 use crate::next_edition::NextEdition;
 use crate::prepared::Prepared;
 use crate::preparing::prepare_over;
-use editions::{EndedKey, Gathered, Published, PublishedState};
+use editions::{EndedKey, Gathered, PublishedNumbers, PublishedState};
 use key_ids::Site;
 use notice_board::Sheet;
 use outlet_api::{ExportFault, Outlet, export};
@@ -236,7 +236,7 @@ impl<S: Signer> Press<S> {
     }
 
     /// The edition that was prepared becomes the last one. It takes no memory.
-    pub fn commit(&mut self, prepared: Prepared) -> Published
+    pub fn commit(&mut self, prepared: Prepared) -> PublishedNumbers
         requires next { IsNext self.old.site self.old.at prepared.edition }
         requires files { prepared.files ≡ files_of self.old.rrdp.session prepared.edition }
         ensures at { self.new.at ≡ prepared.edition.next }

@@ -24,7 +24,7 @@ use Rattle.editions.specs.Edition.{Edition}
 use Rattle.editions.specs.Step.{Premises}
 use Rattle.editions.specs.Gathering.{AreGathered, AreAccepted, configs_with}
 use Rattle.editions.specs.declared.gathered.Gathered.{Gathered}
-use Rattle.editions.specs.declared.published_state.Published.{Published}
+use Rattle.editions.specs.declared.published_state.PublishedNumbers.{PublishedNumbers}
 use Rattle.editions.specs.PlannedAndMade.{CanBeRead}
 use Rattle.editions.specs.PublishedState.{PublishedStateValue, published_of}
 use Rattle.editions.specs.VouchedCalls.{IsVouchedBy}
@@ -190,7 +190,7 @@ module _ (desks : List (View MemoryDisk)) (press : PressValue) (done : List Done
           }
 
       pub published : (new : PressValue) → new.site ≡ press.site → new.at ≡ prepared.next → length new.ring ≡ length press.ring
-          → (numbers : Published) → numbers ≡ published_of prepared.next → IsAt desks new (done ++ told.Published numbers ∷ [])
+          → (numbers : PublishedNumbers) → numbers ≡ published_of prepared.next → IsAt desks new (done ++ told.Published numbers ∷ [])
       published new same_site same_at same_ring numbers is =
           let editions = at.editions ++ edition ∷ [] in
           let vouched = at.vouched ++ signed in
@@ -200,7 +200,7 @@ module _ (desks : List (View MemoryDisk)) (press : PressValue) (done : List Done
               signed = signed;
               edition = edition;
               is = refl;
-              numbered = record { serial = sym (ap (λ (p : Published). p.serial) is); moment = sym (ap (λ (p : Published). p.moment) is) };
+              numbered = record { serial = sym (ap (λ (p : PublishedNumbers). p.serial) is); moment = sym (ap (λ (p : PublishedNumbers). p.moment) is) };
             });
             legal = subst (λ (site : Bases). IsLegal site (at.history ++ publication ∷ [])) (sym same_site)
                 (legal_then press.site at.history before at.left at.legal publication may);

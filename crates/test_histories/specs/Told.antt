@@ -3,7 +3,7 @@ use Rattle.std.specs.Prelude.{◌≡◌, ℕ, List, [], ◌∷◌, ◌++◌, map
 use Rattle.std.specs.declared.alloc.Global.{Global}
 use Rattle.authority_book.specs.declared.commands.Command.{Command}
 use Rattle.editions.specs.Edition.{Edition}
-use Rattle.editions.specs.declared.published_state.Published.{Published}
+use Rattle.editions.specs.declared.published_state.PublishedNumbers.{PublishedNumbers}
 use Rattle.histories.specs.Devices.{Signature}
 use Rattle.histories.specs.Events.{Event, Happening, History}
 use Rattle.histories.specs.Events.Event.{Commit, Publish, DeskFault, Stop, Reopen}
@@ -17,12 +17,12 @@ abbrev pub lists_of : Vec (Vec Command Global) Global → List (List Command)
 lists_of lists = map (λ list. list.items) lists.items
 
 -- An edition with the serial and the moment that are told of it.
-pub record IsNumbered (published : Published) (edition : Edition) : Type 0 where
+pub record IsNumbered (published : PublishedNumbers) (edition : Edition) : Type 0 where
   pub serial : edition.serial ≡ published.serial
   pub moment : edition.moment ≡ published.moment
 
 -- The edition is published, and before it these signatures were made.
-pub record IsPublication (published : Published) (happened : History) : Type 0 where
+pub record IsPublication (published : PublishedNumbers) (happened : History) : Type 0 where
   pub signed : List Signature
   pub edition : Edition
   pub is : happened ≡ record { signed = signed; event = Publish edition } ∷ []

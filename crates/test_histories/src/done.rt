@@ -1,7 +1,7 @@
 //! What is done to a store.
 
 use authority_book::Command;
-use editions::Published;
+use editions::PublishedNumbers;
 use names::Name;
 
 /// A step of a case.
@@ -53,7 +53,7 @@ pub enum Done {
     },
     /// An edition was published.
     Published {
-        published: Published,
+        published: PublishedNumbers,
     },
     /// No edition was published, by the refusal of that code.
     Refused {

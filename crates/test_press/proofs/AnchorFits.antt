@@ -25,8 +25,9 @@ use Rattle.issue_values.specs.Certificates.{IsEditionMoment}
 use Rattle.issue_values.specs.Bodies.{AreRevoked}
 use Rattle.issue_values.specs.Publishers.{roa_uri}
 use Rattle.issue_keys.specs.Keys.{id_of, kept_rows, fresh_row, fresh_rows, AreFresh}
-use Rattle.issue_drafts.specs.Finding.{Keys}
-use Rattle.issue_drafts.specs.Certificates.{IssueInput, is_key, name_at, made_uri}
+use Rattle.issue_drafts.specs.WorkKeys.{Keys}
+use Rattle.issue_drafts.specs.IssueInput.{IssueInput}
+use Rattle.issue_drafts.specs.Publishers.{is_key, name_at, made_uri}
 use Rattle.issue_drafts.specs.Drafts.{Draft, roa_draft}
 use Rattle.issue_drafts.specs.Drafts.Kind.{Certificate, Roa, Crl, Manifest}
 use Rattle.issue_make.specs.CanMake.{IsThere, IsCertified, AreListable, Fits, CanMake}

@@ -1,13 +1,14 @@
-//! Cases of calls on a ring's signers and of places under keys: a line a case, its fields separated by
-//! tabs. The name and the answers are printed.
+//! Cases of calls on a ring's signers and of positions under keys: a line a case, its fields separated
+//! by tabs. The name and the answers are printed.
 //!
 //! `calls`, the calls that fail of each of two signers, and calls: `make` and a signer; `sign`, a signer,
 //! the signer whose last key it is, and bytes; `once`, a signer and bytes. Behind each signature stands
 //! whether the ring vouches for it over the bytes, and over these with one more.
-//! `places`, places each behind the last byte of its key, and a key: what is first under it, and all.
+//! `positions`, positions each behind the last byte of its key, and a key: what is first under it, and
+//! all.
 
 mod calls;
-mod places;
+mod positions;
 
 use anyhow::{Result, bail};
 use std::alloc::Global;
@@ -15,7 +16,7 @@ use std::alloc::Global;
 fn answer(alloc: Global, fields: &[&str]) -> Result<String> {
     match fields {
         [_, "calls", first, second, script] => calls::run(alloc, first, second, script),
-        [_, "places", placed, key] => places::run(alloc, placed, key),
+        [_, "positions", listed, key] => positions::run(alloc, listed, key),
         _ => bail!("no such case"),
     }
 }

@@ -10,8 +10,8 @@ use Rattle.key_roll.specs.declared.rows.KeyRow.{KeyRow}
 use Rattle.key_roll.specs.declared.work.NewKey.{NewKey}
 use Rattle.key_roll.specs.declared.work.RoleWork.{RoleWork}
 use Rattle.issue_keys.specs.Keys.{is_dropped, with_role, role_of, kept_rows, fresh_row, fresh_rows}
-use Rattle.issue_drafts.specs.Finding.{all_keys}
-use Rattle.issue_drafts.specs.Certificates.{IssueInput}
+use Rattle.issue_drafts.specs.WorkKeys.{all_keys}
+use Rattle.issue_drafts.specs.IssueInput.{IssueInput}
 use Rattle.issue_drafts.specs.Drafts.{Draft, is_numbered}
 use Rattle.issue_sign.specs.Objects.{Signed}
 use Rattle.issue_drafts.specs.Revoking.{has_point}

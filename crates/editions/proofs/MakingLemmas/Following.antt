@@ -13,7 +13,7 @@ use Rattle.signer_ring.specs.Calls.{Call}
 use Rattle.key_roll.specs.declared.rows.KeyRow.{KeyRow}
 use Rattle.key_roll.specs.declared.work.PointWork.{PointWork}
 use Rattle.issue_keys.specs.Making as keys
-use Rattle.issue_drafts.specs.Certificates.{IssueInput}
+use Rattle.issue_drafts.specs.IssueInput.{IssueInput}
 use Rattle.issue_drafts.specs.Drafts.{Draft, drafts, manifests, certificate_draft, roa_draft, crl_draft, manifest_draft}
 use Rattle.issue_sign.specs.Objects.{Signed}
 use Rattle.issue_sign.specs.Calls.{first_calls, second_calls, content_calls, last_calls}

@@ -10,8 +10,8 @@ use Rattle.pub_set.specs.Changes.{Contents, uri_of, change_at, after_all}
 use Rattle.rp_rules.specs.Certificates.{Vouched}
 use Rattle.entitle.specs.Owed.{AreOwed}
 use Rattle.issue_keys.specs.Keys.{id_of}
-use Rattle.issue_drafts.specs.Finding.{Keys, all_keys}
-use Rattle.issue_drafts.specs.Certificates.{IssueInput}
+use Rattle.issue_drafts.specs.WorkKeys.{Keys, all_keys}
+use Rattle.issue_drafts.specs.IssueInput.{IssueInput}
 use Rattle.issue_drafts.specs.Drafts.{Draft}
 use Rattle.issue_sign.specs.Calls.{content_calls, last_calls}
 use Rattle.issue_drafts.specs.Files.{kept_files}

@@ -16,8 +16,8 @@ use Rattle.pub_set.specs.Changes.{Contents, change_at, difference}
 use Rattle.key_ids.specs.Uris.{anchor_uri}
 use Rattle.issue_keys.specs.Keys.{id_of}
 use Rattle.issue_plan.specs.Uris.{is_among, withdrawn}
-use Rattle.issue_drafts.specs.Finding.{Keys}
-use Rattle.issue_drafts.specs.Certificates.{IssueInput}
+use Rattle.issue_drafts.specs.WorkKeys.{Keys}
+use Rattle.issue_drafts.specs.IssueInput.{IssueInput}
 use Rattle.issue_drafts.specs.Drafts.{Draft}
 use Rattle.issue_drafts.specs.laws.UriOrder.{apart-from-rise, found-some, found-there}
 use Rattle.issue_drafts.specs.Revoking.{is_touched}

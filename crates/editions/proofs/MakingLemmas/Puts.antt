@@ -9,7 +9,7 @@ use Rattle.pub_set.specs.declared.steps.Change.{Change}
 use Rattle.pub_set.specs.Objects.{found_at}
 use Rattle.pub_set.specs.Changes.{uri_of, change_at}
 use Rattle.key_roll.specs.declared.rows.KeyRow.{KeyRow}
-use Rattle.issue_drafts.specs.Certificates.{IssueInput}
+use Rattle.issue_drafts.specs.IssueInput.{IssueInput}
 use Rattle.issue_drafts.specs.laws.UriOrder.{apart-permuted, found-some, found-there}
 use Rattle.issue_drafts.specs.Drafts.{Draft, drafts, manifests}
 use Rattle.issue_sign.specs.Objects.{Signed}

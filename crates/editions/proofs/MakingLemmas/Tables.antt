@@ -22,8 +22,9 @@ use Rattle.key_roll.specs.declared.issued.What.TheVariants as Whats
 use Rattle.issue_values.specs.Certificates as values
 use Rattle.issue_values.specs.Bodies.{roa_of}
 use Rattle.issue_keys.specs.Keys.{id_of}
-use Rattle.issue_drafts.specs.Finding.{Keys}
-use Rattle.issue_drafts.specs.Certificates.{IssueInput, is_key, publishing_of}
+use Rattle.issue_drafts.specs.WorkKeys.{Keys}
+use Rattle.issue_drafts.specs.IssueInput.{IssueInput}
+use Rattle.issue_drafts.specs.Publishers.{is_key, publishing_of}
 use Rattle.issue_drafts.specs.Drafts.{Draft, Kind, drafts, serial_at, serial_behind}
 use Rattle.issue_drafts.specs.Drafts.Kind.{Certificate, Roa, Crl, Manifest}
 use Rattle.issue_drafts.specs.laws.UriOrder.{apart-from-rise, found-some, found-there}

@@ -16,7 +16,7 @@ use Rattle.pub_set.specs.declared.steps.Change.{Change}
 use Rattle.pub_set.specs.declared.steps.Change.TheVariants.{Put, Withdraw}
 use Rattle.pub_set.specs.Objects.{uri_cmp, is_same, found_at, Rise}
 use Rattle.pub_set.specs.Changes.{Contents, uri_of, left_by, after, after_all, difference, change_at}
-use Rattle.issue_drafts.specs.Certificates.{IssueInput}
+use Rattle.issue_drafts.specs.IssueInput.{IssueInput}
 use Rattle.issue_drafts.specs.laws.UriOrder.{found-some, found-none, found-there, apart-from-rise}
 use Rattle.pub_set.specs.laws.UriLaws.{same_is as same-is}
 use Rattle.issue_sign.specs.Objects.{Signed}

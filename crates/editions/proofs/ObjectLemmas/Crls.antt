@@ -8,7 +8,7 @@ use Rattle.key_ids.specs.Uris.{crl_uri}
 use Rattle.crl_obj.specs.Values.{CrlValue, SignedCrl}
 use Rattle.rp_rules.specs.Objects.{crl_in}
 use Rattle.entitle.specs.Certified.{names_of}
-use Rattle.issue_drafts.specs.Certificates.{name_at}
+use Rattle.issue_drafts.specs.Publishers.{name_at}
 use Rattle.editions.specs.Objects.{Issuance}
 use Rattle.pub_set.specs.Changes.{Contents}
 use Rattle.issue_keys.specs.Keys.{id_of}
@@ -19,16 +19,16 @@ use Rattle.editions.proofs.ObjectLemmas.Numbers.{listing, has-listing}
 use Rattle.editions.proofs.ObjectLemmas.Views.{IsView, live-row, row-key, same-key, id-next, update-next}
 use Rattle.editions.proofs.ObjectLemmas.History.{there-is, set-before, moment-before, rises, seen}
 
--- A CRL of the key stood before the edition at that place, and was made before that moment.
-pub record HadCrl (editions : List Edition) (id : List ℕ) (place moment : ℕ) : Type 0 where
+-- A CRL of the key stood before the edition at that position, and was made before that moment.
+pub record HadCrl (editions : List Edition) (id : List ℕ) (position moment : ℕ) : Type 0 where
   pub list : SignedCrl
-  pub stood : IsCrlOf (set_after (take place editions)) id list
+  pub stood : IsCrlOf (set_after (take position editions)) id list
   pub earlier : list.crl.this_update ≤ moment
 
 module _ (premises : Premises) (editions : List Edition) (steps : AreSteps premises editions)
     (id : List ℕ) (from : ℕ) where
-  pub had-crl : (place : ℕ) (edition : Edition) → slice_get editions place ≡ Some edition
-      → from < place → IsInLife id editions from place → HadCrl editions id place edition.moment
+  pub had-crl : (position : ℕ) (edition : Edition) → slice_get editions position ≡ Some edition
+      → from < position → IsInLife id editions from position → HadCrl editions id position edition.moment
   had-crl zero edition there less life = absurd (omega (arith, less))
   had-crl (suc at) edition there less life =
       let within = life.within in
@@ -88,7 +88,7 @@ module _ (premises : Premises) (before : List Edition) (edition : Edition) (m : 
       let right : id_of b.issuer ≡ id = sym (ap (λ (v : CrlValue). v.issuer) b.says) ∙ and.issuer in
       let same : a.issuer ≡ b.issuer = same-key premises before edition m view a.issuer b.issuer
       a.live b.live (left ∙ sym right) in
-      let place : is.uri ≡ and.uri = a.at ∙ (ap names same ∙ sym b.at) in
+      let same_uri : is.uri ≡ and.uri = a.at ∙ (ap names same ∙ sym b.at) in
       let bytes : is.bytes ≡ and.bytes =
-      same_Some is.bytes and.bytes (sym is.there ∙ (ap set place ∙ and.there)) in
+      same_Some is.bytes and.bytes (sym is.there ∙ (ap set same_uri ∙ and.there)) in
       same_Some one other (sym is.read ∙ (ap crl_in bytes ∙ and.read))

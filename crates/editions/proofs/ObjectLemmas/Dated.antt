@@ -7,8 +7,9 @@ use Rattle.crl_obj.specs.Values.{CrlValue, SignedCrl}
 use Rattle.cms_obj.specs.Values.{ObjectValue}
 use Rattle.rp_rules.specs.Objects.{certificate_in, crl_in, object_in}
 use Rattle.pub_set.specs.Changes.{Contents}
-use Rattle.issue_drafts.specs.Finding.{Keys}
-use Rattle.issue_drafts.specs.Certificates.{IssueInput, is_key, publishing_of}
+use Rattle.issue_drafts.specs.WorkKeys.{Keys}
+use Rattle.issue_drafts.specs.IssueInput.{IssueInput}
+use Rattle.issue_drafts.specs.Publishers.{is_key, publishing_of}
 use Rattle.issue_drafts.specs.Drafts.{Draft, Kind, serial_at}
 use Rattle.issue_drafts.specs.Drafts.Kind.{Certificate, Roa, Crl, Manifest}
 use Rattle.issue_values.specs.Certificates as values

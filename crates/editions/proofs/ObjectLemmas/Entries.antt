@@ -20,8 +20,8 @@ use Rattle.pub_set.specs.Objects.{is_same, found_at}
 use Rattle.pub_set.specs.Changes.{Contents, change_at}
 use Rattle.issue_plan.specs.Wanted.{PlanInput}
 use Rattle.issue_keys.specs.Keys.{id_of}
-use Rattle.issue_drafts.specs.Finding.{all_keys}
-use Rattle.issue_drafts.specs.Certificates.{IssueInput}
+use Rattle.issue_drafts.specs.WorkKeys.{all_keys}
+use Rattle.issue_drafts.specs.IssueInput.{IssueInput}
 use Rattle.issue_drafts.specs.Drafts.{Draft, manifests}
 use Rattle.issue_drafts.specs.laws.UriOrder.{same-decides}
 use Rattle.issue_sign.specs.Objects.{Signed}

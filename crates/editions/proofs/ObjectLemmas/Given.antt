@@ -22,8 +22,9 @@ use Rattle.payloads.specs.RoaReading.{roa_read}
 use Rattle.issue_values.specs.Certificates as values
 use Rattle.entitle.specs.Certified.{names_of}
 use Rattle.issue_keys.specs.Keys.{id_of}
-use Rattle.issue_drafts.specs.Finding.{Keys}
-use Rattle.issue_drafts.specs.Certificates.{IssueInput, is_key, name_at, publishing_of}
+use Rattle.issue_drafts.specs.WorkKeys.{Keys}
+use Rattle.issue_drafts.specs.IssueInput.{IssueInput}
+use Rattle.issue_drafts.specs.Publishers.{is_key, name_at, publishing_of}
 use Rattle.issue_drafts.specs.Drafts.{Draft, Kind, has_serial, is_numbered, serial_at, serial_behind}
 use Rattle.issue_drafts.specs.Drafts.Kind.{Certificate, Roa, Crl, Manifest}
 use Rattle.pub_set.specs.laws.UriLaws.{same_is as same-is, uri_total}

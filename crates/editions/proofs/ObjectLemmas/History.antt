@@ -16,7 +16,7 @@ use Rattle.editions.proofs.ObjectLemmas.Given.{IsNumberedAt, IsBehindAt, own-cer
 use Rattle.editions.proofs.ObjectLemmas.Views.{HasView, view-of, live-row, came, held-given, held-from, held-to, carried, row-behind, row-above, same-key}
 use Rattle.editions.proofs.StepLemmas.Following.{state_on}
 
--- ---- editions by their places
+-- ---- editions by their positions
 
 pub after-last : (before : List Edition) (edition : Edition)
     → state_after (before ++ edition ∷ []) ≡ after_edition (state_after before) edition
@@ -34,7 +34,7 @@ pub seam : (xs : List Edition) (x : Edition) → slice_get (xs ++ x ∷ []) (len
 seam [] x = refl
 seam (first ∷ xs) x = seam xs x
 
--- What the editions up to a place leave is what the one there does.
+-- What the editions up to a position leave is what the one there does.
 pub rows-after : (editions : List Edition) (k : ℕ) (edition : Edition)
     → slice_get editions k ≡ Some edition
     → (state_after (take (k + 1) editions)).rows ≡ edition.rows
@@ -106,8 +106,8 @@ shorter id editions from to other least most life =
     record {
       ordered = least;
       within = omega (arith, within, most);
-      unbroken = λ place edition low high there.
-          life.unbroken place edition low (omega (arith, high, most)) there;
+      unbroken = λ position edition low high there.
+          life.unbroken position edition low (omega (arith, high, most)) there;
     }
 
 module _ (premises : Premises) (editions : List Edition) (steps : AreSteps premises editions) where
@@ -229,13 +229,13 @@ module _ (premises : Premises) (editions : List Edition) (steps : AreSteps premi
       let keys : h.issuer ≡ g.issuer = same-key premises (take at editions) edition v.m v.view
       h.issuer g.issuer h.live g.live
       (sym h.named ∙ (right.issuer ∙ (sym left.issuer ∙ g.named))) in
-      let place : left.uri ≡ right.uri = one-place v.m left.uri right.uri g.issuer one.cert.serial
+      let same_uri : left.uri ≡ right.uri = one-place v.m left.uri right.uri g.issuer one.cert.serial
       g.serial (subst (λ (n : ℕ). IsNumberedAt v.m right.uri g.issuer n
       ⊎ IsBehindAt v.m right.uri g.issuer n) (sym same)
       (subst (λ (k : KeyRow). IsNumberedAt v.m right.uri k other.cert.serial
       ⊎ IsBehindAt v.m right.uri k other.cert.serial) keys h.serial)) in
       let bytes : left.bytes ≡ right.bytes = same_Some left.bytes right.bytes
-      (sym left.there ∙ (ap (set_after (take at editions ++ edition ∷ [])) place ∙ right.there)) in
+      (sym left.there ∙ (ap (set_after (take at editions ++ edition ∷ [])) same_uri ∙ right.there)) in
       same-certificate right.bytes one other
       (subst (λ (b : List ℕ). HasCertificate b one) bytes left.has) right.has
 

@@ -9,11 +9,11 @@ use Rattle.editions.specs.Held.{IsHeld, Holds}
 use Rattle.editions.proofs.ObjectLemmas.History.{seam, there-is}
 
 pub record HasLast (editions : List Edition) : Type 0 where
-  pub place : ℕ
-  pub next : length editions ≡ place + 1
+  pub position : ℕ
+  pub next : length editions ≡ position + 1
   pub edition : Edition
-  pub there : slice_get editions place ≡ Some edition
-  pub whole : take (place + 1) editions ≡ editions
+  pub there : slice_get editions position ≡ Some edition
+  pub whole : take (position + 1) editions ≡ editions
 
 pub last-of : (editions : List Edition) → (editions ≡ []) ⊎ HasLast editions
 last-of [] = inl refl
@@ -21,7 +21,7 @@ last-of (first ∷ editions) =
     let n : ℕ = length editions in
     let there = there-is (first ∷ editions) n (omega arith) in
     inr (record {
-      place = n;
+      position = n;
       next = omega arith;
       edition = there.0;
       there = there.1;
@@ -80,12 +80,12 @@ module _ (editions : List Edition) (edition : Edition) where
         record {
           ordered = omega (arith, ordered, next);
           within = omega (arith, e);
-          unbroken = λ place x least most there.
-              elim (cases_lt place count) [
-                | inl inside ↦ life.unbroken place x least (omega (arith, inside, next))
-                    (sym (get-append editions (edition ∷ []) place inside) ∙ there)
+          unbroken = λ position x least most there.
+              elim (cases_lt position count) [
+                | inl inside ↦ life.unbroken position x least (omega (arith, inside, next))
+                    (sym (get-append editions (edition ∷ []) position inside) ∙ there)
                 | inr past ↦
-                    let here : place ≡ count = omega (arith, most, past) in
+                    let here : position ≡ count = omega (arith, most, past) in
                     subst (λ (e : Edition). is_live_in id e ≡ true)
                     (same-one edition x
                     (sym get-last ∙ (ap (slice_get more) (sym here) ∙ there))) live
@@ -101,7 +101,7 @@ module _ (editions : List Edition) (edition : Edition) where
     life-before from to last next least life most = record {
       ordered = least;
       within = omega (arith, next);
-      unbroken = λ place x low high there.
-          life.unbroken place x low (omega (arith, high, most))
-          (get-append editions (edition ∷ []) place (omega (arith, high, next)) ∙ there);
+      unbroken = λ position x low high there.
+          life.unbroken position x low (omega (arith, high, most))
+          (get-append editions (edition ∷ []) position (omega (arith, high, next)) ∙ there);
     }

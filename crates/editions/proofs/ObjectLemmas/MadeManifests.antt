@@ -19,8 +19,9 @@ use Rattle.issue_values.specs.Publishers.{Publishing}
 use Rattle.issue_values.specs.Certificates as values
 use Rattle.issue_values.specs.Bodies.{manifest_value_of}
 use Rattle.issue_plan.specs.Wanted.{PlanInput}
-use Rattle.issue_drafts.specs.Finding.{Keys, key_named}
-use Rattle.issue_drafts.specs.Certificates.{IssueInput, publishing_of, made_uri}
+use Rattle.issue_drafts.specs.WorkKeys.{Keys, key_named}
+use Rattle.issue_drafts.specs.IssueInput.{IssueInput}
+use Rattle.issue_drafts.specs.Publishers.{publishing_of, made_uri}
 use Rattle.issue_drafts.specs.Drafts.{Draft, Kind, serial_behind, drafts, manifests, certificate_draft, roa_draft, crl_draft, manifest_draft, is_manifest}
 use Rattle.issue_drafts.specs.Drafts.Kind.{Certificate, Roa, Crl, Manifest}
 use Rattle.issue_sign.specs.Objects.{Signed, manifest_certificate, manifest_content, manifest_bytes, number_of, attributes}

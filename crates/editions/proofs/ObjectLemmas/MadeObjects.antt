@@ -19,7 +19,8 @@ use Rattle.issue_values.specs.Certificates as values
 use Rattle.issue_values.specs.Bodies.{roa_of, crl_value_of}
 use Rattle.issue_plan.specs.Wanted.{PlanInput}
 use Rattle.issue_keys.specs.Keys.{id_of}
-use Rattle.issue_drafts.specs.Certificates.{IssueInput, is_key, name_at, first_of, standing_for, publishing_of}
+use Rattle.issue_drafts.specs.IssueInput.{IssueInput}
+use Rattle.issue_drafts.specs.Publishers.{is_key, name_at, first_of, standing_for, publishing_of}
 use Rattle.issue_drafts.specs.Drafts.{Draft, Kind, serial_at}
 use Rattle.issue_drafts.specs.Drafts.Kind.{Certificate, Roa, Crl, Manifest}
 use Rattle.issue_sign.specs.Objects.{Signed, bytes_by, certificate, roa_certificate, crl_of, number_of}

@@ -127,33 +127,33 @@ module _ (premises : Premises) (editions : List Edition) (edition : Edition) (m 
   -- ---- behind some editions
 
   module _ (last : HasLast editions) where
-    abbrev seen_last : HasView premises (take last.place editions) last.edition
-    seen_last = seen premises editions steps last.place last.edition last.there
+    abbrev seen_last : HasView premises (take last.position editions) last.edition
+    seen_last = seen premises editions steps last.position last.edition last.there
 
     abbrev was : Issuance
     was = seen_last.m
 
-    whole : take last.place editions ++ last.edition ∷ [] ≡ editions
-    whole = sym (take-next editions last.place last.edition last.there) ∙ last.whole
+    whole : take last.position editions ++ last.edition ∷ [] ≡ editions
+    whole = sym (take-next editions last.position last.edition last.there) ∙ last.whole
 
     rows-last : (state_after editions).rows ≡ last.edition.rows
     rows-last =
         ap (λ (l : List Edition). (state_after l).rows) (sym last.whole)
-        ∙ rows-after editions last.place last.edition last.there
+        ∙ rows-after editions last.position last.edition last.there
 
     set-last : was.new ≡ set_after editions
     set-last = seen_last.view.new ∙ ap (λ (l : List Edition). set_after l) whole
 
     to-last : (id : List ℕ) (c : SignedCert) → IsHeld (set_after editions) id c
-        → IsHeld (set_after (take last.place editions ++ last.edition ∷ [])) id c
+        → IsHeld (set_after (take last.position editions ++ last.edition ∷ [])) id c
     to-last id c held = subst (λ (l : List Edition). IsHeld (set_after l) id c) (sym whole) held
 
     holds-last : (id : List ℕ) (c : SignedCert) → IsHeld (set_after editions) id c
-        → Holds editions last.place id c
+        → Holds editions last.position id c
     holds-last id c held =
         subst (λ (l : List Edition). IsHeld (set_after l) id c) (sym last.whole) held
 
-    held-by : (id : List ℕ) (c : SignedCert) → Holds editions last.place id c
+    held-by : (id : List ℕ) (c : SignedCert) → Holds editions last.position id c
         → IsHeld (set_after editions) id c
     held-by id c held = subst (λ (l : List Edition). IsHeld (set_after l) id c) last.whole held
 
@@ -168,15 +168,15 @@ module _ (premises : Premises) (editions : List Edition) (edition : Edition) (m 
 
     -- What the key issued in its life until the last edition isn't held any longer.
     not-held : (key : KeyRow) → Contains m.keys key → (c : SignedCert) (from : ℕ)
-        → IsInLife (id_of key) editions from last.place → Holds editions from (id_of key) c
+        → IsInLife (id_of key) editions from last.position → Holds editions from (id_of key) c
         → IsHeld (set_after more) (id_of key) c → ⊥
     not-held key among c from life held now =
         let id : List ℕ = id_of key in
         let live = live-row id last.edition
-        (life.unbroken last.place last.edition life.ordered (omega arith) last.there) in
+        (life.unbroken last.position last.edition life.ordered (omega arith) last.there) in
         let less = carried premises editions edition m view id c.cert.serial key among refl live.0
         (subst (λ (l : List KeyRow). Contains l live.0) (sym rows-last) live.1) live.2
-        (λ r inside same. below premises editions steps last.place from id c life held last.edition
+        (λ r inside same. below premises editions steps last.position from id c life held last.edition
         last.there r (subst (λ (l : List KeyRow). Contains l r) rows-last inside) same) in
         let least = held-from premises editions edition m view id c key now among refl in
         omega (arith, less, least)
@@ -195,7 +195,7 @@ module _ (premises : Premises) (editions : List Edition) (edition : Edition) (m 
       key_then : (k : KeyRow) × Contains was.keys k
           × (counted was.plan_input was.keys was.entries k ≡ come.row)
       key_then =
-          row-key premises (take last.place editions) last.edition was seen_last.view come.row kept
+          row-key premises (take last.position editions) last.edition was seen_last.view come.row kept
 
       named-then : id_of key_then.0 ≡ id
       named-then = ap id_of key_then.2 ∙ come.named
@@ -203,23 +203,23 @@ module _ (premises : Premises) (editions : List Edition) (edition : Edition) (m 
       updated : moment_of was ≡ key.this_update
       updated = ap (λ (k : KeyRow). k.this_update) key_then.2 ∙ sym come.this_update
 
-      noted : AreSuperseded editions last.place id key.revoked
+      noted : AreSuperseded editions last.position id key.revoked
       noted =
           let next = last.next in
-          let at : length (take last.place editions) ≡ last.place =
-          length-take-le last.place editions (omega (arith, next)) in
+          let at : length (take last.position editions) ≡ last.position =
+          length-take-le last.position editions (omega (arith, next)) in
           let entries : was.entries key_then.0 ≡ key.revoked =
           ap (λ (k : KeyRow). k.revoked) key_then.2 ∙ sym come.revoked in
-          let base : AreSuperseded (take last.place editions ++ last.edition ∷ [])
-          (length (take last.place editions)) (id_of key_then.0) (was.entries key_then.0) =
+          let base : AreSuperseded (take last.position editions ++ last.edition ∷ [])
+          (length (take last.position editions)) (id_of key_then.0) (was.entries key_then.0) =
           All-contains (λ (k : KeyRow). false ≡ false
-          → AreSuperseded (take last.place editions ++ last.edition ∷ [])
-          (length (take last.place editions)) (id_of k) (was.entries k)) was.keys key_then.0
+          → AreSuperseded (take last.position editions ++ last.edition ∷ [])
+          (length (take last.position editions)) (id_of k) (was.entries k)) was.keys key_then.0
           seen_last.revoked key_then.1 refl in
-          subst (λ (l : List RevokedRow). AreSuperseded editions last.place id l) entries
-          (subst (λ (i : List ℕ). AreSuperseded editions last.place i (was.entries key_then.0)) named-then
+          subst (λ (l : List RevokedRow). AreSuperseded editions last.position id l) entries
+          (subst (λ (i : List ℕ). AreSuperseded editions last.position i (was.entries key_then.0)) named-then
           (subst (λ (n : ℕ). AreSuperseded editions n (id_of key_then.0) (was.entries key_then.0)) at
-          (subst (λ (l : List Edition). AreSuperseded l (length (take last.place editions))
+          (subst (λ (l : List Edition). AreSuperseded l (length (take last.position editions))
           (id_of key_then.0) (was.entries key_then.0)) whole base)))
 
       crl : HasListing was key_then.0
@@ -245,18 +245,18 @@ module _ (premises : Premises) (editions : List Edition) (edition : Edition) (m 
           let one = listing was seen_last.view.set is.uri is.bytes l there is.read in
           ap (λ (v : CrlValue). v.this_update) one.says ∙ updated
 
-      life-more : (from : ℕ) → IsInLife id editions from last.place → IsInLife id more from count
+      life-more : (from : ℕ) → IsInLife id editions from last.position → IsInLife id more from count
       life-more from life =
-          life-on editions edition id from last.place last.next life (lives key among)
+          life-on editions edition id from last.position last.next life (lives key among)
 
-      more-held : (k : ℕ) (c : SignedCert) → k ≤ last.place → Holds editions k id c
+      more-held : (k : ℕ) (c : SignedCert) → k ≤ last.position → Holds editions k id c
           → Holds more k id c
       more-held k c inside held =
           let next = last.next in
           holds-more editions edition id k c (omega (arith, next, inside)) held
 
       -- An entry of the last CRL that still counts.
-      old-entry : (entry : RevokedRow) (c : SignedCert) → IsEntryOf editions last.place id entry c
+      old-entry : (entry : RevokedRow) (c : SignedCert) → IsEntryOf editions last.position id entry c
           → key.this_update ≤ entry.not_after → IsEntryOf more count id entry c
       old-entry entry c is due =
           let s = is.superseded in
@@ -300,14 +300,14 @@ module _ (premises : Premises) (editions : List Edition) (edition : Edition) (m 
             not_after = is.not_after;
           }
 
-      life-last : IsInLife id editions last.place last.place
+      life-last : IsInLife id editions last.position last.position
       life-last =
           let next = last.next in
           record {
             ordered = omega arith;
             within = omega (arith, next);
-            unbroken = λ place x least most there.
-                let here : place ≡ last.place = omega (arith, least, most) in
+            unbroken = λ position x least most there.
+                let here : position ≡ last.position = omega (arith, least, most) in
                 subst (λ (e : Edition). is_live_in id e ≡ true)
                 (same_Some last.edition x
                 (sym last.there ∙ (ap (slice_get editions) (sym here) ∙ there)))
@@ -324,17 +324,17 @@ module _ (premises : Premises) (editions : List Edition) (edition : Edition) (m 
           let next = last.next in
           let held = holds-last id c (ended-held key is.row e) in
           let gone : ¬ Holds more count id c = λ now.
-          not-held key among c last.place life-last held (holds-now editions edition id c now) in
+          not-held key among c last.position life-last held (holds-now editions edition id c now) in
           let moment : crl.crl.crl.this_update ≡ key.this_update = only-crl crl.crl crl-before in
           let ended : entry.not_after ≡ c.cert.not_after =
           sym (ap (λ (r : RevokedRow). r.not_after) is.made) ∙ e.tells.dated.not_after in
           let giving = given-last is.row.uri e.bytes c e.there e.tells.has in
           record {
             superseded = record {
-              earlier = last.place;
+              earlier = last.position;
               before = omega (arith, next);
-              life = life-more last.place life-last;
-              held = more-held last.place c (omega arith) held;
+              life = life-more last.position life-last;
+              held = more-held last.position c (omega arith) held;
               gone = gone;
               previous = crl.crl;
               listed = crl-before;
@@ -343,10 +343,10 @@ module _ (premises : Premises) (editions : List Edition) (edition : Edition) (m 
             };
             at = count;
             when = record {
-              last = last.place;
+              last = last.position;
               next = next;
-              life = life-more last.place life-last;
-              held = more-held last.place c (omega arith) held;
+              life = life-more last.position life-last;
+              held = more-held last.position c (omega arith) held;
               since = λ k least most now.
                   let here : k ≡ count = omega (arith, least, most) in
                   gone (subst (λ (n : ℕ). Holds more n id c) here now);
@@ -399,13 +399,13 @@ module _ (premises : Premises) (editions : List Edition) (edition : Edition) (m 
           let due = s.due in
           omega (arith, moment, due)
 
-      life-then : (from : ℕ) → from ≤ last.place → IsInLife id more from count
-          → IsInLife id editions from last.place
+      life-then : (from : ℕ) → from ≤ last.position → IsInLife id more from count
+          → IsInLife id editions from last.position
       life-then from least life =
           let next = last.next in
-          life-before editions edition id from count last.place next least life (omega (arith, next))
+          life-before editions edition id from count last.position next least life (omega (arith, next))
 
-      before-last : (c : SignedCert) (s : IsSuperseded more count id c) → s.earlier ≤ last.place
+      before-last : (c : SignedCert) (s : IsSuperseded more count id c) → s.earlier ≤ last.position
       before-last c s =
           let next = last.next in
           let before = s.before in
@@ -432,7 +432,7 @@ module _ (premises : Premises) (editions : List Edition) (edition : Edition) (m 
 
       -- What the last edition held stands in the table.
       from-table : (c : SignedCert) (s : IsSuperseded more count id c)
-          → Holds editions last.place id c → IsOnList c
+          → Holds editions last.position id c → IsOnList c
       from-table c s holds =
           let h = held-by id c holds in
           let row = table.all h.uri (ap is_some h.there) in
@@ -445,7 +445,7 @@ module _ (premises : Premises) (editions : List Edition) (edition : Edition) (m 
           let says = dated at.0 row.0 row.0.what c at.2.told has in
           let giving = given-last row.0.uri at.0 c at.1 has in
           let from = serial-from was row.0.uri giving.issuer c.cert.serial giving.serial in
-          let some = positive premises editions steps last.place last.edition last.there giving.issuer
+          let some = positive premises editions steps last.position last.edition last.there giving.issuer
           giving.live in
           let serial = says.serial in
           let is : Ends m.plan_input edition.changes key row.0 = record {
@@ -464,30 +464,30 @@ module _ (premises : Premises) (editions : List Edition) (edition : Edition) (m 
           (is-due c s) says.serial says.not_after
 
       -- A CRL of the key that stood before the last edition is earlier.
-      had : (from : ℕ) → from < last.place → IsInLife id editions from last.place
-          → HadCrl editions id last.place key.this_update
+      had : (from : ℕ) → from < last.position → IsInLife id editions from last.position
+          → HadCrl editions id last.position key.this_update
       had from less life =
           let this : last.edition.moment ≡ key.this_update = sym seen_last.view.moment ∙ updated in
-          subst (λ (n : ℕ). HadCrl editions id last.place n) this
-          (had-crl premises editions steps id from last.place last.edition last.there less life)
+          subst (λ (n : ℕ). HadCrl editions id last.position n) this
+          (had-crl premises editions steps id from last.position last.edition last.there less life)
 
       -- What had ended before stands on the last CRL.
-      from-notes : (c : SignedCert) (s : IsSuperseded more count id c) → s.earlier < last.place
+      from-notes : (c : SignedCert) (s : IsSuperseded more count id c) → s.earlier < last.position
           → IsOnList c
       from-notes c s less =
           let life = life-then s.earlier (before-last c s) s.life in
           let had = had s.earlier less life in
           let due = is-due c s in
           let earlier = had.earlier in
-          let superseded : IsSuperseded editions last.place id c = record {
+          let superseded : IsSuperseded editions last.position id c = record {
             earlier = s.earlier;
             before = less;
             life = life;
             held = held-then c s;
             gone = λ held.
-                let above = under premises editions steps last.place s.earlier id c life less
+                let above = under premises editions steps last.position s.earlier id c life less
                 (held-then c s) last.edition last.there key_then.0 key_then.1 named-then in
-                let least = held-from premises (take last.place editions) last.edition was
+                let least = held-from premises (take last.position editions) last.edition was
                 seen_last.view id c key_then.0 (to-last id c (held-by id c held)) key_then.1
                 named-then in
                 omega (arith, above, least);
@@ -504,7 +504,7 @@ module _ (premises : Premises) (editions : List Edition) (edition : Edition) (m 
       all : (c : SignedCert) → IsSuperseded more count id c
           → (entry : RevokedRow) × Contains (m.entries key) entry × IsEntryOf more count id entry c
       all c s =
-          let on : IsOnList c = elim (cases_eq s.earlier last.place) [
+          let on : IsOnList c = elim (cases_eq s.earlier last.position) [
             | inl here ↦ from-table c s
                 (subst (λ (k : ℕ). Holds editions k id c) here (held-then c s))
             | inr apart ↦
@@ -519,11 +519,11 @@ module _ (premises : Premises) (editions : List Edition) (edition : Edition) (m 
           sym on.same ∙ (sym entry.2 ∙ is.1.serial) in
           let same : other ≡ c = elim (cases_lt s.earlier t.earlier) [
             | inl less ↦ sym (own premises editions steps id s.earlier t.earlier c other
-                (shorter id editions s.earlier last.place t.earlier (omega (arith, less))
+                (shorter id editions s.earlier last.position t.earlier (omega (arith, less))
                 (before-last other t) (life-then s.earlier (before-last c s) s.life))
                 (held-then c s) (held-then other t) serial)
             | inr least ↦ own premises editions steps id t.earlier s.earlier other c
-                (shorter id editions t.earlier last.place s.earlier least
+                (shorter id editions t.earlier last.position s.earlier least
                 (before-last c s) (life-then t.earlier (before-last other t) t.life))
                 (held-then other t) (held-then c s) (sym serial)
           ] in
@@ -535,11 +535,11 @@ module _ (premises : Premises) (editions : List Edition) (edition : Edition) (m 
         → IsInLife (id_of key) more from count → ⊥
     no-life key new from before life =
         let next = last.next in
-        let least : from ≤ last.place = omega (arith, before, next) in
-        let then = life-before editions edition (id_of key) from count last.place next least life
+        let least : from ≤ last.position = omega (arith, before, next) in
+        let then = life-before editions edition (id_of key) from count last.position next least life
         (omega (arith, next)) in
         let live = live-row (id_of key) last.edition
-        (then.unbroken last.place last.edition least (omega arith) last.there) in
+        (then.unbroken last.position last.edition least (omega arith) last.there) in
         All-contains (λ (r : KeyRow). id_of r ≢ id_of key) (state_after editions).rows live.0 new.apart
         (subst (λ (l : List KeyRow). Contains l live.0) (sym rows-last) live.1) live.2
 
@@ -553,7 +553,7 @@ module _ (premises : Premises) (editions : List Edition) (edition : Edition) (m 
         (counted was.plan_input was.keys was.entries giving.issuer) new.apart
         (subst (λ (l : List KeyRow). Contains l (counted was.plan_input was.keys was.entries giving.issuer))
         (sym rows-last)
-        (key-row premises (take last.place editions) last.edition was seen_last.view giving.issuer
+        (key-row premises (take last.position editions) last.edition was seen_last.view giving.issuer
         giving.live)) named
 
   -- ---- all of them

@@ -18,7 +18,7 @@ use Rattle.issue_values.specs.Certificates.{point_life}
 use Rattle.issue_plan.specs.Keys.{kept}
 use Rattle.issue_plan.specs.Wanted.{point_of}
 use Rattle.issue_keys.specs.Keys.{id_of}
-use Rattle.issue_drafts.specs.Certificates.{name_at}
+use Rattle.issue_drafts.specs.Publishers.{name_at}
 use Rattle.issue_drafts.specs.Drafts.{Draft, Kind, crl_draft}
 use Rattle.issue_drafts.specs.Drafts.Kind.{Certificate, Roa, Crl, Manifest}
 use Rattle.issue_sign.specs.Objects.{number_of}

@@ -20,8 +20,9 @@ use Rattle.key_roll.specs.Roles.{is_role}
 use Rattle.issue_plan.specs.Wanted.{PlanInput, Certificate, Roa, Point, unfit, point_of, certificate, certificate_of, issuer_of, parents_desk, current_of, current_at, roa_by, roa_of, wanted_certificates, wanted_roas, wanted_points}
 use Rattle.issue_keys.specs.Keys.{id_of}
 use Rattle.issue_keys.specs.Indexes.{has_id}
-use Rattle.issue_drafts.specs.Finding.{Keys, key_of, key_named}
-use Rattle.issue_drafts.specs.Certificates.{IssueInput, name_at, names_key, issuer_for, made_for, made_uri}
+use Rattle.issue_drafts.specs.WorkKeys.{Keys, key_of, key_named}
+use Rattle.issue_drafts.specs.IssueInput.{IssueInput}
+use Rattle.issue_drafts.specs.Publishers.{name_at, names_key, issuer_for, made_for, made_uri}
 use Rattle.issue_drafts.specs.Drafts.{Draft, certificate_draft, roa_draft, crl_draft, manifest_draft, drafts, manifests}
 use Rattle.issue_drafts.specs.Drafts.Kind.{Certificate as CertificateKind, Roa as RoaKind, Crl, Manifest}
 use Rattle.editions.specs.Wanted.{there, whole, all_certificates, all_roas, all_points}

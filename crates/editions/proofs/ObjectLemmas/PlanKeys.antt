@@ -23,7 +23,7 @@ use Rattle.issue_plan.specs.Work.{new_key_of, new_key_by, role_of, role_by, is_l
 use Rattle.issue_keys.specs.Keys.{id_of, is_dropped, with_role, kept_rows, fresh_row, AreFresh}
 use Rattle.issue_keys.specs.Keys as rowed
 use Rattle.issue_keys.specs.Making.{AreApart}
-use Rattle.issue_drafts.specs.Finding.{Keys, all_keys, key_named}
+use Rattle.issue_drafts.specs.WorkKeys.{Keys, all_keys, key_named}
 use Rattle.editions.specs.Keys.{IsCarriedOver, IsNextBy, AreEach}
 use Rattle.items.specs.laws.ElementLaws.{from-map, into-map, from-filter, into-filter, from-filter_map, into-filter_map, found-in, is-found}
 use Rattle.items.specs.laws.PairLaws.{Each, Twos, each-at, each-from, twos-same, twos-pairs, Sides, sides-from, side-of, each-sides, twos-sides, twos-filter_map, twos-append, twos-map, twos-filter, twos-from}

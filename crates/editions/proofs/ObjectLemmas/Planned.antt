@@ -13,8 +13,8 @@ use Rattle.issue_plan.specs.Wanted.{PlanInput, point_of, wanted_points}
 use Rattle.issue_plan.specs.Work.{IsWork}
 use Rattle.issue_keys.specs.Keys.{id_of}
 use Rattle.issue_keys.specs.Indexes.{has_id}
-use Rattle.issue_drafts.specs.Finding.{Keys, key_of, all_keys, key_named}
-use Rattle.issue_drafts.specs.Certificates.{names_key}
+use Rattle.issue_drafts.specs.WorkKeys.{Keys, key_of, all_keys, key_named}
+use Rattle.issue_drafts.specs.Publishers.{names_key}
 use Rattle.issue_drafts.specs.Revoking.{has_point}
 use Rattle.issue_make.specs.Trace.{AreKeys, rank}
 use Rattle.editions.specs.Wanted.{there}

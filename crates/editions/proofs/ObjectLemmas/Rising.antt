@@ -14,7 +14,7 @@ use Rattle.pub_set.specs.Changes.{Contents}
 use Rattle.rp_rules.specs.Objects.{SignedManifest, manifest_in}
 use Rattle.entitle.specs.Certified.{names_of}
 use Rattle.issue_keys.specs.Keys.{id_of}
-use Rattle.issue_drafts.specs.Certificates.{name_at}
+use Rattle.issue_drafts.specs.Publishers.{name_at}
 use Rattle.editions.specs.Edition.{Edition, state_after, set_after}
 use Rattle.editions.specs.Published.{ManifestsRise}
 use Rattle.editions.specs.Step.{Premises, AreSteps, counted}
@@ -70,24 +70,24 @@ module _ (premises : Premises) (editions : List Edition) (edition : Edition)
       ap (λ (l : List Edition). set_after (l ++ edition ∷ [])) (take-count editions edition)
 
   module _ (last : HasLast editions) where
-    inside : last.place < count
+    inside : last.position < count
     inside = let next = last.next in omega (arith, next)
 
-    there : slice_get more last.place ≡ Some last.edition
-    there = get-append editions (edition ∷ []) last.place inside ∙ last.there
+    there : slice_get more last.position ≡ Some last.edition
+    there = get-append editions (edition ∷ []) last.position inside ∙ last.there
 
-    set-last : set_after (take last.place more ++ last.edition ∷ []) ≡ set_after editions
+    set-last : set_after (take last.position more ++ last.edition ∷ []) ≡ set_after editions
     set-last =
         ap (λ (l : List Edition). set_after l)
-        (sym (take-next more last.place last.edition there)
-        ∙ (take-less editions edition last.place inside ∙ last.whole))
+        (sym (take-next more last.position last.edition there)
+        ∙ (take-less editions edition last.position inside ∙ last.whole))
 
     rows-last : (state_after (take count more)).rows ≡ last.edition.rows
     rows-last =
         ap (λ (l : List Edition). (state_after l).rows)
         (take-count editions edition ∙ (sym last.whole
-        ∙ sym (take-less editions edition last.place inside)))
-        ∙ rows-after more last.place last.edition there
+        ∙ sym (take-less editions edition last.position inside)))
+        ∙ rows-after more last.position last.edition there
 
     moment-last : last.edition.moment < edition.moment
     moment-last =
@@ -95,15 +95,15 @@ module _ (premises : Premises) (editions : List Edition) (edition : Edition)
         subst (λ (n : ℕ). n < edition.moment)
         (ap (λ (l : List Edition). (state_after l).moment)
         (take-count editions edition ∙ (sym last.whole
-        ∙ sym (take-less editions edition last.place inside)))
-        ∙ moment-after more last.place last.edition there) later
+        ∙ sym (take-less editions edition last.position inside)))
+        ∙ moment-after more last.position last.edition there) later
 
     rise : (uri before after : List ℕ) (was is : SignedManifest)
         → set_after editions uri ≡ Some before → set_after more uri ≡ Some after
         → manifest_in before ≡ Some was → manifest_in after ≡ Some is
         → (was.body.0 < is.body.0) × (was.body.1.0 < is.body.1.0)
     rise uri before after was is stood stands first second =
-        let v = seen premises more steps last.place last.edition there in
+        let v = seen premises more steps last.position last.edition there in
         let w = seen premises more steps count edition (get-last editions edition) in
         let a = numbering v.m v.view.set uri before was
         (ap (λ (s : Contents). s uri) (v.view.new ∙ set-last) ∙ stood) first in
@@ -111,26 +111,26 @@ module _ (premises : Premises) (editions : List Edition) (edition : Edition)
         (ap (λ (s : Contents). s uri) (w.view.new ∙ set-count) ∙ stands) second in
         let one_name : List ℕ = name_at (names_of v.m.plan_input.basis.configs) a.issuer.desk in
         let other_name : List ℕ = name_at (names_of w.m.plan_input.basis.configs) b.issuer.desk in
-        let place : manifest_uri w.m.plan_input.site other_name (id_of b.issuer)
+        let same_uri : manifest_uri w.m.plan_input.site other_name (id_of b.issuer)
         ≡ manifest_uri v.m.plan_input.site other_name (id_of b.issuer) =
         ap (λ (s : Bases). manifest_uri s other_name (id_of b.issuer))
         (w.view.site ∙ sym v.view.site) in
         let id : id_of a.issuer ≡ id_of b.issuer =
         same-id v.m.plan_input.site one_name other_name a.issuer b.issuer
-        (sym a.at ∙ (b.at ∙ place)) in
+        (sym a.at ∙ (b.at ∙ same_uri)) in
         let row : KeyRow = counted v.m.plan_input v.m.keys v.m.entries a.issuer in
         let live : Contains (state_after (take count more)).rows row =
         subst (λ (l : List KeyRow). Contains l row) (sym rows-last)
-        (key-row premises (take last.place more) last.edition v.m v.view a.issuer a.live) in
+        (key-row premises (take last.position more) last.edition v.m v.view a.issuer a.live) in
         let come = on-row premises (take count more) edition w.m w.view b.issuer b.live row live id in
-        let k = row-key premises (take last.place more) last.edition v.m v.view come.row
+        let k = row-key premises (take last.position more) last.edition v.m v.view come.row
         (subst (λ (l : List KeyRow). Contains l come.row) rows-last come.live) in
-        let same : k.0 ≡ a.issuer = same-key premises (take last.place more) last.edition v.m v.view
+        let same : k.0 ≡ a.issuer = same-key premises (take last.position more) last.edition v.m v.view
         k.0 a.issuer k.1 a.live
-        (id-next premises (take last.place more) last.edition v.m v.view k.0 come.row k.2
+        (id-next premises (take last.position more) last.edition v.m v.view k.0 come.row k.2
         ∙ (come.named ∙ sym id)) in
         let counts : k.0.number + 1 ≡ come.row.number =
-        number-next premises (take last.place more) last.edition v.m v.view k.0 come.row k.2 in
+        number-next premises (take last.position more) last.edition v.m v.view k.0 come.row k.2 in
         let old : k.0.number ≡ a.issuer.number = ap (λ (r : KeyRow). r.number) same in
         let on = come.number in
         let one = a.number in

@@ -6,8 +6,8 @@ use Rattle.key_roll.specs.declared.rows.KeyRow.{KeyRow}
 use Rattle.key_roll.specs.declared.work.Work.{Work}
 use Rattle.issue_plan.specs.Wanted.{PlanInput}
 use Rattle.issue_keys.specs.Keys.{id_of}
-use Rattle.issue_drafts.specs.Finding.{all_keys}
-use Rattle.issue_drafts.specs.Certificates.{IssueInput}
+use Rattle.issue_drafts.specs.WorkKeys.{all_keys}
+use Rattle.issue_drafts.specs.IssueInput.{IssueInput}
 use Rattle.issue_drafts.specs.Drafts.{Draft, serial_behind}
 use Rattle.issue_drafts.specs.Revoking.{has_point}
 use Rattle.issue_make.specs.Trace.{IssuingTrace, all_of, row_after, is_before}

@@ -19,8 +19,9 @@ use Rattle.issue_values.specs.Publishers.{roa_uri}
 use Rattle.issue_plan.specs.Keys.{kept}
 use Rattle.issue_plan.specs.Wanted.{PlanInput, point_of}
 use Rattle.issue_keys.specs.Keys.{id_of}
-use Rattle.issue_drafts.specs.Finding.{Keys, key_named}
-use Rattle.issue_drafts.specs.Certificates.{IssueInput, name_at, made_uri}
+use Rattle.issue_drafts.specs.WorkKeys.{Keys, key_named}
+use Rattle.issue_drafts.specs.IssueInput.{IssueInput}
+use Rattle.issue_drafts.specs.Publishers.{name_at, made_uri}
 use Rattle.issue_drafts.specs.Drafts.{Draft, Kind, has_serial, certificate_draft, roa_draft, crl_draft, manifest_draft, drafts, manifests}
 use Rattle.issue_drafts.specs.Drafts.Kind.{Certificate, Roa, Crl, Manifest}
 use Rattle.editions.specs.Wanted.{there, making, whole, all_certificates, all_roas, all_points, all_objects, new_certificates, new_roas, new_points, new_objects}

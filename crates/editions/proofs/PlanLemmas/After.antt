@@ -33,8 +33,8 @@ use Rattle.pub_set.specs.Changes.{change_at}
 use Rattle.issue_values.specs.Certificates.{IsEditionMoment}
 use Rattle.issue_values.specs.Bodies.{AreRevoked}
 use Rattle.issue_keys.specs.Keys.{id_of, is_dropped, with_role, role_of, fresh_row, fresh_rows}
-use Rattle.issue_drafts.specs.Finding.{all_keys}
-use Rattle.issue_drafts.specs.Certificates.{IssueInput}
+use Rattle.issue_drafts.specs.WorkKeys.{all_keys}
+use Rattle.issue_drafts.specs.IssueInput.{IssueInput}
 use Rattle.issue_drafts.specs.Drafts.{Draft, drafts, manifests, serial_behind}
 use Rattle.issue_drafts.specs.laws.UriOrder.{same-decides, apart-permuted, apart-from-rise, found-some, found-there}
 use Rattle.pub_set.specs.laws.UriLaws.{same_is as same-is, uri_total}

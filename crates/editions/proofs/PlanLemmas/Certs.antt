@@ -26,8 +26,9 @@ use Rattle.key_roll.specs.declared.work.KeyName.TheVariants.{Live, Fresh}
 use Rattle.issue_keys.specs.Keys.{id_of, is_dropped, with_role, role_of}
 use Rattle.issue_keys.specs.Indexes.{has_id}
 use Rattle.issue_keys.specs.Making as making
-use Rattle.issue_drafts.specs.Finding.{Keys, all_keys, key_named, key_of}
-use Rattle.issue_drafts.specs.Certificates.{IssueInput, names_key, issuer_for, made_uri, name_at}
+use Rattle.issue_drafts.specs.WorkKeys.{Keys, all_keys, key_named, key_of}
+use Rattle.issue_drafts.specs.IssueInput.{IssueInput}
+use Rattle.issue_drafts.specs.Publishers.{names_key, issuer_for, made_uri, name_at}
 use Rattle.issue_drafts.specs.Drafts.{Draft, certificate_draft, roa_draft, crl_draft, manifest_draft, manifests}
 use Rattle.issue_drafts.specs.Drafts.Kind.{Certificate, Roa, Crl, Manifest}
 use Rattle.issue_make.specs.Trace.{AreKeys}

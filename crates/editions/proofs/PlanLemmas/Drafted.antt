@@ -20,8 +20,9 @@ use Rattle.key_roll.specs.declared.rows.Role.TheVariants.{Current}
 use Rattle.key_roll.specs.declared.work.KeyName.{KeyName}
 use Rattle.key_roll.specs.declared.work.KeyName.TheVariants.{Live}
 use Rattle.issue_keys.specs.Keys.{id_of}
-use Rattle.issue_drafts.specs.Finding.{Keys, all_keys, key_named}
-use Rattle.issue_drafts.specs.Certificates.{IssueInput, is_key, name_at, made_uri}
+use Rattle.issue_drafts.specs.WorkKeys.{Keys, all_keys, key_named}
+use Rattle.issue_drafts.specs.IssueInput.{IssueInput}
+use Rattle.issue_drafts.specs.Publishers.{is_key, name_at, made_uri}
 use Rattle.issue_drafts.specs.Drafts.{Draft, certificate_draft, roa_draft, crl_draft, manifest_draft, drafts, manifests}
 use Rattle.issue_drafts.specs.Drafts.Kind.{Certificate, Roa, Crl, Manifest}
 use Rattle.issue_plan.specs.declared.keys.NextKey.{NextKey}

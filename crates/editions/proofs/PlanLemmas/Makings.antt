@@ -7,9 +7,9 @@ use Rattle.key_roll.specs.declared.rows.KeyRow.{KeyRow}
 use Rattle.key_roll.specs.declared.issued.IssuedRow.{IssuedRow}
 use Rattle.key_roll.specs.declared.work.Work.{Work}
 use Rattle.issue_values.specs.Bodies.{AreRevoked}
-use Rattle.issue_drafts.specs.Finding.{Keys}
-use Rattle.issue_drafts.specs.Certificates.{IssueInput}
-use Rattle.issue_make.specs.declared.outcome.Made.{Made}
+use Rattle.issue_drafts.specs.WorkKeys.{Keys}
+use Rattle.issue_drafts.specs.IssueInput.{IssueInput}
+use Rattle.issue_make.specs.declared.made.Made.{Made}
 use Rattle.issue_make.specs.Trace.{AreKeys, IsIssuingTrace}
 use Rattle.issue_plan.specs.Keys.{Basis}
 use Rattle.issue_plan.specs.Wanted.{PlanInput}

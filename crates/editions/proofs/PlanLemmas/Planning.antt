@@ -16,8 +16,8 @@ use Rattle.pub_set.specs.Objects.{found_at}
 use Rattle.issue_values.specs.Certificates.{IsEditionMoment}
 use Rattle.issue_values.specs.Bodies.{AreRevoked}
 use Rattle.issue_keys.specs.Keys.{id_of, kept_rows}
-use Rattle.issue_drafts.specs.Finding.{Keys}
-use Rattle.issue_drafts.specs.Certificates.{IssueInput}
+use Rattle.issue_drafts.specs.WorkKeys.{Keys}
+use Rattle.issue_drafts.specs.IssueInput.{IssueInput}
 use Rattle.issue_drafts.specs.Drafts.{Draft, drafts, manifests}
 use Rattle.issue_drafts.specs.Revoking.{is_touched}
 use Rattle.issue_drafts.specs.Files.{is_kept, folder_at, IsListable}

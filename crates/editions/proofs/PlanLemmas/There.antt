@@ -20,8 +20,8 @@ use Rattle.key_roll.specs.declared.work.PointWork.{PointWork}
 use Rattle.key_roll.specs.declared.work.KeyName.{KeyName}
 use Rattle.key_roll.specs.declared.work.KeyName.TheVariants.{Live, Fresh}
 use Rattle.issue_keys.specs.Keys.{id_of, is_dropped, with_role, role_of, fresh_row, fresh_rows}
-use Rattle.issue_drafts.specs.Finding.{Keys, all_keys}
-use Rattle.issue_drafts.specs.Certificates.{IssueInput}
+use Rattle.issue_drafts.specs.WorkKeys.{Keys, all_keys}
+use Rattle.issue_drafts.specs.IssueInput.{IssueInput}
 use Rattle.issue_make.specs.Trace.{AreKeys}
 use Rattle.issue_plan.specs.declared.keys.NextKey.{NextKey}
 use Rattle.issue_plan.specs.Keys as plan

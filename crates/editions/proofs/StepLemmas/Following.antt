@@ -12,7 +12,7 @@ pub state_on : (state : State) (before later : List Edition) →
 state_on state [] later = refl
 state_on state (edition ∷ before) later = state_on (after_edition state edition) before later
 
--- The edition behind others stands at the place that they count to.
+-- The edition behind others stands at the position that they count to.
 seam : (before : List Edition) (edition : Edition) (later : List Edition) →
     slice_get (before ++ edition ∷ later) (length before) ≡ Some edition
 seam [] edition later = refl
@@ -46,55 +46,55 @@ later_than clock state = omega arith
 same_one : (one other : Edition) → Some one ≡ Some other → one ≡ other
 same_one one other same = cc
 
--- What stands at a place of editions with one more behind them: one of them, or that one.
-placed : (before : List Edition) (edition : Edition) (place : ℕ) (x : Edition) →
-    slice_get (before ++ edition ∷ []) place ≡ Some x →
-    (slice_get before place ≡ Some x) ⊎ ((place ≡ length before) × (edition ≡ x))
+-- What stands at a position of editions with one more behind them: one of them, or that one.
+placed : (before : List Edition) (edition : Edition) (position : ℕ) (x : Edition) →
+    slice_get (before ++ edition ∷ []) position ≡ Some x →
+    (slice_get before position ≡ Some x) ⊎ ((position ≡ length before) × (edition ≡ x))
 placed [] edition zero x there = inr (refl, same_one edition x there)
-placed [] edition (suc place) x there = absurd (none-some x there)
+placed [] edition (suc position) x there = absurd (none-some x there)
 placed (first ∷ before) edition zero x there = inl there
-placed (first ∷ before) edition (suc place) x there =
-    ⊎_elim (λ t. inl t) (λ t. inr (ap suc t.0, t.1)) (placed before edition place x there)
+placed (first ∷ before) edition (suc position) x there =
+    ⊎_elim (λ t. inl t) (λ t. inr (ap suc t.0, t.1)) (placed before edition position x there)
 
-still : (before : List Edition) (edition : Edition) (place : ℕ) (x : Edition) →
-    slice_get before place ≡ Some x → slice_get (before ++ edition ∷ []) place ≡ Some x
-still [] edition place x there = absurd (none-some x there)
+still : (before : List Edition) (edition : Edition) (position : ℕ) (x : Edition) →
+    slice_get before position ≡ Some x → slice_get (before ++ edition ∷ []) position ≡ Some x
+still [] edition position x there = absurd (none-some x there)
 still (first ∷ before) edition zero x there = there
-still (first ∷ before) edition (suc place) x there = still before edition place x there
+still (first ∷ before) edition (suc position) x there = still before edition position x there
 
 module _ (premises : Premises) (before : List Edition) (edition : Edition) where
-  same_before : (place : ℕ) (x : Edition) → slice_get before place ≡ Some x →
-      take place (before ++ edition ∷ []) ≡ take place before
-  same_before place x there =
-      let within = slice_get_within before place x there in
-      take-append-le place before (edition ∷ []) (omega (arith, within))
+  same_before : (position : ℕ) (x : Edition) → slice_get before position ≡ Some x →
+      take position (before ++ edition ∷ []) ≡ take position before
+  same_before position x there =
+      let within = slice_get_within before position x there in
+      take-append-le position before (edition ∷ []) (omega (arith, within))
 
   same_last : take (length before) (before ++ edition ∷ []) ≡ before
   same_last = take-append_seam before (edition ∷ [])
 
   pub one_more : (clock : ℕ) → AreSteps premises before → IsStep premises clock before edition →
       AreSteps premises (before ++ edition ∷ [])
-  one_more clock steps step = λ place x there. ⊎_elim
-      (λ (old : slice_get before place ≡ Some x).
-      let then = steps place x old in (
+  one_more clock steps step = λ position x there. ⊎_elim
+      (λ (old : slice_get before position ≡ Some x).
+      let then = steps position x old in (
         then.0,
         subst (λ (taken : List Edition). IsStep premises then.0 taken x)
-            (sym (same_before place x old)) then.1,
+            (sym (same_before position x old)) then.1,
       ))
-      (λ (new : (place ≡ length before) × (edition ≡ x)).
+      (λ (new : (position ≡ length before) × (edition ≡ x)).
       let taken = ap (λ (n : ℕ). take n (before ++ edition ∷ [])) new.0 ∙ same_last in (
         clock,
         subst (λ (all : List Edition). IsStep premises clock all x) (sym taken)
             (subst (λ (one : Edition). IsStep premises clock before one) new.1 step),
       ))
-      (placed before edition place x there)
+      (placed before edition position x there)
 
   pub one_less : AreSteps premises (before ++ edition ∷ []) → AreSteps premises before
-  one_less steps = λ place x there.
-      let now = steps place x (still before edition place x there) in (
+  one_less steps = λ position x there.
+      let now = steps position x (still before edition position x there) in (
         now.0,
         subst (λ (taken : List Edition). IsStep premises now.0 taken x)
-            (same_before place x there) now.1,
+            (same_before position x there) now.1,
       )
 
   pub last_one : AreSteps premises (before ++ edition ∷ []) →

@@ -212,6 +212,6 @@ module _ (less more : Premises) (is_more : IsMore less more) where
       }
 
   pub steps_then : (editions : List Edition) → AreSteps less editions → AreSteps more editions
-  steps_then editions steps = λ place edition there.
-      let step = steps place edition there in
-      (step.0, step_then step.0 (take place editions) edition step.1)
+  steps_then editions steps = λ position edition there.
+      let step = steps position edition there in
+      (step.0, step_then step.0 (take position editions) edition step.1)

@@ -27,7 +27,7 @@ use Rattle.issue_values.specs.Bodies.{crl_entry}
 use Rattle.issue_plan.specs.Keys.{next_keys, row_of}
 use Rattle.issue_plan.specs.Uris.{roa_file}
 use Rattle.issue_keys.specs.Keys.{id_of}
-use Rattle.issue_drafts.specs.Certificates.{name_at, is_key}
+use Rattle.issue_drafts.specs.Publishers.{name_at, is_key}
 use Rattle.editions.specs.Held.{IsHeld}
 use Rattle.editions.specs.Keys.{AreNext}
 use Rattle.editions.specs.Objects.{Issuance, IsNewSet}

@@ -28,7 +28,7 @@ use Rattle.rp_rules.specs.Sound.{is_visited}
 use Rattle.issue_values.specs.Bodies.{crl_entry}
 use Rattle.issue_plan.specs.Keys.{row_of}
 use Rattle.issue_keys.specs.Keys.{id_of}
-use Rattle.issue_drafts.specs.Certificates.{name_at}
+use Rattle.issue_drafts.specs.Publishers.{name_at}
 use Rattle.editions.specs.Edition.{Edition, state_after, set_after}
 use Rattle.editions.specs.Held.{IsHeld, HaveOwnSerials}
 use Rattle.editions.specs.Superseded.{AreSuperseded}

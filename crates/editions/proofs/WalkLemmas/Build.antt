@@ -29,8 +29,8 @@ use Rattle.issue_values.specs.Bodies.{crl_entry}
 use Rattle.issue_plan.specs.Keys.{next_keys}
 use Rattle.issue_plan.specs.Uris.{roa_file}
 use Rattle.issue_keys.specs.Keys.{id_of}
-use Rattle.issue_drafts.specs.Certificates as publishers
-use Rattle.issue_drafts.specs.Certificates.{name_at, is_key}
+use Rattle.issue_drafts.specs.Publishers as publishers
+use Rattle.issue_drafts.specs.Publishers.{name_at, is_key}
 use Rattle.issue_sign.specs.Objects.{number_of}
 use Rattle.editions.specs.Held.{IsHeld}
 use Rattle.editions.specs.Keys.{AreNext}

@@ -12,8 +12,8 @@ use Rattle.issue_plan.specs.declared.keys.NextKey.{NextKey}
 use Rattle.issue_plan.specs.Keys.{kept, next_keys}
 use Rattle.issue_plan.specs.Wanted.{certificate_of, roa_of, point_of}
 use Rattle.issue_keys.specs.Keys.{id_of}
-use Rattle.issue_drafts.specs.Finding.{Keys}
-use Rattle.issue_drafts.specs.Certificates.{IssueInput}
+use Rattle.issue_drafts.specs.WorkKeys.{Keys}
+use Rattle.issue_drafts.specs.IssueInput.{IssueInput}
 use Rattle.issue_drafts.specs.Drafts.{certificate_draft, roa_draft, crl_draft, manifest_draft}
 use Rattle.editions.specs.Keys.{AreNext}
 use Rattle.editions.specs.Edition.{Edition, state_after}

@@ -16,7 +16,7 @@ use Rattle.issue_plan.specs.declared.keys.NextKey.{NextKey}
 use Rattle.issue_plan.specs.Keys.{kept, next_keys}
 use Rattle.issue_plan.specs.Wanted.{point_of}
 use Rattle.issue_keys.specs.Keys.{id_of}
-use Rattle.issue_drafts.specs.Certificates.{name_at, is_key}
+use Rattle.issue_drafts.specs.Publishers.{name_at, is_key}
 use Rattle.issue_drafts.specs.Drafts.{Draft, manifest_draft, manifests, drafts}
 use Rattle.editions.specs.Held.{IsHeld}
 use Rattle.editions.specs.Keys.{AreNext}

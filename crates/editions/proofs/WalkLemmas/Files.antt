@@ -25,9 +25,10 @@ use Rattle.issue_plan.specs.Uris.{roa_file}
 use Rattle.issue_plan.specs.Wanted as plan
 use Rattle.issue_plan.specs.Wanted.{certificate_of, point_of}
 use Rattle.issue_keys.specs.Keys.{id_of}
-use Rattle.issue_drafts.specs.Finding.{Keys}
-use Rattle.issue_drafts.specs.Certificates as publishers
-use Rattle.issue_drafts.specs.Certificates.{IssueInput, is_key, name_at}
+use Rattle.issue_drafts.specs.WorkKeys.{Keys}
+use Rattle.issue_drafts.specs.Publishers as publishers
+use Rattle.issue_drafts.specs.IssueInput.{IssueInput}
+use Rattle.issue_drafts.specs.Publishers.{is_key, name_at}
 use Rattle.issue_drafts.specs.Drafts.{Draft, certificate_draft, roa_draft, crl_draft, drafts}
 use Rattle.issue_drafts.specs.Files.{name_in, folder_at, is_made_under}
 use Rattle.editions.specs.Keys.{AreNext}

@@ -19,7 +19,7 @@ use Rattle.sha1.specs.Sha1.{sha1}
 use Rattle.issue_values.specs.Certificates.{anchor_certificate, authority_certificate}
 use Rattle.issue_plan.specs.Keys.{next_keys, row_of}
 use Rattle.issue_keys.specs.Keys.{id_of}
-use Rattle.issue_drafts.specs.Certificates.{name_at, is_key, publishing_of}
+use Rattle.issue_drafts.specs.Publishers.{name_at, is_key, publishing_of}
 use Rattle.issue_sign.specs.Objects as values
 use Rattle.editions.specs.Keys.{AreNext}
 use Rattle.editions.specs.Objects.{Issuance, IsNewSet}

@@ -22,9 +22,10 @@ use Rattle.rp_rules.specs.Objects.{SignedManifest, certificate_in, crl_in, manif
 use Rattle.issue_values.specs.Certificates.{point_life, prefix_span, prefix_sets, anchor_certificate, authority_certificate}
 use Rattle.issue_plan.specs.Keys.{next_keys, holds_nothing, no_ranges}
 use Rattle.issue_keys.specs.Keys.{id_of}
-use Rattle.issue_drafts.specs.Finding.{Keys}
-use Rattle.issue_drafts.specs.Certificates as publishers
-use Rattle.issue_drafts.specs.Certificates.{IssueInput, is_key, publishing_of}
+use Rattle.issue_drafts.specs.WorkKeys.{Keys}
+use Rattle.issue_drafts.specs.Publishers as publishers
+use Rattle.issue_drafts.specs.IssueInput.{IssueInput}
+use Rattle.issue_drafts.specs.Publishers.{is_key, publishing_of}
 use Rattle.issue_drafts.specs.Drafts.{Draft, Kind, has_serial}
 use Rattle.issue_drafts.specs.Drafts.Kind.{Certificate, Roa, Crl, Manifest}
 use Rattle.issue_sign.specs.Objects as values

@@ -38,30 +38,30 @@ AreApart rows = AllPairs (λ a b. id_of a ≢ id_of b) rows
 
 -- They are those of one of the editions.
 record AreOf (editions : List Edition) (rows : List KeyRow) : Type 0 where
-  place : ℕ
+  position : ℕ
   edition : Edition
-  there : slice_get editions place ≡ Some edition
+  there : slice_get editions position ≡ Some edition
   same : rows ≡ edition.rows
 
 rows-from : (state : State) (editions : List Edition)
     → ((state_from state editions).rows ≡ state.rows) ⊎ AreOf editions (state_from state editions).rows
 rows-from state [] = inl refl
 rows-from state (edition ∷ rest) = elim (rows-from (after_edition state edition) rest) [
-  | inl same ↦ inr (record { place = 0; edition = edition; there = refl; same = same })
+  | inl same ↦ inr (record { position = 0; edition = edition; there = refl; same = same })
   | inr of ↦ inr (record {
-    place = suc of.place;
+    position = suc of.position;
     edition = of.edition;
     there = of.there;
     same = of.same;
   })
 ]
 
-there-longer : (editions later : List Edition) (place : ℕ) (edition : Edition)
-    → slice_get editions place ≡ Some edition → slice_get (editions ++ later) place ≡ Some edition
-there-longer [] later place edition there = absurd cc
+there-longer : (editions later : List Edition) (position : ℕ) (edition : Edition)
+    → slice_get editions position ≡ Some edition → slice_get (editions ++ later) position ≡ Some edition
+there-longer [] later position edition there = absurd cc
 there-longer (first ∷ rest) later zero edition there = there
-there-longer (first ∷ rest) later (suc place) edition there =
-    there-longer rest later place edition there
+there-longer (first ∷ rest) later (suc position) edition there =
+    there-longer rest later position edition there
 
 -- ---- what an edition counts
 
@@ -111,10 +111,10 @@ pub rows-apart : (premises : Premises) (editions : List Edition) (edition : Edit
 rows-apart premises editions edition steps = elim (rows-from first_state editions) [
   | inl none ↦ subst AreApart (sym none) (λ i j d less inside. absurd (omega (arith, inside)))
   | inr of ↦
-      let step = steps of.place of.edition
-      (there-longer editions (edition ∷ []) of.place of.edition of.there) in
+      let step = steps of.position of.edition
+      (there-longer editions (edition ∷ []) of.position of.edition of.there) in
       subst AreApart (sym of.same)
-      (step-apart premises step.0 (take of.place (editions ++ edition ∷ [])) of.edition step.1)
+      (step-apart premises step.0 (take of.position (editions ++ edition ∷ [])) of.edition step.1)
 ]
 
 -- ---- the last one

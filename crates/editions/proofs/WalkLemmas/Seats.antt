@@ -19,9 +19,10 @@ use Rattle.key_roll.specs.Roles.{is_role}
 use Rattle.issue_plan.specs.Wanted.{current_of, current_at, parents_desk, issuer_of, certificate, certificate_of}
 use Rattle.issue_keys.specs.Keys.{id_of}
 use Rattle.issue_keys.specs.Indexes.{has_id}
-use Rattle.issue_drafts.specs.Finding.{Keys, key_named, key_of}
-use Rattle.issue_drafts.specs.Certificates as publishers
-use Rattle.issue_drafts.specs.Certificates.{IssueInput, is_key, names_key, made_uri, issuer_for, made_for, standing_for, first_of, name_at, publishing_of}
+use Rattle.issue_drafts.specs.WorkKeys.{Keys, key_named, key_of}
+use Rattle.issue_drafts.specs.Publishers as publishers
+use Rattle.issue_drafts.specs.IssueInput.{IssueInput}
+use Rattle.issue_drafts.specs.Publishers.{is_key, names_key, made_uri, issuer_for, made_for, standing_for, first_of, name_at, publishing_of}
 use Rattle.issue_drafts.specs.Drafts.{Draft, certificate_draft, serial_at}
 use Rattle.issue_drafts.specs.Drafts.Kind.{Certificate}
 use Rattle.editions.specs.Keys.{AreNext}

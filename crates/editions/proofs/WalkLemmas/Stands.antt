@@ -27,7 +27,7 @@ use Rattle.issue_plan.specs.Keys.{kept, next_keys, row_of}
 use Rattle.issue_plan.specs.Wanted as plan
 use Rattle.issue_plan.specs.Wanted.{point_of}
 use Rattle.issue_keys.specs.Keys.{id_of}
-use Rattle.issue_drafts.specs.Certificates.{name_at}
+use Rattle.issue_drafts.specs.Publishers.{name_at}
 use Rattle.issue_drafts.specs.Drafts.{Draft, crl_draft, manifest_draft, roa_draft, serial_at, serial_behind}
 use Rattle.issue_drafts.specs.Drafts.Kind.{Roa, Crl, Manifest}
 use Rattle.issue_sign.specs.Objects.{number_of}

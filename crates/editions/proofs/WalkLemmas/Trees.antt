@@ -15,7 +15,7 @@ use Rattle.issue_values.specs.Bodies.{crl_entry}
 use Rattle.issue_values.specs.Certificates.{anchor_certificate, authority_certificate}
 use Rattle.issue_plan.specs.Keys.{next_keys}
 use Rattle.issue_keys.specs.Keys.{id_of}
-use Rattle.issue_drafts.specs.Certificates.{name_at}
+use Rattle.issue_drafts.specs.Publishers.{name_at}
 use Rattle.editions.specs.Held.{IsHeld}
 use Rattle.editions.specs.Keys.{AreNext}
 use Rattle.editions.specs.Objects.{Issuance, IsNewSet}

@@ -7,7 +7,7 @@ use Rattle.key_ids.specs.Uris.{Bases}
 use Rattle.key_roll.specs.declared.issued.IssuedRow.{IssuedRow}
 use Rattle.key_roll.specs.declared.work.Work.{Work}
 use Rattle.issue_values.specs.Certificates.{IsEditionMoment}
-use Rattle.issue_drafts.specs.Certificates.{IssueInput}
+use Rattle.issue_drafts.specs.IssueInput.{IssueInput}
 use Rattle.issue_plan.specs.Keys.{Basis}
 use Rattle.editions.specs.PublishedState.{PublishedStateValue, AreTakenIn, desks}
 use Rattle.editions.specs.Moments.{AreBelowEnd}

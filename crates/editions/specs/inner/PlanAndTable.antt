@@ -8,8 +8,9 @@ use Rattle.issue_plan.specs.Keys.{next_keys}
 use Rattle.issue_plan.specs.Wanted.{PlanInput}
 use Rattle.issue_keys.specs.Keys.{id_of}
 use Rattle.issue_make.specs.Trace.{is_before}
-use Rattle.issue_drafts.specs.Finding.{Keys, all_keys}
-use Rattle.issue_drafts.specs.Certificates.{IssueInput, made_for}
+use Rattle.issue_drafts.specs.WorkKeys.{Keys, all_keys}
+use Rattle.issue_drafts.specs.IssueInput.{IssueInput}
+use Rattle.issue_drafts.specs.Publishers.{made_for}
 use Rattle.issue_drafts.specs.Drafts.{drafts, manifests}
 use Rattle.issue_drafts.specs.Revoking.{has_point}
 use Rattle.editions.specs.Keys.{AreNext}

@@ -4,8 +4,8 @@ use Rattle.authority_book.specs.declared.rows.NameRow.{NameRow}
 use Rattle.entitle.specs.Certified.{names_of, AreCertified}
 use Rattle.key_roll.specs.declared.rows.KeyRow.{KeyRow}
 use Rattle.issue_keys.specs.Keys.{id_of, kept_rows}
-use Rattle.issue_drafts.specs.Finding.{Keys}
-use Rattle.issue_drafts.specs.Certificates.{IssueInput}
+use Rattle.issue_drafts.specs.WorkKeys.{Keys}
+use Rattle.issue_drafts.specs.IssueInput.{IssueInput}
 use Rattle.issue_plan.specs.Keys.{Basis}
 use Rattle.issue_make.specs.CanMake.{IsThere}
 use Rattle.editions.specs.Names.{AreTree}

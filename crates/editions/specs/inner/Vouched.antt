@@ -1,7 +1,7 @@
 -- The signatures of an edition's making, which are vouched.
 use Rattle.std.specs.Prelude.{All}
 use Rattle.rp_rules.specs.Certificates.{Vouched}
-use Rattle.issue_drafts.specs.Certificates.{IssueInput}
+use Rattle.issue_drafts.specs.IssueInput.{IssueInput}
 use Rattle.issue_sign.specs.Calls.{first_calls, second_calls}
 use Rattle.issue_make.specs.Trace.{IssuingTrace, all_of}
 use Rattle.editions.specs.VouchedCalls.{IsVouchedBy}

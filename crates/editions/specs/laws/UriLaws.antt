@@ -25,8 +25,9 @@ use Rattle.key_roll.specs.declared.work.RoaWork.{RoaWork}
 use Rattle.key_roll.specs.declared.work.PointWork.{PointWork}
 use Rattle.issue_values.specs.Publishers.{roa_uri}
 use Rattle.issue_keys.specs.Keys.{id_of}
-use Rattle.issue_drafts.specs.Finding.{Keys, key_named}
-use Rattle.issue_drafts.specs.Certificates.{IssueInput, is_key, name_at, made_uri}
+use Rattle.issue_drafts.specs.WorkKeys.{Keys, key_named}
+use Rattle.issue_drafts.specs.IssueInput.{IssueInput}
+use Rattle.issue_drafts.specs.Publishers.{is_key, name_at, made_uri}
 use Rattle.issue_drafts.specs.Drafts.{Draft, certificate_draft, roa_draft, crl_draft, manifest_draft, drafts, manifests}
 use Rattle.rrdp_text.specs.Fields.{is_uri_byte}
 use Rattle.rrdp_text.specs.Values.{IsUri}

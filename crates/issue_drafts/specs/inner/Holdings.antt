@@ -3,7 +3,7 @@ use Rattle.std.specs.Prelude.{ℕ, Bool, not, ◌&&◌, if◌then◌else◌, Lis
 use Rattle.std.specs.Str.{bytes_eq}
 use Rattle.key_ids.specs.declared.identifier.KeyId.{KeyId}
 use Rattle.key_roll.specs.declared.issued.IssuedRow.{IssuedRow}
-use Rattle.issue_drafts.specs.Finding.{key_of}
+use Rattle.issue_drafts.specs.WorkKeys.{key_of}
 use Rattle.issue_drafts.specs.Drafts.{Draft}
 use Rattle.issue_drafts.specs.Touching.{has_uri}
 

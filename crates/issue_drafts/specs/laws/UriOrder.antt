@@ -136,8 +136,8 @@ found-some {X} {V} key told (x ∷ xs) uri v e =
         (x, (0, omega arith, refl), same_is (key x) uri same, is)
     by false other rest e =
         let r = rest e in
-        let place : suc r.1.0 < length (x ∷ xs) = omega (arith, r.1.1) in
-        (r.0, (suc r.1.0, place, r.1.2), r.2, r.3)
+        let position : suc r.1.0 < length (x ∷ xs) = omega (arith, r.1.1) in
+        (r.0, (suc r.1.0, position, r.1.2), r.2, r.3)
 
 -- Where no URI is that one, nothing is found.
 pub found-none : {X V : Type 0} (key : X → List ℕ) (told : X → V) (xs : List X) (uri : List ℕ)
@@ -150,18 +150,18 @@ found-none {X} {V} key told (x ∷ xs) uri none =
     ∙ found-none key told xs uri (λ k d less. none (suc k) d (omega arith))
 
 -- Where URIs are apart, each thing is found at its own.
-pub found-place : {X V : Type 0} (key : X → List ℕ) (told : X → V) (xs : List X) (k : ℕ) (d : X)
+pub found-position : {X V : Type 0} (key : X → List ℕ) (told : X → V) (xs : List X) (k : ℕ) (d : X)
     → AllPairs (λ a b. a ≢ b) (map key xs) → k < length xs
     → found_at key told xs (key (get_or xs k d)) ≡ Some (told (get_or xs k d))
-found-place key told [] k d apart inside = absurd (omega arith)
-found-place {X} {V} key told (x ∷ xs) zero d apart inside =
+found-position key told [] k d apart inside = absurd (omega arith)
+found-position {X} {V} key told (x ∷ xs) zero d apart inside =
     ap (λ (b : Bool). cond b (Some (told x)) (found_at key told xs (key x))) (same_self (key x))
-found-place {X} {V} key told (x ∷ xs) (suc k) d apart inside =
+found-position {X} {V} key told (x ∷ xs) (suc k) d apart inside =
     let y : X = get_or xs k d in
     let other : is_same (key x) (key y) ≡ false =
     other-is (key x) (key y) (apart-at key (x ∷ xs) 0 (suc k) d apart (omega arith) inside) in
     ap (λ (b : Bool). cond b (Some (told x)) (found_at key told xs (key y))) other
-    ∙ found-place key told xs k d
+    ∙ found-position key told xs k d
     (λ i j e less within. apart (suc i) (suc j) e (omega arith) (omega arith)) (omega arith)
 
 pub found-there : {X V : Type 0} (key : X → List ℕ) (told : X → V) (xs : List X) (x : X)
@@ -169,7 +169,7 @@ pub found-there : {X V : Type 0} (key : X → List ℕ) (told : X → V) (xs : L
     → found_at key told xs (key x) ≡ Some (told x)
 found-there {X} {V} key told xs x apart there =
     subst (λ (y : X). found_at key told xs (key y) ≡ Some (told y)) there.2
-    (found-place key told xs there.0 x apart there.1)
+    (found-position key told xs there.0 x apart there.1)
 
 -- The order of things doesn't matter where their URIs are apart.
 pub found-permuted : {X V : Type 0} (key : X → List ℕ) (told : X → V) (xs ys : List X) (uri : List ℕ)
@@ -207,7 +207,7 @@ pub search-found : {X V : Type 0} (key : X → List ℕ) (told : X → V) (xs : 
 search-found {X} {V} key told xs uri i d up inside at =
     let same : key (get_or xs i d) ≡ uri = tied_is (key (get_or xs i d)) uri (at d) in
     sym (subst (λ (u : List ℕ). found_at key told xs u ≡ Some (told (get_or xs i d))) same
-    (found-place key told xs i d (apart-from-rise key xs up) inside))
+    (found-position key told xs i d (apart-from-rise key xs up) inside))
 
 sorted-from-rise : {X : Type 0} (key : X → List ℕ) (xs : List X)
     → Rise key xs → IsSortedBy (λ a b. is_lt (uri_cmp (key a) (key b))) xs

@@ -3,10 +3,10 @@ use Rattle.std.specs.Prelude.{◌≡◌, List, ◌++◌, All}
 use Rattle.signer_api.specs.State.{SignerState}
 use Rattle.signer_ring.specs.Calls.{Call, after_calls, IsVouched}
 use Rattle.key_roll.specs.declared.rows.KeyRow.{KeyRow}
-use Rattle.issue_drafts.specs.Finding.{Keys}
-use Rattle.issue_drafts.specs.Certificates.{IssueInput}
+use Rattle.issue_drafts.specs.WorkKeys.{Keys}
+use Rattle.issue_drafts.specs.IssueInput.{IssueInput}
 use Rattle.issue_sign.specs.Calls.{first_calls, second_calls, content_calls, last_calls}
-use Rattle.issue_make.specs.declared.outcome.Made.{Made}
+use Rattle.issue_make.specs.declared.made.Made.{Made}
 use Rattle.issue_make.specs.Trace.{IssuingTrace, IsIssuingTrace, all_of, made_of, IsSpelled}
 use Rattle.issue_make.specs.inner.Outcomes.{IsOutcome}
 

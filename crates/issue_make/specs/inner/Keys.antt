@@ -3,7 +3,7 @@ use Rattle.std.specs.Prelude.{◌≡◌, ℕ, ◌+◌, Bool, if◌then◌else◌
 use Rattle.std.specs.Simd.Lanes.{zip2}
 use Rattle.key_roll.specs.declared.rows.KeyRow.{KeyRow}
 use Rattle.key_roll.specs.declared.rows.RevokedRow.{RevokedRow}
-use Rattle.issue_drafts.specs.Certificates.{IssueInput}
+use Rattle.issue_drafts.specs.IssueInput.{IssueInput}
 use Rattle.issue_drafts.specs.Drafts.{serial_behind}
 use Rattle.issue_drafts.specs.Revoking.{has_point}
 use Rattle.issue_make.specs.Trace.{IssuingTrace, all_of}

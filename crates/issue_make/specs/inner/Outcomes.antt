@@ -7,14 +7,14 @@ use Rattle.pub_set.specs.Changes.{uri_of, change_at}
 use Rattle.pub_set.specs.Objects.{Rise}
 use Rattle.key_roll.specs.declared.rows.KeyRow.{KeyRow}
 use Rattle.issue_values.specs.Certificates.{IsEditionMoment}
-use Rattle.issue_drafts.specs.Certificates.{IssueInput}
+use Rattle.issue_drafts.specs.IssueInput.{IssueInput}
 use Rattle.issue_drafts.specs.Drafts.{serial_behind}
 use Rattle.issue_drafts.specs.Views.{draft_of, manifest_of}
 use Rattle.issue_drafts.specs.Serials.{given_serial}
 use Rattle.issue_drafts.specs.Revoking.{has_point}
 use Rattle.issue_sign.specs.Objects.{bytes_of, manifest_bytes}
-use Rattle.issue_make.specs.declared.outcome.Made.{Made}
-use Rattle.issue_make.specs.declared.publishing.Published.{Published}
+use Rattle.issue_make.specs.declared.made.Made.{Made}
+use Rattle.issue_make.specs.declared.publishing.ChangesWithRows.{ChangesWithRows}
 use Rattle.issue_make.specs.Trace.{IssuingTrace, all_of, made_of, wanted_at, IsIssued}
 use Rattle.issue_make.specs.Trace.{row_after}
 use Rattle.issue_make.specs.Trace.{is_before, signatures_of}
@@ -26,11 +26,11 @@ use Rattle.issue_make.specs.declared.objects.Objects.{Objects}
 abbrev pub uris_in : ObjectPlan → List (List ℕ)
 uris_in plan = map (λ d. d.uri) plan.drafts.items ++ map (λ d. d.uri) plan.manifests.items
 
--- An object and a serial for each draft, and a place for each manifest's key.
+-- An object and a serial for each draft, and a position for each manifest's key.
 pub record AreWhole (plan : ObjectPlan) (objects : Objects) : Type 0 where
   pub given : length plan.serials.given.items ≡ length plan.drafts.items
   pub drafted : length objects.drafted.items ≡ length plan.drafts.items
-  pub places : All (λ d. d.issuer.place < length plan.serials.next.items) plan.manifests.items
+  pub positions : All (λ d. d.issuer.position < length plan.serials.next.items) plan.manifests.items
   pub listed : length objects.listed.items ≡ length plan.manifests.items
 
 -- What the outcome asks: URIs that are apart, numbers below their end, a row for each key.
@@ -58,7 +58,7 @@ pub record IsOfPlan (s : IssueInput) (plan : ObjectPlan) (objects : Objects) (tr
       ≡ map (λ x. sha256 (bytes_of s trace.keys (all_of s trace) trace.entries x))
       trace.objects
   pub manifests : map (λ x. x.draft) trace.listed ≡ map manifest_of plan.manifests.items
-  pub next : All (λ d. slice_get plan.serials.next.items d.issuer.place
+  pub next : All (λ d. slice_get plan.serials.next.items d.issuer.position
       ≡ Some (serial_behind (all_of s trace) d.issuer.row.now)) plan.manifests.items
   pub listed_contents : contents_of objects.listed.items
       ≡ map (manifest_bytes s trace.keys (all_of s trace) trace.files) trace.listed
@@ -75,7 +75,7 @@ pub record IsOfKeys (s : IssueInput) (rows : List KeyRow) (plan : ObjectPlan)
   pub entries : plan.revoked.items ≡ map trace.entries rows
 
 -- The changes and the rows of what is put are those of that trace.
-pub record IsPublication (s : IssueInput) (trace : IssuingTrace) (published : Published)
+pub record IsPublication (s : IssueInput) (trace : IssuingTrace) (published : ChangesWithRows)
     : Type 0 where
   pub rising : Rise uri_of published.changes
   pub changes : (uri : List ℕ) → change_at published.changes uri ≡ wanted_at s trace uri

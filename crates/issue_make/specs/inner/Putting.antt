@@ -9,8 +9,8 @@ use Rattle.pub_set.specs.Objects.{found_at}
 use Rattle.key_roll.specs.declared.issued.IssuedRow.{IssuedRow}
 use Rattle.key_roll.specs.declared.issued.What.{What}
 use Rattle.key_roll.specs.declared.issued.What.TheVariants.{Authority, Route, Point}
-use Rattle.issue_drafts.specs.Finding.{key_of}
-use Rattle.issue_drafts.specs.Certificates.{IssueInput}
+use Rattle.issue_drafts.specs.WorkKeys.{key_of}
+use Rattle.issue_drafts.specs.IssueInput.{IssueInput}
 use Rattle.issue_drafts.specs.Drafts.{Draft, Kind, serial_behind}
 use Rattle.issue_drafts.specs.Drafts.Kind.{Certificate, Roa, Crl, Manifest}
 use Rattle.issue_drafts.specs.Serials.{given_serial}
@@ -51,10 +51,10 @@ draft_rows moment drafts serials hashes =
 
 -- A manifest has the serial that comes next under its key.
 abbrev pub next_serials : List ℕ → List ManifestDraft → List ℕ
-next_serials next drafts = map (λ d. slice_index next d.issuer.place) drafts
+next_serials next drafts = map (λ d. slice_index next d.issuer.position) drafts
 
-abbrev pub HavePlaces : List ManifestDraft → List ℕ → Type 0
-HavePlaces drafts next = All (λ d. d.issuer.place < length next) drafts
+abbrev pub HavePositions : List ManifestDraft → List ℕ → Type 0
+HavePositions drafts next = All (λ d. d.issuer.position < length next) drafts
 
 abbrev pub hashes_of : List Object → List (List ℕ)
 hashes_of objects = map (λ o. o.hash) objects
@@ -90,7 +90,7 @@ withdrawal_by issued uri = option_map (λ hash. Withdraw uri hash) (hash_in issu
 pub record IsWhole (n : Numbered) (made signed : ℕ) : Type 0 where
   pub given : length n.given.now ≡ length n.drafts.now
   pub objects : made ≡ length n.drafts.now
-  pub places : HavePlaces n.manifests.now n.next.now
+  pub positions : HavePositions n.manifests.now n.next.now
   pub listed : signed ≡ length n.manifests.now
 
 -- The URIs at which objects are put.
@@ -109,7 +109,7 @@ pub record IsOf
       ≡ map (λ x. sha256 (bytes_of s trace.keys (all_of s trace) trace.entries x))
       trace.objects
   pub manifests : map (λ x. x.draft) trace.listed ≡ map manifest_of n.manifests.now
-  pub next : All (λ d. slice_get n.next.now d.issuer.place
+  pub next : All (λ d. slice_get n.next.now d.issuer.position
       ≡ Some (serial_behind (all_of s trace) d.issuer.row.now)) n.manifests.now
   pub listed_contents : contents_of listed
       ≡ map (manifest_bytes s trace.keys (all_of s trace) trace.files) trace.listed

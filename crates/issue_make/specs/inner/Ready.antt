@@ -3,8 +3,8 @@ use Rattle.std.specs.Prelude.{◌≡◌, ◌≤◌, ℕ, List, map, take, drop, 
 use Rattle.key_roll.specs.declared.rows.KeyRow.{KeyRow}
 use Rattle.issue_keys.specs.Keys.{id_of, kept_rows, AreFresh}
 use Rattle.issue_keys.specs.Making.{AreApart}
-use Rattle.issue_drafts.specs.Finding.{keys_at}
-use Rattle.issue_drafts.specs.Certificates.{IssueInput}
+use Rattle.issue_drafts.specs.WorkKeys.{keys_at}
+use Rattle.issue_drafts.specs.IssueInput.{IssueInput}
 use Rattle.issue_make.specs.inner.Naming.{CanName}
 use Rattle.issue_make.specs.ObjectPlan.{IsObjectPlan}
 use Rattle.issue_make.specs.CanMake.{CanMake}

@@ -11,8 +11,8 @@ use Rattle.issue_values.specs.Certificates.{IsEditionMoment}
 use Rattle.issue_values.specs.Bodies.{AreRevoked}
 use Rattle.issue_keys.specs.declared.fault.MakeFault.{MakeFault}
 use Rattle.issue_keys.specs.declared.fault.MakeFault.TheVariants.{SignerFault, KeyClash, Memory}
-use Rattle.issue_drafts.specs.Finding.{Keys}
-use Rattle.issue_drafts.specs.Certificates.{IssueInput}
+use Rattle.issue_drafts.specs.WorkKeys.{Keys}
+use Rattle.issue_drafts.specs.IssueInput.{IssueInput}
 use Rattle.issue_drafts.specs.Drafts as words
 use Rattle.issue_drafts.specs.Views.{draft_of, manifest_of}
 use Rattle.issue_drafts.specs.declared.draft.KeyAt.{KeyAt}
@@ -43,15 +43,15 @@ sign_input_of s keys rows entries files = record {
 -- A key that can issue: it is among the plan's, certificates can name its own, it has one more
 -- number, and its signer is there.
 pub record CanIssueIn (plan : ObjectPlan) (signers : ℕ) (key : KeyAt) : Type 0 where
-  pub inside : key.place < length plan.publishers.items
-  pub certified : HoldsAt (λ p. is_uri p.certificate ≡ true) plan.publishers.items key.place
+  pub inside : key.position < length plan.publishers.items
+  pub certified : HoldsAt (λ p. is_uri p.certificate ≡ true) plan.publishers.items key.position
   pub number : key.row.now.number < 2 ^ 62
   pub signer : key.row.now.signer < signers
 
 abbrev pub CanBe : ObjectPlan → KeyAt → List ℕ → DraftKind → Type 0
-CanBe plan issuer uri (Authority subject held) = subject.place < length plan.publishers.items
+CanBe plan issuer uri (Authority subject held) = subject.position < length plan.publishers.items
 CanBe plan issuer uri (Route origin) = is_uri uri ≡ true
-CanBe plan issuer uri Crl = issuer.place < length plan.revoked.items
+CanBe plan issuer uri Crl = issuer.position < length plan.revoked.items
 
 pub record CanBeSigned (s : IssueInput) (plan : ObjectPlan) (signers : ℕ) : Type 0 where
   pub keys : Keys

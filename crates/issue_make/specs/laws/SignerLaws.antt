@@ -18,8 +18,9 @@ use Rattle.key_roll.specs.declared.work.RoaWork.{RoaWork}
 use Rattle.key_roll.specs.declared.work.PointWork.{PointWork}
 use Rattle.issue_keys.specs.Keys.{id_of, is_dropped, with_role, role_of, kept_rows, fresh_rows, AreFresh}
 use Rattle.issue_keys.specs.Making.{making}
-use Rattle.issue_drafts.specs.Finding.{Keys, all_keys, key_named}
-use Rattle.issue_drafts.specs.Certificates.{IssueInput, made_uri, name_at}
+use Rattle.issue_drafts.specs.WorkKeys.{Keys, all_keys, key_named}
+use Rattle.issue_drafts.specs.IssueInput.{IssueInput}
+use Rattle.issue_drafts.specs.Publishers.{made_uri, name_at}
 use Rattle.key_ids.specs.Uris.{crl_uri, manifest_uri}
 use Rattle.issue_values.specs.Publishers.{roa_uri}
 use Rattle.issue_drafts.specs.Drafts.{Draft, Kind, drafts, manifests, certificate_draft, roa_draft, crl_draft, manifest_draft, AreOrdered}

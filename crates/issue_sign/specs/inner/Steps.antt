@@ -12,10 +12,11 @@ use Rattle.key_roll.specs.declared.rows.KeyRow.{KeyRow}
 use Rattle.issue_values.specs.Bodies.{roa_of, manifest_value_of}
 use Rattle.issue_keys.specs.declared.fault.MakeFault.{MakeFault}
 use Rattle.issue_keys.specs.declared.fault.MakeFault.TheVariants.{SignerFault, KeyClash, Memory}
-use Rattle.issue_drafts.specs.Certificates.{IssueInput}
+use Rattle.issue_drafts.specs.IssueInput.{IssueInput}
 use Rattle.issue_drafts.specs.Drafts.{Draft, Kind}
 use Rattle.issue_drafts.specs.Drafts.Kind.{Roa, Manifest}
-use Rattle.issue_drafts.specs.Views.{draft_of, manifest_of, kind_of, IsPlaced, IsSubjectPlaced}
+use Rattle.issue_drafts.specs.Views.{draft_of, manifest_of, kind_of}
+use Rattle.issue_drafts.specs.Views.{IsPositioned, IsSubjectPositioned}
 use Rattle.issue_drafts.specs.Serials.{given_serial}
 use Rattle.issue_drafts.specs.declared.draft.Draft as code
 use Rattle.issue_drafts.specs.declared.draft.ManifestDraft as manifests
@@ -100,7 +101,7 @@ pub record IsFirst
 
 -- ---- lists side by side
 
--- Each of the second list has that relation to the one at its place in the first.
+-- Each of the second list has that relation to the one at its position in the first.
 abbrev pub Pairs : {A B : Type 0} → (A → B → Type 0) → List A → List B → Type 0
 Pairs R [] [] = Unit {0}
 Pairs R [] (y ∷ ys) = ⊥
@@ -109,8 +110,8 @@ Pairs R (x ∷ xs) (y ∷ ys) = R x y × Pairs R xs ys
 
 -- A draft of that basis, with its serial.
 pub record IsDraft (b : SignInputValue) (d : code.Draft) (given : ℕ) : Type 0 where
-  pub issuer : IsPlaced b.rows d.issuer
-  pub subject : IsSubjectPlaced b.rows d.kind
+  pub issuer : IsPositioned b.rows d.issuer
+  pub subject : IsSubjectPositioned b.rows d.kind
   pub serial : given ≡ given_serial b.all (draft_of d)
 
 -- The signers made the first calls for these drafts, of which that came.

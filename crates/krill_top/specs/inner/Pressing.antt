@@ -5,7 +5,7 @@ use Rattle.signer_api.specs.State.{SignerState}
 use Rattle.signer_ring.specs.Ring.{Keeps}
 use Rattle.notice_board.specs.declared.sheets.Sheet.{Sheet}
 use Rattle.editions.specs.declared.gathered.Gathered.{Gathered}
-use Rattle.editions.specs.declared.published_state.Published.{Published}
+use Rattle.editions.specs.declared.published_state.PublishedNumbers.{PublishedNumbers}
 use Rattle.editions.specs.PublishedState.{published_of}
 use Rattle.editions.specs.Sheets.{sheet_of}
 use Rattle.press_core.specs.declared.fault.PressFault.{PressFault}
@@ -24,7 +24,7 @@ use Rattle.krill_top.specs.inner.Gathered.{AreSince}
 
 -- An edition was prepared of all commands behind the cut, and is the press's last one now; then the keys
 -- that it ended were dropped.
-pub record IsPressed {D : Type 0} (clock : ℕ) (desks : List (View D)) (old new : PressValue) (told : Published) (sheet : Sheet) : Type 0 where
+pub record IsPressed {D : Type 0} (clock : ℕ) (desks : List (View D)) (old new : PressValue) (told : PublishedNumbers) (sheet : Sheet) : Type 0 where
   pub groups : List Gathered
   pub made : List SignerState
   pub prepared : NextValue

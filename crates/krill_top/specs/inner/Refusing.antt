@@ -1,6 +1,6 @@
 -- What a publication comes to for which no edition was made, by why it wasn't.
 use Rattle.std.specs.Prelude.{◌≡◌, ℕ, Bool, true, false}
-use Rattle.editions.specs.declared.published_state.Published.{Published as PublishedNumbers}
+use Rattle.editions.specs.declared.published_state.PublishedNumbers.{PublishedNumbers}
 use Rattle.press_core.specs.declared.fault.PressFault.{PressFault}
 use Rattle.krill_top.specs.InstanceState.{InstanceState, last_serial, is_exported}
 use Rattle.krill_top.specs.Exports.{ExportsAll, ExportStops}

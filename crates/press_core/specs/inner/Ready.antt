@@ -16,7 +16,7 @@ use Rattle.issue_keys.specs.declared.fault.MakeFault.{MakeFault}
 use Rattle.issue_keys.specs.declared.fault.MakeFault.TheVariants as why
 use Rattle.key_roll.specs.declared.issued.IssuedRow.{IssuedRow}
 use Rattle.key_roll.specs.declared.rows.Role.TheVariants.{Current}
-use Rattle.issue_make.specs.declared.outcome.Made.{Made}
+use Rattle.issue_make.specs.declared.made.Made.{Made}
 use Rattle.issue_make.specs.CanMake as making
 use Rattle.issue_make.specs.Made.{IsMade}
 use Rattle.editions.specs.declared.gathered.Gathered.{Gathered}

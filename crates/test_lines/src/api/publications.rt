@@ -4,7 +4,7 @@ use crate::api::replies::{refused, text_of};
 use crate::api::shown;
 use anyhow::Result;
 use hex::FromHex;
-use json_api::{Published, Refused, published_into, serial_into};
+use json_api::{PublishedReply, Refused, published_into, serial_into};
 use key_ids::KeyId;
 use std::alloc::Global;
 use test_support::first_field;
@@ -41,7 +41,7 @@ fn published(alloc: Global, arguments: &str) -> Result<String> {
     let (serial, rest) = first_field(arguments)?;
     let (moment, rest) = first_field(rest)?;
     let (objects, origins) = first_field(rest)?;
-    let published = Published {
+    let published = PublishedReply {
         serial: serial.parse::<u64>()?,
         moment: moment.parse::<u64>()?,
         objects: objects.parse::<u64>()?,

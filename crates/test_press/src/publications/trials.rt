@@ -6,7 +6,7 @@ use crate::publications::desks::Desks;
 use crate::publications::gathering::{gathered, names_have_signers};
 use crate::publications::shown::changes_text;
 use anyhow::{Result, bail};
-use editions::{Gathered, Published, PublishedState};
+use editions::{Gathered, PublishedNumbers, PublishedState};
 use key_ids::Site;
 use key_roll::KeyRow;
 use outlet_api::{ExportFault, MemoryOutlet};
@@ -24,7 +24,7 @@ const SESSION: u128 = 0x4000_8000_0000_0000_0000;
 /// An edition: what it is known by, how much it puts and withdraws, and its changes as a text.
 #[derive(Drop)]
 pub struct Edition {
-    pub published: Published,
+    pub published: PublishedNumbers,
     pub puts: usize,
     pub withdrawals: usize,
     pub changes: String,

@@ -4,7 +4,7 @@ ghost use Rattle.std.specs.Prelude.{◌≡◌, ◌≢◌, ◌<◌, ◌∷◌, []
 ghost use Rattle.names.specs.Name.{IsName};
 ghost use Rattle.issue_values.specs.Certificates.{IsEditionMoment};
 ghost use Rattle.issue_values.specs.Publishers.{roa_uri};
-ghost use Rattle.issue_drafts.specs.Certificates.{name_at};
+ghost use Rattle.issue_drafts.specs.Publishers.{name_at};
 ghost use Rattle.test_press.specs.Anchor.{anchor_name, anchor_key, anchor_work, roa_under, unused_row, unused_rows};
 
 use authority_book::NameRow;

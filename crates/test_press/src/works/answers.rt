@@ -3,7 +3,7 @@
 ghost use Rattle.std.specs.Prelude.{◌≡◌, None, All, length, IfOk};
 ghost use Rattle.names.specs.Name.{IsName};
 ghost use Rattle.authority_book.specs.Origins.{first_repeated};
-ghost use Rattle.issue_drafts.specs.Certificates.{name_at};
+ghost use Rattle.issue_drafts.specs.Publishers.{name_at};
 ghost use Rattle.issue_values.specs.Certificates.{IsEditionMoment};
 
 use crate::works::anchor::make_anchor;

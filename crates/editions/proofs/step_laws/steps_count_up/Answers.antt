@@ -7,6 +7,6 @@ pub returns-clause-serials : goal.returns-clause-serials
 returns-clause-serials c = λ premises editions steps. serials_count premises editions steps
 
 pub returns-clause-moments : goal.returns-clause-moments
-returns-clause-moments c = λ premises editions place edition steps there.
-    let step = steps place edition there in
-    rw (step.1.moment) (later_than step.0 (state_after (take place editions)))
+returns-clause-moments c = λ premises editions position edition steps there.
+    let step = steps position edition there in
+    rw (step.1.moment) (later_than step.0 (state_after (take position editions)))

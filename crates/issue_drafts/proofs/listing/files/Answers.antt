@@ -2,7 +2,7 @@ use Rattle.std.proofs.Common.{◌≡◌, ◌++◌, List, length, map, sym, ap, s
 use Rattle.std.specs.List.{AllZip, zip}
 use Rattle.std.proofs.lemmas.List.{length-map, take_all}
 use Rattle.payloads.specs.ManifestFormats.{file_view}
-use Rattle.issue_drafts.specs.Certificates.{input_of}
+use Rattle.issue_drafts.specs.IssueInput.{input_of}
 use Rattle.issue_drafts.specs.Views.{draft_of, manifest_of}
 use Rattle.issue_drafts.specs.declared.draft.ManifestDraft.{ManifestDraft}
 use Rattle.issue_drafts.specs.Files.{AreListable}
@@ -14,13 +14,13 @@ use Rattle.issue_drafts.proofs.listing.files.Goals as goal
 pub merged-requires-clause-kept_inside : goal.merged-requires-clause-kept_inside
 merged-requires-clause-kept_inside c =
     kept-inside (input_of c.args.at.now) c.args.touched.now c.of-id.result.bytes c.in_ok-kept.kept
-    c.places-stay.result.now c.in_ok-kept.ensures c.places-stay.ensures
+    c.positions-stay.result.now c.in_ok-kept.ensures c.positions-stay.ensures
 
 pub merged-requires-clause-made_inside : goal.merged-requires-clause-made_inside
 merged-requires-clause-made_inside c =
     made-inside (input_of c.args.at.now) (map draft_of c.args.drafts.now) c.args.hashes.now
-    c.of-id.result.bytes c.in_ok-made.made c.places-come.result.now
-    (c.requires.each ∙ sym (length-map c.args.drafts.now draft_of)) c.in_ok-made.ensures c.places-come.ensures
+    c.of-id.result.bytes c.in_ok-made.made c.positions-come.result.now
+    (c.requires.each ∙ sym (length-map c.args.drafts.now draft_of)) c.in_ok-made.ensures c.positions-come.ensures
 
 pub merged-requires-clause-kept_listable : goal.merged-requires-clause-kept_listable
 merged-requires-clause-kept_listable c =
@@ -29,13 +29,13 @@ merged-requires-clause-kept_listable c =
     let manifests = map manifest_of c.args.manifests.now in
     (ready-here s drafts manifests c.args.hashes.now c.args.touched.now c.manifest-item.result.issuer.row.now
     c.as_str.result.now c.of-id.result.bytes
-    c.in_ok-kept.kept c.in_ok-made.made c.places-stay.result.now c.places-come.result.now
+    c.in_ok-kept.kept c.in_ok-made.made c.positions-stay.result.now c.positions-come.result.now
     (c.requires.each ∙ sym (length-map c.args.drafts.now draft_of))
     c.requires.standing c.requires.rising c.requires.touched
     (all-at (λ (m : ManifestDraft). AreListable s (drafts ++ manifests) drafts m.issuer.row.now)
     c.args.manifests.now c.loop-manifest.manifest-index c.manifest-item.result c.manifest-item.result
     c.requires.listable c.loop-manifest-test.true c.manifest-item.is)
-    c.in_ok-kept.ensures c.in_ok-made.ensures c.of-id.ensures c.places-stay.ensures c.places-come.ensures
+    c.in_ok-kept.ensures c.in_ok-made.ensures c.of-id.ensures c.positions-stay.ensures c.positions-come.ensures
     (c.as_str.ensures.value ∙ c.in_ok-folder.ensures)).kept
 
 pub merged-requires-clause-made_listable : goal.merged-requires-clause-made_listable
@@ -45,13 +45,13 @@ merged-requires-clause-made_listable c =
     let manifests = map manifest_of c.args.manifests.now in
     (ready-here s drafts manifests c.args.hashes.now c.args.touched.now c.manifest-item.result.issuer.row.now
     c.as_str.result.now c.of-id.result.bytes
-    c.in_ok-kept.kept c.in_ok-made.made c.places-stay.result.now c.places-come.result.now
+    c.in_ok-kept.kept c.in_ok-made.made c.positions-stay.result.now c.positions-come.result.now
     (c.requires.each ∙ sym (length-map c.args.drafts.now draft_of))
     c.requires.standing c.requires.rising c.requires.touched
     (all-at (λ (m : ManifestDraft). AreListable s (drafts ++ manifests) drafts m.issuer.row.now)
     c.args.manifests.now c.loop-manifest.manifest-index c.manifest-item.result c.manifest-item.result
     c.requires.listable c.loop-manifest-test.true c.manifest-item.is)
-    c.in_ok-kept.ensures c.in_ok-made.ensures c.of-id.ensures c.places-stay.ensures c.places-come.ensures
+    c.in_ok-kept.ensures c.in_ok-made.ensures c.of-id.ensures c.positions-stay.ensures c.positions-come.ensures
     (c.as_str.ensures.value ∙ c.in_ok-folder.ensures)).come
 
 pub merged-requires-clause-apart : goal.merged-requires-clause-apart
@@ -61,13 +61,13 @@ merged-requires-clause-apart c =
     let manifests = map manifest_of c.args.manifests.now in
     (ready-here s drafts manifests c.args.hashes.now c.args.touched.now c.manifest-item.result.issuer.row.now
     c.as_str.result.now c.of-id.result.bytes
-    c.in_ok-kept.kept c.in_ok-made.made c.places-stay.result.now c.places-come.result.now
+    c.in_ok-kept.kept c.in_ok-made.made c.positions-stay.result.now c.positions-come.result.now
     (c.requires.each ∙ sym (length-map c.args.drafts.now draft_of))
     c.requires.standing c.requires.rising c.requires.touched
     (all-at (λ (m : ManifestDraft). AreListable s (drafts ++ manifests) drafts m.issuer.row.now)
     c.args.manifests.now c.loop-manifest.manifest-index c.manifest-item.result c.manifest-item.result
     c.requires.listable c.loop-manifest-test.true c.manifest-item.is)
-    c.in_ok-kept.ensures c.in_ok-made.ensures c.of-id.ensures c.places-stay.ensures c.places-come.ensures
+    c.in_ok-kept.ensures c.in_ok-made.ensures c.of-id.ensures c.positions-stay.ensures c.positions-come.ensures
     (c.as_str.ensures.value ∙ c.in_ok-folder.ensures)).apart
 
 pub loop-manifest-preserved : goal.loop-manifest-preserved
@@ -81,20 +81,20 @@ loop-manifest-preserved c =
     let folder = c.as_str.ensures.value ∙ c.in_ok-folder.ensures in
     let r =
     ready-here s drafts manifests c.args.hashes.now c.args.touched.now key c.as_str.result.now c.of-id.result.bytes
-    c.in_ok-kept.kept c.in_ok-made.made c.places-stay.result.now c.places-come.result.now long
+    c.in_ok-kept.kept c.in_ok-made.made c.positions-stay.result.now c.positions-come.result.now long
     c.requires.standing c.requires.rising c.requires.touched
     (all-at (λ (m : ManifestDraft). AreListable s (drafts ++ manifests) drafts m.issuer.row.now)
     c.args.manifests.now c.loop-manifest.manifest-index c.manifest-item.result c.manifest-item.result
     c.requires.listable c.loop-manifest-test.true c.manifest-item.is)
-    c.in_ok-kept.ensures c.in_ok-made.ensures c.of-id.ensures c.places-stay.ensures c.places-come.ensures folder in
+    c.in_ok-kept.ensures c.in_ok-made.ensures c.of-id.ensures c.positions-stay.ensures c.positions-come.ensures folder in
     key-more s c.args.touched.now (zip drafts c.args.hashes.now) (λ (m : ManifestDraft). m.issuer.row.now)
     c.args.manifests.now c.loop-manifest.manifest-index c.manifest-item.result key
     c.loop-manifest.lists.items c.push.new.self.items c.new.result c.loop-manifest-test.true
     (ap (λ (m : ManifestDraft). m.issuer.row.now) c.manifest-item.is) c.loop-manifest.invariant
     (of-here s drafts c.args.hashes.now c.args.touched.now key c.as_str.result.now c.of-id.result.bytes
-    c.in_ok-kept.kept c.in_ok-made.made c.places-stay.result.now c.places-come.result.now
+    c.in_ok-kept.kept c.in_ok-made.made c.positions-stay.result.now c.positions-come.result.now
     c.in_ok-list.list.items c.new.result long c.in_ok-kept.ensures c.in_ok-made.ensures c.of-id.ensures
-    c.places-stay.ensures c.places-come.ensures folder r
+    c.positions-stay.ensures c.positions-come.ensures folder r
     c.in_ok-list.ensures.merged c.in_ok-list.ensures.are c.new.ensures)
     c.in_ok-push.ensures.items
 

@@ -1,7 +1,7 @@
 use Rattle.std.proofs.Common.{map, take}
 use Rattle.std.specs.List.{AllZip, zip}
 use Rattle.payloads.specs.ManifestFormats.{file_view}
-use Rattle.issue_drafts.specs.Certificates.{input_of}
+use Rattle.issue_drafts.specs.IssueInput.{input_of}
 use Rattle.issue_drafts.specs.Views.{draft_of}
 use Rattle.issue_drafts.proofs.Merged.{OfKey}
 use Rattle.issue_drafts.proofs.listing.files.Given as goal

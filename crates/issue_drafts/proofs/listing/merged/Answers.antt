@@ -5,7 +5,7 @@ use Rattle.der.specs.Forms.{AreAll}
 use Rattle.payloads.specs.ManifestFormats.{IsFile, file_view}
 use Rattle.payloads.specs.declared.values.ListedFile.{ListedFile}
 use Rattle.issue_drafts.specs.Views.{draft_of}
-use Rattle.issue_drafts.specs.inner.Places.{items_at}
+use Rattle.issue_drafts.specs.inner.Positions.{items_at}
 use Rattle.issue_drafts.specs.Files.{kept_file, made_file}
 use Rattle.issue_drafts.proofs.Filed.{both-files, are-moved, if-ok}
 use Rattle.issue_drafts.proofs.listing.merged.Goals as goal

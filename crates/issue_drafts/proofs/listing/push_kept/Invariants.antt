@@ -1,13 +1,13 @@
 use Rattle.std.proofs.Common.{◌≡◌, ◌++◌, map, take}
 use Rattle.der.specs.Forms.{AreAll}
 use Rattle.payloads.specs.ManifestFormats.{IsFile, file_view}
-use Rattle.issue_drafts.specs.inner.Places.{items_at}
+use Rattle.issue_drafts.specs.inner.Positions.{items_at}
 use Rattle.issue_drafts.specs.Files.{kept_file}
 use Rattle.issue_drafts.proofs.listing.push_kept.Given as goal
 
 abbrev pub invariant-loop-entry : goal.invariant-loop-entry
 invariant-loop-entry l = record {
   files : map file_view l.files.items ≡ map file_view l.fn.files.items ++ map (kept_file l.folder)
-      (items_at l.issued (take l.entry-index l.places));
-  are : AreAll IsFile (map (kept_file l.folder) (items_at l.issued (take l.entry-index l.places)));
+      (items_at l.issued (take l.entry-index l.positions));
+  are : AreAll IsFile (map (kept_file l.folder) (items_at l.issued (take l.entry-index l.positions)));
 }

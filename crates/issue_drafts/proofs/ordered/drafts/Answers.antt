@@ -4,8 +4,8 @@ use Rattle.std.proofs.lemmas.List.Sorted.{All-permutation}
 use Rattle.pub_set.specs.Objects.{uri_cmp}
 use Rattle.issue_drafts.specs.declared.draft.Draft.{Draft}
 use Rattle.issue_drafts.specs.Drafts as words
-use Rattle.issue_drafts.specs.Views.{draft_of, IsDraftPlaced}
-use Rattle.issue_drafts.specs.Drafting.{setting_in, keys_in}
+use Rattle.issue_drafts.specs.Views.{draft_of, IsDraftPositioned}
+use Rattle.issue_drafts.specs.DraftInput.{setting_in, keys_in}
 use Rattle.issue_drafts.specs.laws.UriOrder.{by-uri, compares-uris}
 use Rattle.issue_drafts.proofs.Sorting.{ordered-from}
 use Rattle.issue_drafts.proofs.ordered.drafts.Goals as goal
@@ -20,14 +20,14 @@ returns-clause-ordered c =
 
 pub returns-clause-issuers : goal.returns-clause-issuers
 returns-clause-issuers c =
-    let all : All (IsDraftPlaced c.args.at.now.rows.now) c.sort_by.new.self.items =
-    All-permutation (IsDraftPlaced c.args.at.now.rows.now) c.in_ok-drafts.drafts.items c.sort_by.new.self.items
-    c.in_ok-sort_by.ensures.permutation c.in_ok-drafts.ensures.placed in
+    let all : All (IsDraftPositioned c.args.at.now.rows.now) c.sort_by.new.self.items =
+    All-permutation (IsDraftPositioned c.args.at.now.rows.now) c.in_ok-drafts.drafts.items c.sort_by.new.self.items
+    c.in_ok-sort_by.ensures.permutation c.in_ok-drafts.ensures.positioned in
     λ k d lt. (all k d lt).issuer
 
 pub returns-clause-subjects : goal.returns-clause-subjects
 returns-clause-subjects c =
-    let all : All (IsDraftPlaced c.args.at.now.rows.now) c.sort_by.new.self.items =
-    All-permutation (IsDraftPlaced c.args.at.now.rows.now) c.in_ok-drafts.drafts.items c.sort_by.new.self.items
-    c.in_ok-sort_by.ensures.permutation c.in_ok-drafts.ensures.placed in
+    let all : All (IsDraftPositioned c.args.at.now.rows.now) c.sort_by.new.self.items =
+    All-permutation (IsDraftPositioned c.args.at.now.rows.now) c.in_ok-drafts.drafts.items c.sort_by.new.self.items
+    c.in_ok-sort_by.ensures.permutation c.in_ok-drafts.ensures.positioned in
     λ k d lt. (all k d lt).subject

@@ -4,8 +4,8 @@ use Rattle.std.proofs.lemmas.List.Sorted.{All-permutation}
 use Rattle.pub_set.specs.Objects.{uri_cmp}
 use Rattle.issue_drafts.specs.declared.draft.ManifestDraft.{ManifestDraft}
 use Rattle.issue_drafts.specs.Drafts as words
-use Rattle.issue_drafts.specs.Views.{manifest_of, IsPlaced}
-use Rattle.issue_drafts.specs.Drafting.{setting_in, keys_in}
+use Rattle.issue_drafts.specs.Views.{manifest_of, IsPositioned}
+use Rattle.issue_drafts.specs.DraftInput.{setting_in, keys_in}
 use Rattle.issue_drafts.specs.laws.UriOrder.{by-uri, compares-uris}
 use Rattle.issue_drafts.proofs.Sorting.{ordered-from}
 use Rattle.issue_drafts.proofs.ordered.manifest_drafts.Goals as goal
@@ -20,6 +20,6 @@ returns-clause-ordered c =
 
 pub returns-clause-issuers : goal.returns-clause-issuers
 returns-clause-issuers c =
-    All-permutation (λ (d : ManifestDraft). IsPlaced c.args.at.now.rows.now d.issuer) c.in_ok-drafts.drafts.items
+    All-permutation (λ (d : ManifestDraft). IsPositioned c.args.at.now.rows.now d.issuer) c.in_ok-drafts.drafts.items
     c.sort_by.new.self.items
-    c.in_ok-sort_by.ensures.permutation c.in_ok-drafts.ensures.placed
+    c.in_ok-sort_by.ensures.permutation c.in_ok-drafts.ensures.positioned

@@ -1,8 +1,8 @@
 use Rattle.std.proofs.Common.{[]}
 use Rattle.issue_drafts.specs.declared.draft.ManifestDraft.{ManifestDraft}
 use Rattle.issue_drafts.specs.Drafts as words
-use Rattle.issue_drafts.specs.Views.{manifest_of, IsPlaced}
-use Rattle.issue_drafts.specs.Drafting.{setting_in, keys_in}
+use Rattle.issue_drafts.specs.Views.{manifest_of, IsPositioned}
+use Rattle.issue_drafts.specs.DraftInput.{setting_in, keys_in}
 use Rattle.issue_drafts.proofs.Steps.{filtered-more, all-more}
 use Rattle.issue_drafts.proofs.ordered.unordered_manifests.Goals as goal
 
@@ -13,7 +13,7 @@ loop-point-preserved c =
           c.loop-point.point-index _ [] c.loop-point.drafts.items c.push_some.new.items.items c.in_ok-draft.draft
           c.loop-point-test.true
           c.loop-point.invariant.drafts c.in_ok-push_some.ensures c.in_ok-draft.ensures.draft;
-      placed = all-more (λ (d : ManifestDraft). IsPlaced at.rows.now d.issuer) c.loop-point.drafts.items
-          c.push_some.new.items.items c.in_ok-draft.draft c.in_ok-push_some.ensures c.in_ok-draft.ensures.placed
-          c.loop-point.invariant.placed;
+      positioned = all-more (λ (d : ManifestDraft). IsPositioned at.rows.now d.issuer) c.loop-point.drafts.items
+          c.push_some.new.items.items c.in_ok-draft.draft c.in_ok-push_some.ensures c.in_ok-draft.ensures.positioned
+          c.loop-point.invariant.positioned;
     }

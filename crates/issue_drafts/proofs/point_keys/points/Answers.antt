@@ -2,7 +2,7 @@ use Rattle.std.proofs.Common.{◌≡◌, ◌<◌, List, false, length, map, refl
 use Rattle.std.proofs.lemmas.List.{length-map, take_all}
 use Rattle.std.proofs.lemmas.Simd.{splat_is_map}
 use Rattle.issue_drafts.specs.declared.draft.ManifestDraft.{ManifestDraft}
-use Rattle.issue_drafts.proofs.Pointed.{has_manifest, marked, points-are, place-inside}
+use Rattle.issue_drafts.proofs.Pointed.{has_manifest, marked, points-are, position-inside}
 use Rattle.issue_drafts.proofs.point_keys.points.Goals as goal
 
 pub loop-manifest-init : goal.loop-manifest-init
@@ -12,10 +12,10 @@ loop-manifest-init c =
 
 pub index_mut-requires : goal.index_mut-requires
 index_mut-requires c =
-    let p = place-inside c.args.rows.now c.args.manifests.now c.loop-manifest.manifest-index
-    c.manifest-item.result c.manifest-item.result c.requires.placed c.loop-manifest-test.true
+    let p = position-inside c.args.rows.now c.args.manifests.now c.loop-manifest.manifest-index
+    c.manifest-item.result c.manifest-item.result c.requires.positioned c.loop-manifest-test.true
     c.manifest-item.is in
-    let inside : c.manifest-item.result.issuer.place < length c.args.rows.now = p.1 in
+    let inside : c.manifest-item.result.issuer.position < length c.args.rows.now = p.1 in
     let is_len : length c.loop-manifest.points.items ≡ vec_len c.loop-manifest.points = search rules in
     let long : length c.loop-manifest.points.items ≡ length c.args.rows.now = ap length
     c.loop-manifest.invariant ∙ length-map c.args.rows.now _ in
@@ -23,8 +23,8 @@ index_mut-requires c =
 
 pub loop-manifest-preserved : goal.loop-manifest-preserved
 loop-manifest-preserved c =
-    let p = place-inside c.args.rows.now c.args.manifests.now c.loop-manifest.manifest-index
-    c.manifest-item.result c.manifest-item.result c.requires.placed c.loop-manifest-test.true
+    let p = position-inside c.args.rows.now c.args.manifests.now c.loop-manifest.manifest-index
+    c.manifest-item.result c.manifest-item.result c.requires.positioned c.loop-manifest-test.true
     c.manifest-item.is in
     marked c.args.rows.now c.args.manifests.now c.loop-manifest.manifest-index c.manifest-item.result
     c.manifest-item.result c.loop-manifest.points.items

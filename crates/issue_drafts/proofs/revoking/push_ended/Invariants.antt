@@ -1,6 +1,6 @@
 use Rattle.std.proofs.Common.{◌≡◌, ◌++◌, filter, map, take}
 use Rattle.issue_drafts.specs.Revoking.{revoked_row}
-use Rattle.issue_drafts.specs.inner.Places.{items_at}
+use Rattle.issue_drafts.specs.inner.Positions.{items_at}
 use Rattle.issue_drafts.specs.inner.Entries.{lasts}
 use Rattle.issue_drafts.proofs.revoking.push_ended.Given as goal
 

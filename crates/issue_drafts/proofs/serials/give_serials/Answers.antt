@@ -9,7 +9,7 @@ loop-draft-preserved c =
     let i = c.loop-draft.draft-index in
     let d = c.draft-item.result in
     let at : IsAt rows drafts i d =
-    record { rising = c.requires.rising; low = c.loop-draft-test.true; is = c.draft-item.is; placed = c.requires.placed } in
+    record { rising = c.requires.rising; low = c.loop-draft-test.true; is = c.draft-item.is; positioned = c.requires.positioned } in
     let was : c.deref_mut.result.now ≡ next_for drafts i rows = c.deref_mut.ensures.value ∙
     c.loop-draft.invariant.next in record {
       given = one-given rows drafts i d c.take_serial.result c.deref_mut.result.now _ _ at was c.loop-draft.invariant.given
@@ -28,7 +28,7 @@ take_serial-requires-clause-room c =
     let i = c.loop-draft.draft-index in
     let d = c.draft-item.result in
     let at : IsAt rows drafts i d =
-    record { rising = c.requires.rising; low = c.loop-draft-test.true; is = c.draft-item.is; placed = c.requires.placed } in
+    record { rising = c.requires.rising; low = c.loop-draft-test.true; is = c.draft-item.is; positioned = c.requires.positioned } in
     room rows drafts i d c.deref_mut.result.now at c.requires.serials
     (omega (arith, c.in_ok-given.ensures.capacity, c.in_ok-given.given.small))
     (c.deref_mut.ensures.value ∙ c.loop-draft.invariant.next)

@@ -1,5 +1,5 @@
 use Rattle.std.proofs.Common.{◌∙◌}
-use Rattle.issue_keys.specs.laws.FirstPlaces.{index-moved}
+use Rattle.issue_keys.specs.laws.FirstPositions.{index-moved}
 use Rattle.issue_keys.proofs.rows.dropped_index.Goals as goal
 
 pub returns : goal.returns

@@ -5,18 +5,18 @@ use Rattle.issue_make.proofs.Lists.{more-taken, all-taken}
 use Rattle.issue_make.proofs.Issuing.{manifest-row-at, manifest-rows-long}
 use Rattle.issue_make.proofs.issued.push_manifest_rows.Goals as goal
 
-pub loop-place-preserved : goal.loop-place-preserved
-loop-place-preserved c =
+pub loop-position-preserved : goal.loop-position-preserved
+loop-position-preserved c =
     let whole = draft_rows c.args.moment (map manifest_of c.args.drafts.now)
     (next_serials c.args.next.now c.args.drafts.now) (hashes_of c.args.objects.now) in
     let long : length whole ≡ length c.args.drafts.now =
     manifest-rows-long c.args.moment c.args.drafts.now c.args.next.now c.args.objects.now c.requires.objects in
-    let inside : c.loop-place.place < length whole = omega arith in
-    more-taken whole c.args.rows.now.items c.loop-place.rows.items c.push.new.self.items c.loop-place.place c.in_ok-row.row
-    inside c.loop-place.invariant c.in_ok-push.ensures.items
-    (manifest-row-at c.args.moment c.args.drafts.now c.args.next.now c.args.objects.now c.loop-place.place
-    c.index-drafts-place.result c.index-objects-place.result c.in_ok-row.row c.requires.objects
-    c.loop-place-test.true c.index-drafts-place.is c.in_ok-row.ensures)
+    let inside : c.loop-position.position < length whole = omega arith in
+    more-taken whole c.args.rows.now.items c.loop-position.rows.items c.push.new.self.items c.loop-position.position c.in_ok-row.row
+    inside c.loop-position.invariant c.in_ok-push.ensures.items
+    (manifest-row-at c.args.moment c.args.drafts.now c.args.next.now c.args.objects.now c.loop-position.position
+    c.index-drafts-position.result c.index-objects-position.result c.in_ok-row.row c.requires.objects
+    c.loop-position-test.true c.index-drafts-position.is c.in_ok-row.ensures)
 
 pub returns : goal.returns
 returns c =
@@ -24,4 +24,4 @@ returns c =
     (next_serials c.args.next.now c.args.drafts.now) (hashes_of c.args.objects.now) in
     let long : length whole ≡ length c.args.drafts.now =
     manifest-rows-long c.args.moment c.args.drafts.now c.args.next.now c.args.objects.now c.requires.objects in
-    all-taken whole c.args.rows.now.items c.loop-place.rows.items c.loop-place.place c.loop-place.invariant (omega arith)
+    all-taken whole c.args.rows.now.items c.loop-position.rows.items c.loop-position.position c.loop-position.invariant (omega arith)

@@ -22,19 +22,19 @@ loop-list-preserved c =
     let inside : length c.loop-list.yielded < length whole = omega arith in
     let count : length c.loop-list.rows.items ≡ length c.loop-list.yielded =
     long-taken whole c.loop-list.rows.items (length c.loop-list.yielded) c.loop-list.invariant (omega arith) in
-    let place = c.len-place.ensures ∙ (c.loop-list.rows.ok.0 ∙ count) in
-    let here : c.index-keys-place.result ≡ get_or c.args.keys.now (length c.loop-list.yielded) c.index-keys-place.result =
-    subst (λ (i : ℕ). c.index-keys-place.result ≡ get_or c.args.keys.now i c.index-keys-place.result)
-    place c.index-keys-place.is in
-    let made : c.row_after-row.result ≡ row_with c.args.moment c.index-keys-place.result
+    let position = c.len-position.ensures ∙ (c.loop-list.rows.ok.0 ∙ count) in
+    let here : c.index-keys-position.result ≡ get_or c.args.keys.now (length c.loop-list.yielded) c.index-keys-position.result =
+    subst (λ (i : ℕ). c.index-keys-position.result ≡ get_or c.args.keys.now i c.index-keys-position.result)
+    position c.index-keys-position.is in
+    let made : c.row_after-row.result ≡ row_with c.args.moment c.index-keys-position.result
     (get_or c.args.points.now (length c.loop-list.yielded) false)
     (get_or c.args.next.now (length c.loop-list.yielded) 0) c.in-Some.list =
-    subst (λ (i : ℕ). c.row_after-row.result ≡ row_with c.args.moment c.index-keys-place.result
-    (get_or c.args.points.now i false) (get_or c.args.next.now i 0) c.in-Some.list) place c.row_after-row.ensures in
+    subst (λ (i : ℕ). c.row_after-row.result ≡ row_with c.args.moment c.index-keys-position.result
+    (get_or c.args.points.now i false) (get_or c.args.next.now i 0) c.in-Some.list) position c.row_after-row.ensures in
     next-taken whole c.loop-list.rows.items c.push.new.self.items c.loop-list.yielded c.in-Some.list c.row_after-row.result
     inside c.loop-list.invariant c.in_ok-push.ensures.items
     (row-at c.args.moment c.args.keys.now c.args.points.now c.args.next.now c.args.revoked.items (length c.loop-list.yielded)
-    c.index-keys-place.result c.row_after-row.result c.in-Some.list c.requires.points c.requires.next c.requires.each
+    c.index-keys-position.result c.row_after-row.result c.in-Some.list c.requires.points c.requires.next c.requires.each
     (omega arith) here turn.1 made)
 
 pub returns : goal.returns

@@ -8,7 +8,7 @@ use Rattle.key_roll.specs.declared.issued.IssuedRow.{IssuedRow}
 use Rattle.cert_obj.specs.Values.{is_uri}
 use Rattle.key_ids.specs.Uris.{Bases, anchor_uri, cert_uri}
 use Rattle.issue_values.specs.Publishers.{roa_uri}
-use Rattle.issue_drafts.specs.Certificates.{IssueInput}
+use Rattle.issue_drafts.specs.IssueInput.{IssueInput}
 use Rattle.issue_make.specs.inner.Naming.{CanName}
 use Rattle.issue_make.specs.CanMake.{input_with, CanMake}
 use Rattle.issue_make.specs.Made.{IsMade}

@@ -2,8 +2,8 @@ use Rattle.std.proofs.Common.{◌≤◌, List, [], map, drop, length, refl, sym,
 use Rattle.std.specs.List.Sorted.{IsNonDecreasing}
 use Rattle.std.proofs.lemmas.Result.{err_from_is_err_and}
 use Rattle.key_roll.specs.declared.rows.KeyRow.{KeyRow}
-use Rattle.issue_drafts.specs.Finding.{keys_at}
-use Rattle.issue_drafts.specs.Certificates.{input_of}
+use Rattle.issue_drafts.specs.WorkKeys.{keys_at}
+use Rattle.issue_drafts.specs.IssueInput.{input_of}
 use Rattle.issue_make.specs.inner.Finished.{IsFinished}
 use Rattle.issue_make.proofs.Conditions.{desks-of}
 use Rattle.issue_make.proofs.Found.{can-plan-at, ready-at}

@@ -2,7 +2,7 @@ use Rattle.std.proofs.Common.{List, [], ◌++◌, length, map, refl, sym, ap, su
 use Rattle.std.specs.List.{All}
 use Rattle.std.proofs.lemmas.List.{length-map}
 use Rattle.std.proofs.lemmas.Result.{err_from_is_err_and}
-use Rattle.issue_drafts.specs.Certificates.{input_of}
+use Rattle.issue_drafts.specs.IssueInput.{input_of}
 use Rattle.issue_drafts.specs.declared.draft.Draft as code
 use Rattle.issue_drafts.specs.declared.draft.ManifestDraft as manifests
 use Rattle.issue_drafts.specs.Views.{draft_of, manifest_of}

@@ -1,4 +1,4 @@
-use Rattle.issue_drafts.specs.Certificates.{input_of}
+use Rattle.issue_drafts.specs.IssueInput.{input_of}
 use Rattle.issue_make.proofs.Coming.{is-of}
 use Rattle.issue_make.proofs.outcomes.publish_plan.Goals as goal
 

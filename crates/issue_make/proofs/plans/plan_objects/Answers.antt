@@ -4,8 +4,8 @@ use Rattle.pub_set.specs.Objects.{Rise}
 use Rattle.issue_drafts.specs.declared.draft.Draft.{Draft}
 use Rattle.std.specs.List.Sorted.{IsPermutation}
 use Rattle.std.proofs.lemmas.List.Sorted.{IsPermutation-append, IsPermutation-sym, IsPermutation-refl}
-use Rattle.issue_drafts.specs.Finding.{keys_at}
-use Rattle.issue_drafts.specs.Certificates.{input_of}
+use Rattle.issue_drafts.specs.WorkKeys.{keys_at}
+use Rattle.issue_drafts.specs.IssueInput.{input_of}
 use Rattle.issue_drafts.specs.declared.draft.ManifestDraft.{ManifestDraft}
 use Rattle.issue_drafts.specs.Drafts as words
 use Rattle.issue_drafts.specs.Views.{draft_of, manifest_of}

@@ -5,7 +5,7 @@ use Rattle.pub_set.specs.declared.steps.Change.{Change}
 use Rattle.pub_set.specs.Changes.{uri_of}
 use Rattle.pub_set.specs.Objects.{uri_cmp}
 use Rattle.key_roll.specs.declared.issued.IssuedRow.{IssuedRow}
-use Rattle.issue_drafts.specs.Certificates.{input_of}
+use Rattle.issue_drafts.specs.IssueInput.{input_of}
 use Rattle.issue_drafts.specs.laws.UriOrder.{by-uri, compares-uris}
 use Rattle.issue_make.proofs.Stages.{many, stage, stage-rising, stage-listed, stage-wanted, stage-count, stage-issued}
 use Rattle.issue_make.proofs.publishing.publish.Goals as goal

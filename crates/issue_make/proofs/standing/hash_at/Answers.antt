@@ -5,7 +5,7 @@ use Rattle.issue_make.proofs.standing.hash_at.Goals as goal
 pub returns-in-Ok : goal.returns-in-Ok
 returns-in-Ok c =
     search-found (λ (row : IssuedRow). row.uri) (λ (row : IssuedRow). row.hash) c.args.issued.now c.args.uri.now
-    c.in-Ok.place c.index-issued-place.result c.requires c.in-Ok.ensures.bound c.in-Ok.ensures.found
+    c.in-Ok.position c.index-issued-position.result c.requires c.in-Ok.ensures.bound c.in-Ok.ensures.found
 
 pub returns-in-Err : goal.returns-in-Err
 returns-in-Err c =

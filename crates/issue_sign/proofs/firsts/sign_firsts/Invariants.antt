@@ -1,6 +1,6 @@
 use Rattle.std.proofs.Common.{◌≡◌, length}
 use Rattle.signer_ring.specs.Ring.{Keeps}
-use Rattle.issue_drafts.specs.Certificates.{input_of}
+use Rattle.issue_drafts.specs.IssueInput.{input_of}
 use Rattle.issue_sign.specs.SignInput.{SignInputValue, IsSignInput, AreDrafts}
 use Rattle.issue_sign.specs.inner.Steps.{IsHalfOfKind, Pairs, AreHalves}
 use Rattle.issue_sign.proofs.firsts.sign_firsts.Given as goal

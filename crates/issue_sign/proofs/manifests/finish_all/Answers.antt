@@ -2,13 +2,13 @@ use Rattle.std.proofs.Common.{◌≡◌, ℕ, List, [], ◌∷◌, ◌++◌, len
 use Rattle.std.proofs.lemmas.Result.{err_from_is_err_and}
 use Rattle.std.proofs.lemmas.List.{length_push, nil_from_length}
 use Rattle.std.specs.Vec.Iter.{into_iter_items}
-use Rattle.issue_drafts.specs.Certificates.{input_of}
+use Rattle.issue_drafts.specs.IssueInput.{input_of}
 use Rattle.issue_drafts.specs.declared.draft.ManifestDraft.{ManifestDraft}
 use Rattle.issue_sign.specs.declared.object.Object.{Object}
 use Rattle.issue_sign.specs.declared.object.SignedContent.{SignedContent}
 use Rattle.issue_sign.specs.inner.Steps.{IsContent}
 use Rattle.signer_ring.specs.laws.KeepsLaws.{kept-all, kept-on}
-use Rattle.issue_sign.proofs.Places.{at-turn, turn-at}
+use Rattle.issue_sign.proofs.Positions.{at-turn, turn-at}
 use Rattle.issue_sign.proofs.Contents.{AreEnding, issuer-at, serial-at, manifests-start, manifests-short, manifests-end, manifest-more, manifest-stop}
 use Rattle.issue_sign.proofs.manifests.finish_all.Goals as goal
 
@@ -43,12 +43,12 @@ returns-in_err-object-clause-stopped g c =
     let contents = c.args.contents.items in
     let objects = c.loop-content.objects.items in
     let left = into_iter_items c.next.new.self in
-    let draft = c.index-manifests-place.result in
+    let draft = c.index-manifests-position.result in
     let content = c.in-Some.content in
-    let same : c.len-place.result ≡ length objects = omega arith in
-    let t = turn-at drafts contents (length objects) (into_iter_items c.loop-content.content-iterator) left draft content c.len-place.result same
+    let same : c.len-position.result ≡ length objects = omega arith in
+    let t = turn-at drafts contents (length objects) (into_iter_items c.loop-content.content-iterator) left draft content c.len-position.result same
     c.requires.each c.loop-content.invariant.left
-    c.in-Some.ensures.steps.0 c.index-manifests-place.is in
+    c.in-Some.ensures.steps.0 c.index-manifests-position.is in
     rw (p.1, p.2)
     (λ b lists old basis are was. manifest-stop s b drafts contents objects left draft content old c.loop-content.ring c.finish_manifest.new.ring c.in_err-object.field-0.0 t
     (subst (λ (l : List SignedContent). AreEnding s b drafts contents objects l old c.loop-content.ring) c.in-Some.ensures.steps.0
@@ -64,12 +64,12 @@ returns-in_err-push-clause-stopped g c =
     let contents = c.args.contents.items in
     let objects = c.loop-content.objects.items in
     let left = into_iter_items c.next.new.self in
-    let draft = c.index-manifests-place.result in
+    let draft = c.index-manifests-position.result in
     let content = c.in-Some.content in
-    let same : c.len-place.result ≡ length objects = omega arith in
-    let t = turn-at drafts contents (length objects) (into_iter_items c.loop-content.content-iterator) left draft content c.len-place.result same
+    let same : c.len-position.result ≡ length objects = omega arith in
+    let t = turn-at drafts contents (length objects) (into_iter_items c.loop-content.content-iterator) left draft content c.len-position.result same
     c.requires.each c.loop-content.invariant.left
-    c.in-Some.ensures.steps.0 c.index-manifests-place.is in
+    c.in-Some.ensures.steps.0 c.index-manifests-position.is in
     rw (p.1, p.2)
     (λ b lists old basis are was.
     let is = at-turn (λ (d : ManifestDraft) (x : SignedContent). IsContent s d.issuer.row.now (b.files d.issuer.row.now) x) drafts contents
@@ -88,15 +88,15 @@ loop-content-preserved g c =
     let contents = c.args.contents.items in
     let objects = c.loop-content.objects.items in
     let left = into_iter_items c.next.new.self in
-    let draft = c.index-manifests-place.result in
+    let draft = c.index-manifests-position.result in
     let content = c.in-Some.content in
     let o = c.in_ok-object.object in
     let items = c.in_ok-push.ensures.items in
     let steps = c.in-Some.ensures.steps.0 in
-    let same : c.len-place.result ≡ length objects = omega arith in
-    let t = turn-at drafts contents (length objects) (into_iter_items c.loop-content.content-iterator) left draft content c.len-place.result same
+    let same : c.len-position.result ≡ length objects = omega arith in
+    let t = turn-at drafts contents (length objects) (into_iter_items c.loop-content.content-iterator) left draft content c.len-position.result same
     c.requires.each c.loop-content.invariant.left
-    steps c.index-manifests-place.is in
+    steps c.index-manifests-position.is in
     let longer = length_push objects o in
     record {
       left = ap (λ (l : List Object). drop (length l) contents) items ∙ (ap (λ (n : ℕ). drop n contents) longer ∙ t.rest);

@@ -3,7 +3,7 @@ use Rattle.std.specs.Vec.Iter.{into_iter_items, into_iter_len}
 use Rattle.signer_api.specs.State.{SignerState}
 use Rattle.signer_ring.specs.Ring.{Keeps}
 use Rattle.payloads.specs.declared.values.ListedFile.{ListedFile}
-use Rattle.issue_drafts.specs.Certificates.{input_of}
+use Rattle.issue_drafts.specs.IssueInput.{input_of}
 use Rattle.issue_sign.specs.SignInput.{SignInputValue, IsSignInput, AreManifests}
 use Rattle.issue_sign.specs.inner.Steps.{AreContents}
 use Rattle.issue_sign.proofs.Contents.{AreEnding}

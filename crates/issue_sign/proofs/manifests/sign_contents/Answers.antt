@@ -5,11 +5,11 @@ use Rattle.std.specs.Vec.Iter.{into_iter_items}
 use Rattle.payloads.specs.declared.values.ListedFile.{ListedFile}
 use Rattle.payloads.specs.ManifestFormats.{file_view}
 use Rattle.issue_values.specs.Bodies.{AreListed}
-use Rattle.issue_drafts.specs.Certificates.{input_of}
+use Rattle.issue_drafts.specs.IssueInput.{input_of}
 use Rattle.issue_sign.specs.declared.object.SignedContent.{SignedContent}
 use Rattle.issue_sign.specs.inner.Steps.{AreContents}
 use Rattle.signer_ring.specs.laws.KeepsLaws.{kept-all, kept-on}
-use Rattle.issue_sign.proofs.Places.{all-at, turn-at}
+use Rattle.issue_sign.proofs.Positions.{all-at, turn-at}
 use Rattle.issue_sign.proofs.Contents.{files-at, next-content, contents-none, contents-more, contents-short, contents-stop}
 use Rattle.issue_sign.proofs.manifests.sign_contents.Goals as goal
 
@@ -36,11 +36,11 @@ loop-list-init g c =
 
 pub sign_first-requires-clause-files : goal.sign_first-requires-clause-files
 sign_first-requires-clause-files g c =
-    let same : c.len-place.result ≡ length c.loop-list.contents.items = omega arith in
+    let same : c.len-position.result ≡ length c.loop-list.contents.items = omega arith in
     let t = turn-at c.args.manifests.now c.args.files.items (length c.loop-list.contents.items) (into_iter_items c.loop-list.list-iterator)
     (into_iter_items c.next.new.self)
-    c.index-manifests-place.result c.in-Some.list c.len-place.result same c.requires.each c.loop-list.invariant.left c.in-Some.ensures.steps.0
-    c.index-manifests-place.is in
+    c.index-manifests-position.result c.in-Some.list c.len-position.result same c.requires.each c.loop-list.invariant.left c.in-Some.ensures.steps.0
+    c.index-manifests-position.is in
     all-at (λ (l : List ListedFile). AreListed (map file_view l)) c.args.files.items
     (length c.loop-list.contents.items) c.in-Some.list c.requires.files t.some t.half-is
 
@@ -51,12 +51,12 @@ returns-in_err-content-clause-stopped g c =
     let drafts = c.args.manifests.now in
     let contents = c.loop-list.contents.items in
     let left = into_iter_items c.next.new.self in
-    let draft = c.index-manifests-place.result in
+    let draft = c.index-manifests-position.result in
     let list = c.in-Some.list in
-    let same : c.len-place.result ≡ length contents = omega arith in
-    let t = turn-at drafts c.args.files.items (length contents) (into_iter_items c.loop-list.list-iterator) left draft list c.len-place.result same
+    let same : c.len-position.result ≡ length contents = omega arith in
+    let t = turn-at drafts c.args.files.items (length contents) (into_iter_items c.loop-list.list-iterator) left draft list c.len-position.result same
     c.requires.each c.loop-list.invariant.left
-    c.in-Some.ensures.steps.0 c.index-manifests-place.is in
+    c.in-Some.ensures.steps.0 c.index-manifests-position.is in
     rw (p.1, p.2)
     (λ b next are. contents-stop s b drafts contents draft (map file_view list) c.args.ring.now c.loop-list.ring c.sign_first.new.ring c.in_err-content.field-0.0
     (next-content drafts contents draft t.few t.is) (files-at b drafts next c.args.files.items left (length contents) draft list are t)
@@ -69,13 +69,13 @@ returns-in_err-push-clause-stopped g c =
     let drafts = c.args.manifests.now in
     let contents = c.loop-list.contents.items in
     let left = into_iter_items c.next.new.self in
-    let draft = c.index-manifests-place.result in
+    let draft = c.index-manifests-position.result in
     let list = c.in-Some.list in
     let content = c.in_ok-content.content in
-    let same : c.len-place.result ≡ length contents = omega arith in
-    let t = turn-at drafts c.args.files.items (length contents) (into_iter_items c.loop-list.list-iterator) left draft list c.len-place.result same
+    let same : c.len-position.result ≡ length contents = omega arith in
+    let t = turn-at drafts c.args.files.items (length contents) (into_iter_items c.loop-list.list-iterator) left draft list c.len-position.result same
     c.requires.each c.loop-list.invariant.left
-    c.in-Some.ensures.steps.0 c.index-manifests-place.is in
+    c.in-Some.ensures.steps.0 c.index-manifests-position.is in
     let few = t.few in
     let le : length (contents ++ content ∷ []) ≤ length drafts = omega (arith, length_push contents content) in
     rw (p.1, p.2)
@@ -90,15 +90,15 @@ loop-list-preserved g c =
     let drafts = c.args.manifests.now in
     let contents = c.loop-list.contents.items in
     let left = into_iter_items c.next.new.self in
-    let draft = c.index-manifests-place.result in
+    let draft = c.index-manifests-position.result in
     let list = c.in-Some.list in
     let content = c.in_ok-content.content in
     let items = c.in_ok-push.ensures.items in
     let steps = c.in-Some.ensures.steps.0 in
-    let same : c.len-place.result ≡ length contents = omega arith in
-    let t = turn-at drafts c.args.files.items (length contents) (into_iter_items c.loop-list.list-iterator) left draft list c.len-place.result same
+    let same : c.len-position.result ≡ length contents = omega arith in
+    let t = turn-at drafts c.args.files.items (length contents) (into_iter_items c.loop-list.list-iterator) left draft list c.len-position.result same
     c.requires.each c.loop-list.invariant.left
-    steps c.index-manifests-place.is in
+    steps c.index-manifests-position.is in
     let longer = length_push contents content in
     record {
       left = ap (λ (l : List SignedContent). drop (length l) c.args.files.items) items ∙ (ap (λ (n : ℕ). drop n c.args.files.items) longer ∙ t.rest);

@@ -1,7 +1,7 @@
 use Rattle.std.proofs.Common.{◌≡◌, ◌+◌, ℕ, List, length, drop}
 use Rattle.std.specs.Vec.Iter.{into_iter_items, into_iter_len}
 use Rattle.signer_ring.specs.Ring.{Keeps}
-use Rattle.issue_drafts.specs.Certificates.{input_of}
+use Rattle.issue_drafts.specs.IssueInput.{input_of}
 use Rattle.issue_sign.specs.SignInput.{SignInputValue, AreManifests}
 use Rattle.issue_sign.specs.inner.Steps.{AreContents}
 use Rattle.issue_sign.proofs.manifests.sign_contents.Given as goal

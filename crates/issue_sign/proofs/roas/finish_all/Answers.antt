@@ -2,14 +2,14 @@ use Rattle.std.proofs.Common.{◌≡◌, ℕ, ◌<◌, List, [], ◌∷◌, ◌+
 use Rattle.std.proofs.lemmas.Result.{err_from_is_err_and}
 use Rattle.std.proofs.lemmas.List.{length_push, nil_from_length}
 use Rattle.std.specs.Vec.Iter.{into_iter_items}
-use Rattle.issue_drafts.specs.Certificates.{input_of}
+use Rattle.issue_drafts.specs.IssueInput.{input_of}
 use Rattle.issue_drafts.specs.Views.{draft_of, kind_of}
 use Rattle.issue_drafts.specs.declared.draft.Draft as code
 use Rattle.issue_sign.specs.declared.firsts.Half.{Half}
 use Rattle.issue_sign.specs.declared.object.Object.{Object}
 use Rattle.issue_sign.specs.inner.Steps.{IsHalfOfKind, IsHalf}
 use Rattle.signer_ring.specs.laws.KeepsLaws.{kept-all, kept-on}
-use Rattle.issue_sign.proofs.Places.{is-draft, at-turn, turn-at}
+use Rattle.issue_sign.proofs.Positions.{is-draft, at-turn, turn-at}
 use Rattle.issue_sign.proofs.Seconds.{AreFinishing, drafts-start, drafts-short, drafts-end, turn-more, turn-stop}
 use Rattle.issue_sign.proofs.roas.finish_all.Goals as goal
 
@@ -37,14 +37,14 @@ loop-half-init g c =
 
 pub finish_draft-requires-clause-kind : goal.finish_draft-requires-clause-kind
 finish_draft-requires-clause-kind g c =
-    let same : c.len-place.result ≡ length c.loop-half.objects.items = omega arith in
+    let same : c.len-position.result ≡ length c.loop-half.objects.items = omega arith in
     let t = turn-at c.args.drafts.now c.args.halves.items (length c.loop-half.objects.items) (into_iter_items c.loop-half.half-iterator)
     (into_iter_items c.next.new.self)
-    c.index-drafts-place.result c.in-Some.half c.len-place.result same c.requires.each c.loop-half.invariant.left c.in-Some.ensures.steps.0
-    c.index-drafts-place.is in
+    c.index-drafts-position.result c.in-Some.half c.len-position.result same c.requires.each c.loop-half.invariant.left c.in-Some.ensures.steps.0
+    c.index-drafts-position.is in
     at-turn (λ (d : code.Draft) (h : Half). IsHalfOfKind d.kind h) c.args.drafts.now c.args.halves.items (length c.loop-half.objects.items)
     (into_iter_items c.next.new.self)
-    c.index-drafts-place.result c.in-Some.half t c.requires.kinds
+    c.index-drafts-position.result c.in-Some.half t c.requires.kinds
 
 pub returns-in_err-object-clause-stopped : goal.returns-in_err-object-clause-stopped
 returns-in_err-object-clause-stopped g c =
@@ -54,14 +54,14 @@ returns-in_err-object-clause-stopped g c =
     let halves = c.args.halves.items in
     let objects = c.loop-half.objects.items in
     let left = into_iter_items c.next.new.self in
-    let draft = c.index-drafts-place.result in
+    let draft = c.index-drafts-position.result in
     let half = c.in-Some.half in
-    let same : c.len-place.result ≡ length objects = omega arith in
-    let t = turn-at drafts halves (length objects) (into_iter_items c.loop-half.half-iterator) left draft half c.len-place.result same c.requires.each
+    let same : c.len-position.result ≡ length objects = omega arith in
+    let t = turn-at drafts halves (length objects) (into_iter_items c.loop-half.half-iterator) left draft half c.len-position.result same c.requires.each
     c.loop-half.invariant.left
-    c.in-Some.ensures.steps.0 c.index-drafts-place.is in
+    c.in-Some.ensures.steps.0 c.index-drafts-position.is in
     let few = t.few in
-    let lt : c.len-place.result < length drafts = omega arith in
+    let lt : c.len-position.result < length drafts = omega arith in
     rw (p.1, p.2)
     (λ b old basis are was.
     let is = at-turn (λ (d : code.Draft) (h : Half). IsHalf s b (draft_of d) (kind_of d.kind) h) drafts halves (length objects) left draft half t was.pairs in
@@ -69,7 +69,7 @@ returns-in_err-object-clause-stopped g c =
     (subst (λ (l : List Half). AreFinishing s b drafts halves objects l old c.loop-half.ring) c.in-Some.ensures.steps.0
     (c.loop-half.invariant.going b old basis are was))
     is
-    (c.in_err-object.ensures.stopped b basis (is-draft b drafts c.args.serials.now c.len-place.result draft are lt c.index-drafts-place.is) is))
+    (c.in_err-object.ensures.stopped b basis (is-draft b drafts c.args.serials.now c.len-position.result draft are lt c.index-drafts-position.is) is))
 
 pub returns-in_err-push-clause-stopped : goal.returns-in_err-push-clause-stopped
 returns-in_err-push-clause-stopped g c =
@@ -79,14 +79,14 @@ returns-in_err-push-clause-stopped g c =
     let halves = c.args.halves.items in
     let objects = c.loop-half.objects.items in
     let left = into_iter_items c.next.new.self in
-    let draft = c.index-drafts-place.result in
+    let draft = c.index-drafts-position.result in
     let half = c.in-Some.half in
-    let same : c.len-place.result ≡ length objects = omega arith in
-    let t = turn-at drafts halves (length objects) (into_iter_items c.loop-half.half-iterator) left draft half c.len-place.result same c.requires.each
+    let same : c.len-position.result ≡ length objects = omega arith in
+    let t = turn-at drafts halves (length objects) (into_iter_items c.loop-half.half-iterator) left draft half c.len-position.result same c.requires.each
     c.loop-half.invariant.left
-    c.in-Some.ensures.steps.0 c.index-drafts-place.is in
+    c.in-Some.ensures.steps.0 c.index-drafts-position.is in
     let few = t.few in
-    let lt : c.len-place.result < length drafts = omega arith in
+    let lt : c.len-position.result < length drafts = omega arith in
     rw (p.1, p.2)
     (λ b old basis are was.
     let is = at-turn (λ (d : code.Draft) (h : Half). IsHalf s b (draft_of d) (kind_of d.kind) h) drafts halves (length objects) left draft half t was.pairs in
@@ -94,7 +94,7 @@ returns-in_err-push-clause-stopped g c =
     (turn-more c.vouched_stays.ensures s b drafts halves objects left draft half c.in_ok-object.object old c.loop-half.ring c.finish_draft.new.ring t
     (subst (λ (l : List Half). AreFinishing s b drafts halves objects l old c.loop-half.ring) c.in-Some.ensures.steps.0
     (c.loop-half.invariant.going b old basis are was))
-    (c.in_ok-object.ensures.finished b basis (is-draft b drafts c.args.serials.now c.len-place.result draft are lt c.index-drafts-place.is) is)))
+    (c.in_ok-object.ensures.finished b basis (is-draft b drafts c.args.serials.now c.len-position.result draft are lt c.index-drafts-position.is) is)))
 
 pub loop-half-preserved : goal.loop-half-preserved
 loop-half-preserved g c =
@@ -103,17 +103,17 @@ loop-half-preserved g c =
     let halves = c.args.halves.items in
     let objects = c.loop-half.objects.items in
     let left = into_iter_items c.next.new.self in
-    let draft = c.index-drafts-place.result in
+    let draft = c.index-drafts-position.result in
     let half = c.in-Some.half in
     let o = c.in_ok-object.object in
     let items = c.in_ok-push.ensures.items in
     let steps = c.in-Some.ensures.steps.0 in
-    let same : c.len-place.result ≡ length objects = omega arith in
-    let t = turn-at drafts halves (length objects) (into_iter_items c.loop-half.half-iterator) left draft half c.len-place.result same c.requires.each
+    let same : c.len-position.result ≡ length objects = omega arith in
+    let t = turn-at drafts halves (length objects) (into_iter_items c.loop-half.half-iterator) left draft half c.len-position.result same c.requires.each
     c.loop-half.invariant.left
-    steps c.index-drafts-place.is in
+    steps c.index-drafts-position.is in
     let few = t.few in
-    let lt : c.len-place.result < length drafts = omega arith in
+    let lt : c.len-position.result < length drafts = omega arith in
     let longer = length_push objects o in
     record {
       left = ap (λ (l : List Object). drop (length l) halves) items ∙ (ap (λ (n : ℕ). drop n halves) longer ∙ t.rest);
@@ -128,7 +128,7 @@ loop-half-preserved g c =
           subst (λ (l : List Object). AreFinishing s b drafts halves l left old c.finish_draft.new.ring) (sym items)
           (turn-more c.vouched_stays.ensures s b drafts halves objects left draft half o old c.loop-half.ring c.finish_draft.new.ring t
           (subst (λ (l : List Half). AreFinishing s b drafts halves objects l old c.loop-half.ring) steps (c.loop-half.invariant.going b old basis are was))
-          (c.in_ok-object.ensures.finished b basis (is-draft b drafts c.args.serials.now c.len-place.result draft are lt c.index-drafts-place.is) is));
+          (c.in_ok-object.ensures.finished b basis (is-draft b drafts c.args.serials.now c.len-position.result draft are lt c.index-drafts-position.is) is));
     }
 
 pub returns-clause-made : goal.returns-clause-made

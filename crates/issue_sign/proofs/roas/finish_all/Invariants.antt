@@ -2,7 +2,7 @@ use Rattle.std.proofs.Common.{◌≡◌, List, length, drop}
 use Rattle.std.specs.Vec.Iter.{into_iter_items, into_iter_len}
 use Rattle.signer_api.specs.State.{SignerState}
 use Rattle.signer_ring.specs.Ring.{Keeps}
-use Rattle.issue_drafts.specs.Certificates.{input_of}
+use Rattle.issue_drafts.specs.IssueInput.{input_of}
 use Rattle.issue_sign.specs.SignInput.{SignInputValue, IsSignInput, AreDrafts}
 use Rattle.issue_sign.specs.inner.Steps.{AreHalves}
 use Rattle.issue_sign.proofs.Seconds.{AreFinishing}

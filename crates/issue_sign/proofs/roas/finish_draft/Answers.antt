@@ -4,7 +4,7 @@ use Rattle.signer_api.specs.declared.values.Signature.{Signature}
 use Rattle.cert_obj.specs.Values.{cert_value}
 use Rattle.cert_obj.specs.Formats as certificates
 use Rattle.cms_obj.specs.declared.values.ObjectKind.TheVariants as ObjectKinds
-use Rattle.issue_drafts.specs.Certificates.{input_of}
+use Rattle.issue_drafts.specs.IssueInput.{input_of}
 use Rattle.issue_drafts.specs.Views.{draft_of}
 use Rattle.issue_sign.proofs.Halts.{called-of}
 use Rattle.issue_sign.proofs.SignedEnds.{object-with}

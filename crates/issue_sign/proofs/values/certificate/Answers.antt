@@ -6,8 +6,8 @@ use Rattle.issue_sign.proofs.values.certificate.Goals as goal
 pub returns-then-eq-clause-value : goal.returns-then-eq-clause-value
 returns-then-eq-clause-value c =
     let all = c.args.sign_input.now.publishers.now in
-    let i = c.args.issuer.now.place in
-    let j = c.args.subject.now.place in
+    let i = c.args.issuer.now.position in
+    let j = c.args.subject.now.position in
     anchor-made c.args.sign_input.now c.args.issuer.now c.args.subject.now c.args.held.now c.args.serial
     (get_or all i c.index-sign_input-issuer.result) (get_or all j c.index-sign_input-subject.result)
     c.anchor_certificate.result c.requires.issuer.inside c.requires.subject
@@ -17,8 +17,8 @@ returns-then-eq-clause-value c =
 pub returns-else-eq-clause-value : goal.returns-else-eq-clause-value
 returns-else-eq-clause-value c =
     let all = c.args.sign_input.now.publishers.now in
-    let i = c.args.issuer.now.place in
-    let j = c.args.subject.now.place in
+    let i = c.args.issuer.now.position in
+    let j = c.args.subject.now.position in
     authority-made c.args.sign_input.now c.args.issuer.now c.args.subject.now c.args.held.now c.args.serial
     (get_or all i c.index-sign_input-issuer.result) (get_or all j c.index-sign_input-subject.result)
     c.authority_certificate.result c.requires.issuer.inside c.requires.subject

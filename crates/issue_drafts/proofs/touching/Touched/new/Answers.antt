@@ -1,7 +1,7 @@
 use Rattle.std.proofs.Common.{◌≡◌, ℕ, rules, List, ◌++◌, map, ap, ◌∙◌}
 use Rattle.std.specs.Ordering.{is_lt}
 use Rattle.pub_set.specs.Objects.{uri_cmp}
-use Rattle.issue_drafts.specs.Certificates.{input_of}
+use Rattle.issue_drafts.specs.IssueInput.{input_of}
 use Rattle.issue_drafts.specs.Drafts.{Draft}
 use Rattle.issue_drafts.specs.Views.{draft_of, manifest_of}
 use Rattle.issue_drafts.specs.laws.UriOrder.{by-uri, compares-uris}

@@ -2,7 +2,7 @@ use Rattle.std.proofs.Common.{ℕ, List, sym, subst}
 use Rattle.names.specs.Name.{IsName}
 use Rattle.authority_book.specs.declared.rows.NameRow.{NameRow}
 use Rattle.issue_values.specs.Publishers.{roa_uri}
-use Rattle.issue_drafts.specs.Certificates.{name_at}
+use Rattle.issue_drafts.specs.Publishers.{name_at}
 use Rattle.test_press.proofs.Distinct.{none-twice}
 use Rattle.test_press.proofs.works.answers.answer.Goals as goal
 

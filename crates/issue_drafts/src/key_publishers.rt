@@ -1,0 +1,227 @@
+//! Where the keys of an edition publish (RFC 6481 section 2).
+
+ghost use Rattle.std.specs.Prelude.{◌≡◌, ◌<◌, length, map, All, Some, None, IfOk, option_map, option_copied, string_bytes};
+ghost use Rattle.issue_keys.specs.Indexes.{IsIndex};
+ghost use Rattle.issue_values.specs.Publishers.{publishing};
+ghost use Rattle.issue_drafts.specs.WorkKeys.{key_of, key_named, keys_at, Finds};
+ghost use Rattle.issue_drafts.specs.IssueInput.{input_of};
+ghost use Rattle.issue_drafts.specs.Publishers.{name_at, made_uri, subject_key, issuer_for, certified_key, standing_for, certificate_of, publishing_of};
+
+use crate::issue_parts::IssueParts;
+use crate::key_finder::KeyFinder;
+use authority_book::NameRow;
+use issue_keys::{KeyIndex, index_of};
+use issue_values::Publisher;
+use key_ids::{KeyId, Site};
+use key_roll::{CertWork, IssuedRow, KeyName, KeyRow, What};
+use names::Name;
+use pub_set::Uri;
+use std::alloc::{AllocError, Global};
+
+/// The name of a desk's authority. Desks are numbered from 0.
+pub fn name_of(names: &[NameRow], desk: u32) -> Name
+    requires { desk < length names.now }
+    ensures { result ≡ name_at names.now desk }
+{
+    names[desk as usize].name
+}
+
+/// The URI of a certificate that the work makes.
+pub fn made_uri(
+    alloc: Global,
+    site: &Site,
+    names: &[NameRow],
+    issuer: &KeyRow,
+    subject: &KeyRow,
+) -> Result<String, AllocError>
+    requires { issuer.now.desk < length names.now }
+    ensures { IfOk result (λ uri. string_bytes uri ≡ made_uri site.now names.now issuer.now subject.now) }
+{
+    let (by, id) = (KeyId::of(&issuer.key.bytes), KeyId::of(&subject.key.bytes));
+    if by.bytes == id.bytes {
+        site.anchor_uri(alloc)
+    } else {
+        site.cert_uri(alloc, name_of(names, issuer.desk).as_str(), &id)
+    }
+}
+
+/// The key that a name stands for.
+fn key_named<'a>(rows: &'a [KeyRow], finder: &KeyFinder, name: &KeyName) -> Option<&'a KeyRow>
+    requires { Finds (keys_at rows.now finder.now.first_fresh) finder.now }
+    ensures { option_copied result ≡ key_named (keys_at rows.now finder.now.first_fresh) name.now }
+{
+    match finder.position(name) {
+        Some(position) => Some(&rows[position]),
+        None => None,
+    }
+}
+
+/// The identifier of the key that a name stands for.
+fn id_named(rows: &[KeyRow], finder: &KeyFinder, name: &KeyName) -> Option<KeyId>
+    requires { Finds (keys_at rows.now finder.now.first_fresh) finder.now }
+    ensures { result ≡ option_map key_of (key_named (keys_at rows.now finder.now.first_fresh) name.now) }
+{
+    match key_named(rows, finder, name) {
+        Some(row) => Some(KeyId::of(&row.key.bytes)),
+        None => None,
+    }
+}
+
+/// The identifiers of the subjects of certificates that the work makes.
+fn subject_keys(
+    alloc: Global,
+    certs: &[CertWork],
+    rows: &[KeyRow],
+    finder: &KeyFinder,
+) -> Result<Vec<Option<KeyId>>, AllocError>
+    requires { Finds (keys_at rows.now finder.now.first_fresh) finder.now }
+    ensures { IfOk result (λ keys. keys.items
+        ≡ map (subject_key (keys_at rows.now finder.now.first_fresh)) certs.now) }
+{
+    let mut keys = Vec::with_capacity(alloc, certs.len())?;
+    for cert in certs {
+        keys.push(id_named(rows, finder, &cert.subject))?;
+    }
+    Ok(keys)
+}
+
+/// The positions of these certificates, by their subjects.
+fn made_certificates(
+    alloc: Global,
+    certs: &[CertWork],
+    rows: &[KeyRow],
+    finder: &KeyFinder,
+) -> Result<KeyIndex, AllocError>
+    requires { Finds (keys_at rows.now finder.now.first_fresh) finder.now }
+    ensures { IfOk result
+        (IsIndex (map (subject_key (keys_at rows.now finder.now.first_fresh)) certs.now)) }
+{
+    let keys = subject_keys(alloc, certs, rows, finder)?;
+    let index = index_of(alloc, &keys)?;
+    Ok(index)
+}
+
+/// The key that an object certifies.
+fn certified_key(what: &What) -> Option<KeyId>
+    ensures { result ≡ certified_key what.now }
+{
+    match what {
+        What::Authority { key, .. } => Some(*key),
+        What::Route { .. } => None,
+        What::Point => None,
+    }
+}
+
+/// The keys that objects certify.
+fn certified_keys(alloc: Global, issued: &[IssuedRow]) -> Result<Vec<Option<KeyId>>, AllocError>
+    ensures { IfOk result (λ keys. keys.items ≡ map (λ row. certified_key row.what) issued.now) }
+{
+    let mut keys = Vec::with_capacity(alloc, issued.len())?;
+    for row in issued {
+        keys.push(certified_key(&row.what))?;
+    }
+    Ok(keys)
+}
+
+/// The positions of the certificates that stand, by their subjects.
+fn standing_certificates(alloc: Global, issued: &[IssuedRow]) -> Result<KeyIndex, AllocError>
+    ensures { IfOk result (IsIndex (map (λ row. certified_key row.what) issued.now)) }
+{
+    let keys = certified_keys(alloc, issued)?;
+    let index = index_of(alloc, &keys)?;
+    Ok(index)
+}
+
+/// The certificate that stands for a key.
+fn standing_for<'a>(issued: &'a [IssuedRow], index: &KeyIndex, row: &KeyRow) -> Option<&'a str>
+    requires { IsIndex (map (λ r. certified_key r.what) issued.now) index.now }
+    ensures { option_copied result ≡ standing_for issued.now row.now }
+{
+    let id = KeyId::of(&row.key.bytes);
+    match index.first(&id) {
+        Some(position) => Some(issued[position].uri.as_str()),
+        None => None,
+    }
+}
+
+/// The issuer of the certificate that the work makes for a key.
+fn issuer_for<'a>(
+    certs: &[CertWork],
+    rows: &'a [KeyRow],
+    finder: &KeyFinder,
+    index: &KeyIndex,
+    row: &KeyRow,
+) -> Option<&'a KeyRow>
+    requires finds { Finds (keys_at rows.now finder.now.first_fresh) finder.now }
+    requires index { IsIndex
+        (map (subject_key (keys_at rows.now finder.now.first_fresh)) certs.now) index.now }
+    ensures { option_copied result ≡ issuer_for (keys_at rows.now finder.now.first_fresh) certs.now row.now }
+{
+    let id = KeyId::of(&row.key.bytes);
+    match index.first(&id) {
+        Some(position) => key_named(rows, finder, &certs[position].issuer),
+        None => None,
+    }
+}
+
+/// Where the certificates of keys stand.
+#[derive(Debug, Drop)]
+struct Certificates {
+    made: KeyIndex,
+    standing: KeyIndex,
+}
+
+/// The URI of a key's certificate: the trust anchor's, the one that the work makes, or the one that stands.
+fn certificate_uri(
+    alloc: Global,
+    at: &IssueParts<'_>,
+    rows: &[KeyRow],
+    finder: &KeyFinder,
+    certificates: &Certificates,
+    row: &KeyRow,
+) -> Result<String, AllocError>
+    requires names { All (λ row. row.desk < length at.now.names.now) rows.now }
+    requires finds { Finds (keys_at rows.now finder.now.first_fresh) finder.now }
+    requires made { IsIndex (map (subject_key (keys_at rows.now finder.now.first_fresh))
+        at.now.work.now.certs) certificates.now.made }
+    requires standing { IsIndex (map (λ r. certified_key r.what) at.now.issued.now) certificates.now.standing }
+    ensures { IfOk result (λ uri. string_bytes uri
+        ≡ certificate_of (input_of at.now) (keys_at rows.now finder.now.first_fresh) row.now) }
+{
+    if row.desk == 0 {
+        return at.site.anchor_uri(alloc);
+    }
+    let certs = at.work.certs.as_slice();
+    if let Some(issuer) = issuer_for(certs, rows, finder, &certificates.made, row) {
+        return made_uri(alloc, at.site, at.names, issuer, row);
+    }
+    match standing_for(at.issued, &certificates.standing, row) {
+        Some(uri) => String::from_str(alloc, uri),
+        None => at.site.anchor_uri(alloc),
+    }
+}
+
+/// The keys of an edition, and where they publish.
+pub fn publishers(
+    alloc: Global,
+    at: &IssueParts<'_>,
+    rows: &[KeyRow],
+    finder: &KeyFinder,
+) -> Result<Vec<Publisher>, AllocError>
+    requires names { All (λ row. row.desk < length at.now.names.now) rows.now }
+    requires finds { Finds (keys_at rows.now finder.now.first_fresh) finder.now }
+    ensures { IfOk result (λ publishers. map publishing publishers.items
+        ≡ map (publishing_of (input_of at.now) (keys_at rows.now finder.now.first_fresh)) rows.now) }
+{
+    let certificates = Certificates {
+        made: made_certificates(alloc, at.work.certs.as_slice(), rows, finder)?,
+        standing: standing_certificates(alloc, at.issued)?,
+    };
+    let mut publishers = Vec::with_capacity(alloc, rows.len())?;
+    for row in rows {
+        let uri = certificate_uri(alloc, at, rows, finder, &certificates, row)?;
+        let name = name_of(at.names, row.desk);
+        publishers.push(Publisher::new(row.key, name, Uri::new(uri)))?;
+    }
+    Ok(publishers)
+}
