@@ -21,7 +21,7 @@ pub use fault::XmlFault;
 pub use files::{Changes, DeltaFile, DeltaRef, FileRef, SnapshotFile};
 pub use laws::texts_are_read_back;
 pub use locator::locator_text;
-pub use sizes::snapshot_len;
+pub use sizes::{delta_len, snapshot_len};
 pub use writing::{delta_text, notification_text, snapshot_text};
 
 const SNAPSHOT_HEAD: &str =

@@ -1,58 +1,23 @@
-//! How long the texts are, in bytes, so that each is written into memory reserved once. None where a length passes
-//! 64 bits. The texts are those of RFC 8182 section 3.5.
+//! How long the texts are, in bytes, so that each is written into memory reserved once. The texts are those of
+//! RFC 8182 section 3.5.
 
-ghost use Rattle.std.specs.Prelude.{◌≡◌, ◌<◌, ◌≤◌, ◌*◌, ◌^◌, length, codes};
+ghost use Rattle.std.specs.Prelude.{◌≡◌, ◌<◌, ◌≤◌, ◌*◌, ◌^◌, length};
 ghost use Rattle.std.specs.List.{flat_map};
 ghost use Rattle.base64.specs.GeneralPurpose.{encode_of};
 ghost use Rattle.base64.specs.Engines.{standard};
-ghost use Rattle.rrdp_text.specs.Texts.{opening, object_text, snapshot_text};
+ghost use Rattle.rrdp_text.specs.Texts.{opening_behind, hash_text, object_text, change_text, snapshot_text, delta_text};
 
-use crate::SNAPSHOT_HEAD;
 use crate::files::{DeltaRef, FileRef};
-use base64::encoded_len;
+use crate::{DELTA_HEAD, SNAPSHOT_HEAD};
 use itoa::Buffer;
-use pub_set::{Change, Content, Object, ObjectSet, Uri};
+use pub_set::{Change, Object, ObjectSet, Uri};
 use uuid::Uuid;
 
-/// The first line and the last, but for the name in both and the serial.
-const FRAME: usize = 117;
+/// The first line of a notification and the last, but for the serial.
+const NOTIFICATION_FRAME: usize = 141;
 
 /// The attribute of a hash.
 const HASH: usize = 72;
-
-/// The first line and the last.
-fn frame(name: &str, serial: u64) -> usize {
-    let serial = Buffer::new().format(serial).len();
-    name.len().saturating_mul(2).saturating_add(FRAME + serial)
-}
-
-/// A URI and what stands round it in its line.
-fn with_uri(uri: &Uri, round: usize) -> Option<usize> {
-    uri.as_str().len().checked_add(round)
-}
-
-/// A publish line but for a hash.
-fn publish(uri: &Uri, bytes: &Content) -> Option<usize> {
-    let content = encoded_len(bytes.as_slice().len(), true)?;
-    with_uri(uri, 29)?.checked_add(content)
-}
-
-fn change_size(change: &Change) -> Option<usize> {
-    match change {
-        Change::Put {
-            uri,
-            bytes,
-            replaces: None,
-        } => publish(uri, bytes),
-        Change::Put { uri, bytes, .. } => publish(uri, bytes)?.checked_add(HASH),
-        Change::Withdraw { uri, .. } => with_uri(uri, 21 + HASH),
-    }
-}
-
-fn delta_line_size(delta: &DeltaRef) -> Option<usize> {
-    let serial = Buffer::new().format(delta.serial).len();
-    with_uri(&delta.file.uri, 28 + HASH)?.checked_add(serial)
-}
 
 /// How many bytes the Base64 of these has, with its padding (RFC 4648 section 4).
 #[tactic(auto, using(crate::proofs::Lengths::encoded_long))]
@@ -84,40 +49,93 @@ fn objects_len(objects: &[Object]) -> u128
     len
 }
 
-/// How many bytes the first line of a snapshot has.
-#[tactic(auto, using(crate::proofs::Lengths::opening_long))]
-fn opening_len(session: &Uuid, serial: u64) -> u128
-    ensures long { result ≡ length (opening (codes "snapshot") session.now serial) }
+/// How many bytes the attribute of a hash has.
+#[tactic(auto, using(crate::proofs::Lengths::hash_long))]
+fn hash_len(hash: &[u8; 32]) -> u128
+    ensures long { result ≡ length (hash_text hash.now) }
     ensures bound { result < 2 ^ 66 }
+{
+    hash.len() as u128 * 2 + 8
+}
+
+/// How many bytes the line of a change has in a delta.
+#[tactic(auto, using(crate::proofs::Lengths::placed_long, crate::proofs::Lengths::replaced_long, crate::proofs::Lengths::withdrawn_long))]
+fn change_len(change: &Change) -> u128
+    ensures long { result ≡ length (change_text change.now) }
+    ensures bound { result < 2 ^ 68 }
+{
+    let uri_len = change.uri().as_str().len() as u128;
+    match change {
+        Change::Put {
+            bytes,
+            replaces: None,
+            ..
+        } => uri_len + base64_len(bytes.as_slice()) + 29,
+        Change::Put {
+            bytes,
+            replaces: Some(old),
+            ..
+        } => uri_len + hash_len(old) + base64_len(bytes.as_slice()) + 29,
+        Change::Withdraw { hash, .. } => uri_len + hash_len(hash) + 21,
+    }
+}
+
+/// How many bytes the lines of these changes have in a delta.
+fn changes_len(changes: &[Change]) -> u128
+    ensures long { result ≡ length (flat_map change_text changes.now) }
+    ensures bound { result ≤ 2 ^ 68 * length changes.now }
+{
+    let mut len = 0;
+    for change in changes {
+        len += change_len(change);
+    }
+    len
+}
+
+/// How many bytes the first line has, which begins with these words up to the session.
+#[tactic(auto, using(crate::proofs::Lengths::opening_long))]
+fn opening_len(head: &str, session: &Uuid, serial: u64) -> u128
+    ensures long { result ≡ length (opening_behind head.now session.now serial) }
+    ensures bound { result < 2 ^ 67 }
 {
     let mut buffer = Uuid::encode_buffer();
     let session_len = session.hyphenated().encode_lower(&mut buffer).len();
     let serial_len = Buffer::new().format(serial).len();
-    SNAPSHOT_HEAD.len() as u128 + session_len as u128 + serial_len as u128 + 13
+    head.len() as u128 + session_len as u128 + serial_len as u128 + 13
 }
 
 /// How many bytes the snapshot of a set has (RFC 8182 section 3.5.2), without writing it.
-#[tactic(auto, using(crate::proofs::Lengths::snapshot_long))]
 pub fn snapshot_len(session: &Uuid, serial: u64, set: &ObjectSet) -> u128
     ensures { result ≡ length (snapshot_text session.now serial set.now) }
 {
-    opening_len(session, serial) + objects_len(set.as_slice()) + 12
+    opening_len(SNAPSHOT_HEAD, session, serial) + objects_len(set.as_slice()) + 12
 }
 
-pub(crate) fn delta_size(serial: u64, changes: &[Change]) -> Option<usize> {
-    let mut size = frame("delta", serial);
-    for change in changes {
-        size = size.checked_add(change_size(change)?)?;
-    }
-    Some(size)
+/// How many bytes the delta with these changes has (RFC 8182 section 3.5.3), without writing it.
+pub fn delta_len(session: &Uuid, serial: u64, changes: &[Change]) -> u128
+    ensures { result ≡ length (delta_text session.now serial changes.now) }
+{
+    opening_len(DELTA_HEAD, session, serial) + changes_len(changes) + 9
 }
 
+/// A URI and what stands round it in its line.
+fn with_uri(uri: &Uri, round: usize) -> Option<usize> {
+    uri.as_str().len().checked_add(round)
+}
+
+fn delta_line_size(delta: &DeltaRef) -> Option<usize> {
+    let serial = Buffer::new().format(delta.serial).len();
+    with_uri(&delta.file.uri, 28 + HASH)?.checked_add(serial)
+}
+
+/// How many bytes a notification has. None where they pass 64 bits.
 pub(crate) fn notification_size(
     serial: u64,
     snapshot: &FileRef,
     deltas: &[DeltaRef],
 ) -> Option<usize> {
-    let mut size = frame("notification", serial);
+    let serial = Buffer::new().format(serial).len();
+    let mut size = NOTIFICATION_FRAME + serial;
     size = size.checked_add(with_uri(&snapshot.uri, 21 + HASH)?)?;
     for delta in deltas {
         size = size.checked_add(delta_line_size(delta)?)?;

@@ -6,7 +6,7 @@ ghost use Rattle.rrdp_text.specs.Texts.{notification_text, snapshot_text, delta_
 
 use crate::files::{DeltaRef, FileRef};
 use crate::lines::{push_change, push_delta_line, push_object, push_opening, push_snapshot_line};
-use crate::sizes::{delta_size, notification_size, snapshot_len};
+use crate::sizes::{delta_len, notification_size, snapshot_len};
 use crate::{DELTA_HEAD, NOTIFICATION_HEAD, SNAPSHOT_HEAD};
 use pub_set::{Change, ObjectSet};
 use std::alloc::{AllocError, Global};
@@ -68,7 +68,8 @@ pub fn delta_text(
     ensures { IfOk result (λ text. string_bytes text
         ≡ delta_text session.now serial changes.now) }
 {
-    let size = delta_size(serial, changes).ok_or(AllocError)?;
+    let len = delta_len(session, serial, changes);
+    let size = usize::try_from(len).map_err(|_| AllocError)?;
     let mut out = String::with_capacity(alloc, size)?;
     push_opening(&mut out, DELTA_HEAD, session, serial)?;
     for change in changes {
