@@ -51,7 +51,8 @@ pub enum RunFault {
     Words,
     /// Opening was refused for another cause than a disk or memory.
     Refused { fault: OpenFault },
-    /// A disk failed at opening, or a source or a sink.
+    /// A disk failed at opening, the source or the sink in the session, or the outlet behind it, where the last
+    /// edition was to be exported once more.
     Device,
     /// A session took so many bytes, as many as it may.
     Spent { bytes: u64 },

@@ -19,7 +19,7 @@ use Rattle.outlet_api.specs.declared.exports.OutFiles.{OutFiles}
 use Rattle.outlet_api.specs.Exports.{put_of, removal_of, calls_of}
 use Rattle.outlet_api.specs.laws.FrontLaws.{holds_at_front}
 use Rattle.rrdp_state.specs.Editions as rrdp
-use Rattle.rrdp_state.specs.Editions.{FollowEachOther}
+use Rattle.rrdp_state.specs.Editions.{FollowEachOther, objects_of}
 use Rattle.rrdp_state.specs.Exported.{Repository, IsBeside, AreBeside, export_calls, file_puts, puts_of, removals_of}
 use Rattle.rrdp_state.specs.Coherent.{Shows, Coherent}
 use Rattle.rrdp_state.specs.Kept.{Kept}
@@ -286,16 +286,16 @@ on_ok (Err e) P Q step p = tt
 -- The calls that are made are those of the export.
 pub calls_then : (view now : PressValue) → view ≡ now → (editions : List Edition) → HasFilesOf editions now
     → view.rrdp.serial ≡ view.at.serial → (now.at.serial ≡ 0 → ⊥) → (files : OutFiles) (all : Bool) → all ≡ puts_all view.last_export now.at.serial
-    → ((repository : Repository) (es : List rrdp.Edition) → rrdp_state.StandsFor repository es view.rrdp → (es ≡ [] → ⊥)
+    → ((repository : Repository) (es : List rrdp.Edition) → rrdp_state.StandsFor repository es view.rrdp → view.at.set ≡ objects_of es → (es ≡ [] → ⊥)
     → calls_of files ≡ export_calls repository es all (anchor_puts view.site view.at))
     → calls_of files ≡ export_of now editions
 calls_then view now same editions has counted some files all test law =
     let back = sym same in
     let es = rrdp_editions editions in
-    let stands : rrdp_state.StandsFor (repository_of view) es view.rrdp = subst (HasFilesOf editions) back has in
+    let held : HasFilesOf editions view = subst (HasFilesOf editions) back has in
     let serial : now.at.serial ≡ length es =
-    ap (λ (press : PressValue). press.at.serial) back ∙ (sym counted ∙ kept_serial (repository_of view) es view.rrdp stands) in
-    law (repository_of view) es stands (λ empty. some (serial ∙ ap length empty))
+    ap (λ (press : PressValue). press.at.serial) back ∙ (sym counted ∙ kept_serial (repository_of view) es view.rrdp held.kept) in
+    law (repository_of view) es held.kept held.set (λ empty. some (serial ∙ ap length empty))
     ∙ (ap (λ (b : Bool). export_calls (repository_of view) es b (anchor_puts view.site view.at))
     (test ∙ ap (λ (press : PressValue). puts_all view.last_export press.at.serial) back)
     ∙ ap (λ (press : PressValue). export_of press editions) same)

@@ -1,5 +1,5 @@
 -- The editions of a press as RRDP has them, and the files of them (RFC 8182 section 3.3).
-use Rattle.std.specs.Prelude.{ℕ, List, [], ◌∷◌, ◌++◌, filter, Option, None, Some}
+use Rattle.std.specs.Prelude.{◌≡◌, ℕ, List, [], ◌∷◌, ◌++◌, filter, Option, None, Some}
 use Rattle.std.specs.Ordering.{is_lt}
 use Rattle.key_ids.specs.Uris.{Bases}
 use Rattle.pub_set.specs.declared.objects.Object.{Object}
@@ -7,9 +7,9 @@ use Rattle.pub_set.specs.declared.steps.Change.{Change}
 use Rattle.pub_set.specs.Objects.{uri_cmp}
 use Rattle.pub_set.specs.Changes.{uri_of, left_by}
 use Rattle.editions.specs.Edition.{Edition}
-use Rattle.rrdp_state.specs.declared.next.NextFiles.{NextFiles}
+use Rattle.rrdp_state.specs.declared.next.NextDelta.{NextDelta}
 use Rattle.rrdp_state.specs.Editions as rrdp
-use Rattle.rrdp_state.specs.Editions.{objects_of, texts_of}
+use Rattle.rrdp_state.specs.Editions.{objects_of, next_delta}
 use Rattle.rrdp_state.specs.Exported.{Repository}
 use Rattle.rrdp_state.specs.State as rrdp_state
 use Rattle.press_core.specs.Next.{NextValue}
@@ -59,13 +59,13 @@ repository_at session site = record { session = session; base = site.rrdp }
 abbrev pub repository_of : PressValue → Repository
 repository_of press = repository_at press.rrdp.session press.site
 
--- The files that the press keeps are those of these editions: the snapshot and the delta of the
--- newest one, and the deltas that are named with it.
-abbrev pub HasFilesOf : List Edition → PressValue → Type 0
-HasFilesOf editions press =
-    rrdp_state.StandsFor (repository_of press) (rrdp_editions editions) press.rrdp
+-- The press has the files of these editions: it keeps the deltas that are named with the newest one,
+-- and the set of the newest one stands, of which the snapshot is the text.
+pub record HasFilesOf (editions : List Edition) (press : PressValue) : Type 0 where
+  pub kept : rrdp_state.StandsFor (repository_of press) (rrdp_editions editions) press.rrdp
+  pub set : press.at.set ≡ objects_of (rrdp_editions editions)
 
--- The files of an edition that is prepared: the snapshot is the text of what will stand, and the
--- delta that of what changes.
-abbrev pub files_of : List ℕ → NextValue → NextFiles
-files_of session edition = texts_of session edition.next.serial edition.next.set edition.changes
+-- The delta of an edition that is prepared: the text of what changes, if it can be named beside the
+-- snapshot of what will stand.
+abbrev pub delta_of : List ℕ → NextValue → NextDelta
+delta_of session edition = next_delta session edition.next.serial edition.next.set edition.changes

@@ -9,7 +9,7 @@ use Rattle.editions.specs.declared.ended.EndedKey.{EndedKey}
 use Rattle.editions.specs.PublishedState.{PublishedStateValue, IsConsistentState}
 use Rattle.editions.specs.Ended.{ended_keys}
 use Rattle.editions.specs.Clear.{IsClear}
-use Rattle.rrdp_state.specs.declared.next.NextFiles.{NextFiles}
+use Rattle.rrdp_state.specs.declared.next.NextDelta.{NextDelta}
 use Rattle.press_core.specs.Staged.{AreStaged}
 
 -- What will stand, what changes, and the keys that end.
@@ -18,10 +18,10 @@ pub record NextValue : Type 0 where
   pub changes : List Change
   pub ended : List EndedKey
 
--- The edition that was prepared, and its RRDP files.
+-- The edition that was prepared, and its delta (RFC 8182 section 3.5.3).
 pub record PreparedValue : Type 0 where
   pub edition : NextValue
-  pub files : NextFiles
+  pub delta : NextDelta
 
 -- It follows what stands: with the next serial, a later moment, and a cut that takes in no less; the
 -- set is what the changes make of the old one, the keys that end are those that don't go on, at the

@@ -9,7 +9,7 @@ ghost use Rattle.issue_plan.specs.Keys as spec;
 ghost use Rattle.outlet_api.specs.declared.exports.OutFile.{OutFile};
 ghost use Rattle.outlet_api.specs.Calls.{put};
 ghost use Rattle.outlet_api.specs.Exports.{put_of, calls_of};
-ghost use Rattle.rrdp_state.specs.Editions.{Edition};
+ghost use Rattle.rrdp_state.specs.Editions.{Edition, objects_of};
 ghost use Rattle.rrdp_state.specs.Exported.{Repository, export_calls};
 ghost use Rattle.rrdp_state.specs.State.{StandsFor};
 ghost use Rattle.press_core.specs.Exports.{anchor_locator, anchor_puts, certificate_path, ended_by, file_put};
@@ -49,7 +49,8 @@ pub fn ended_by<T, E>(ended: &Result<T, E>, serial: u64) -> LastExport
     }
 }
 
-/// The files of RRDP, with those of the trust anchor just before the notification.
+/// The files of RRDP, with those of the trust anchor just before the notification. The snapshot is written of the
+/// set that stands.
 pub fn export_files(
     alloc: Global,
     rrdp: &Rrdp,
@@ -58,10 +59,10 @@ pub fn export_files(
     all: bool,
 ) -> Result<OutFiles, AllocError>
     ensures { IfOk result (λ files. (repository : Repository) (editions : List Edition)
-        → StandsFor repository editions rrdp.now → editions ≢ []
+        → StandsFor repository editions rrdp.now → at.now.set ≡ objects_of editions → editions ≢ []
         → calls_of files ≡ export_calls repository editions all (anchor_puts site.now at.now)) }
 {
-    let mut files = rrdp.files(alloc, all)?;
+    let mut files = rrdp.files(alloc, &at.parts().set, all)?;
     let beside = anchor_files(alloc, site, at)?;
     put_before_last(&mut files.puts, beside)?;
     Ok(files)

@@ -6,16 +6,16 @@ ghost use Rattle.editions.specs.Sheets.{sheet_of};
 use crate::next_edition::NextEdition;
 use notice_board::Sheet;
 use pub_set::Change;
-use rrdp_state::NextFiles;
+use rrdp_state::NextDelta;
 use std::alloc::{AllocError, Global};
 use std::marker::Model;
 
-/// An edition that was prepared, before it becomes the last one, with its RRDP files (RFC 8182
-/// section 3.3.2).
+/// An edition that was prepared, before it becomes the last one, with its delta (RFC 8182 section
+/// 3.5.3).
 #[derive(Drop)]
 pub struct Prepared {
     edition: NextEdition,
-    files: NextFiles,
+    delta: NextDelta,
 }
 
 impl Model for Prepared {
@@ -23,15 +23,15 @@ impl Model for Prepared {
 
     ghost Value = { PreparedValue };
 
-    ghost view = { λ prepared. record { edition = prepared.edition; files = prepared.files } };
+    ghost view = { λ prepared. record { edition = prepared.edition; delta = prepared.delta } };
 }
 
 impl Prepared {
-    /// An edition with its files.
-    pub(crate) fn new(edition: NextEdition, files: NextFiles) -> Prepared
-        ensures { result ≡ record { edition = edition; files = files } }
+    /// An edition with its delta.
+    pub(crate) fn new(edition: NextEdition, delta: NextDelta) -> Prepared
+        ensures { result ≡ record { edition = edition; delta = delta } }
     {
-        Prepared { edition, files }
+        Prepared { edition, delta }
     }
 
     /// What the edition puts and withdraws, by rising URI.
@@ -48,11 +48,11 @@ impl Prepared {
         self.edition.published_state().sheet(alloc)
     }
 
-    /// The edition and its files.
-    pub(crate) fn into_parts(self) -> (NextEdition, NextFiles)
+    /// The edition and its delta.
+    pub(crate) fn into_parts(self) -> (NextEdition, NextDelta)
         ensures edition { result.0 ≡ self.edition }
-        ensures files { result.1 ≡ self.files }
+        ensures delta { result.1 ≡ self.delta }
     {
-        (self.edition, self.files)
+        (self.edition, self.delta)
     }
 }

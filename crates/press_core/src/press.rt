@@ -16,7 +16,7 @@ ghost use Rattle.press_core.specs.PrepareInput.{start_of};
 ghost use Rattle.press_core.specs.Follows.{edition_of, IsNextEdition};
 ghost use Rattle.press_core.specs.Faults.{IsPressFault, IsShort};
 ghost use Rattle.press_core.specs.Stands.{IsLeftBy};
-ghost use Rattle.press_core.specs.Files.{HasFilesOf, files_of, repository_of};
+ghost use Rattle.press_core.specs.Files.{HasFilesOf, delta_of, repository_of};
 ghost use Rattle.press_core.specs.Exports.{export_of, ended_by, IsCoherent, ShowsFiles, ShowsEdition, ShowsLast};
 ghost use Rattle.press_core.specs.inner.Exporting.{IsCounted};
 ghost use Rattle.press_core.specs.declared.last_export.LastExport.TheVariants.{NoExport};
@@ -38,7 +38,7 @@ use key_ids::Site;
 use notice_board::Sheet;
 use outlet_api::{ExportFault, Outlet, export};
 use pub_set::same_contents_same_set;
-use rrdp_state::{NextFiles, Rrdp, exports_keep_files_coherent};
+use rrdp_state::{NextDelta, Rrdp, exports_keep_files_coherent};
 use signer_api::Signer;
 use signer_ring::Ring;
 use std::alloc::{AllocError, Global};
@@ -181,9 +181,9 @@ impl<S: Signer> Press<S> {
         ensures prepared { IfOk result (λ prepared.
             IsNextEdition (start_of self.old now gathered.items) self.new.ring prepared.edition) }
 
-        // Its snapshot is the text of what will stand, its delta that of what changes.
-        ensures files { IfOk result (λ prepared.
-            prepared.files ≡ files_of self.old.rrdp.session prepared.edition) }
+        // Its delta is the text of what changes, if it can be named beside the snapshot of what will stand.
+        ensures delta { IfOk result (λ prepared.
+            prepared.delta ≡ delta_of self.old.rrdp.session prepared.edition) }
 
         // Each refusal has its cause. On every answer the rest of the press stays as it is, and the signers keep their
         // keys, and vouch for what they vouched for.
@@ -193,13 +193,13 @@ impl<S: Signer> Press<S> {
         ensures keys { HoldKeys self.old.ring self.new.ring }
     {
         let edition = self.prepare_edition(alloc, now, gathered)?;
-        match self.files_of(alloc, &edition) {
-            Ok(files) => Ok(Prepared::new(edition, files)),
+        match self.delta_of(alloc, &edition) {
+            Ok(delta) => Ok(Prepared::new(edition, delta)),
             Err(_) => Err(PressFault::Memory),
         }
     }
 
-    // The next edition, without its files.
+    // The next edition, without its delta.
     fn prepare_edition(
         &mut self,
         alloc: Global,
@@ -225,10 +225,10 @@ impl<S: Signer> Press<S> {
         prepare_over(alloc, &self.site, &self.at, &mut self.ring, now, gathered)
     }
 
-    // The files of the next edition.
-    fn files_of(&self, alloc: Global, edition: &NextEdition) -> Result<NextFiles, AllocError>
+    // The delta of the next edition.
+    fn delta_of(&self, alloc: Global, edition: &NextEdition) -> Result<NextDelta, AllocError>
         requires { edition.now.next.serial ≡ self.now.rrdp.serial + 1 }
-        ensures { IfOk result (λ files. files ≡ files_of self.now.rrdp.session edition.now) }
+        ensures { IfOk result (λ delta. delta ≡ delta_of self.now.rrdp.session edition.now) }
     {
         let parts = edition.published_state().parts();
         self.rrdp
@@ -238,7 +238,7 @@ impl<S: Signer> Press<S> {
     /// The edition that was prepared becomes the last one. It takes no memory.
     pub fn commit(&mut self, prepared: Prepared) -> PublishedNumbers
         requires next { IsNext self.old.site self.old.at prepared.edition }
-        requires files { prepared.files ≡ files_of self.old.rrdp.session prepared.edition }
+        requires delta { prepared.delta ≡ delta_of self.old.rrdp.session prepared.edition }
         ensures at { self.new.at ≡ prepared.edition.next }
         ensures ended { self.new.ended ≡ prepared.edition.ended }
         ensures site { self.new.site ≡ self.old.site }
@@ -254,10 +254,10 @@ impl<S: Signer> Press<S> {
     {
         rrdp_editions_are_what_editions_leave();
         same_contents_same_set();
-        let (edition, files) = prepared.into_parts();
+        let (edition, delta) = prepared.into_parts();
         let (next, ended) = edition.into_next();
         let published = next.published();
-        self.rrdp.advance(files);
+        self.rrdp.advance(delta, &next.parts().set);
         self.at = next;
         self.ended = ended;
         published

@@ -1,50 +1,101 @@
 -- What is kept is enough: it is that of all editions, and so are the files that are made of it.
 use Rattle.std.proofs.Common.{◌≡◌, ℕ, suc, ◌+◌, ◌-◌, true, false, cond, refl, sym, ◌∙◌, ap, arith, length, drop, map, List, [], ◌∷◌, ◌++◌, Bool, subst}
-use Rattle.std.specs.Prelude.{nat_lt, nat_le, ◌&&◌}
+use Rattle.std.specs.Prelude.{nat_lt, nat_le, nat_eq, ◌&&◌, not, None, Some}
+use Rattle.std.proofs.lemmas.Bool.{false≢true}
 use Rattle.std.proofs.lemmas.Bool.Decides.{nat_tests}
 use Rattle.std.proofs.lemmas.List.{take-map}
+use Rattle.pub_set.specs.declared.objects.Object.{Object}
 use Rattle.outlet_api.specs.Calls.{put, removal}
-use Rattle.rrdp_state.specs.declared.next.NextFiles.{NextFiles}
+use Rattle.rrdp_text.specs.Texts.{snapshot_text, delta_text}
+use Rattle.rrdp_state.specs.declared.next.NextDelta.{NextDelta}
 use Rattle.rrdp_state.specs.declared.delta.Delta.{Delta}
-use Rattle.rrdp_state.specs.Editions.{Edition, FollowEachOther, edition_texts, deltas_of}
+use Rattle.rrdp_state.specs.Editions.{Edition, FollowEachOther, objects_of, edition_texts, edition_delta, delta_in, deltas_of}
 use Rattle.rrdp_state.specs.Named.{FileName, Entry, fitting, most_named, snapshot_entry, delta_entry, named_deltas, named_files}
 use Rattle.rrdp_state.specs.Named.FileName.{SnapshotOf, DeltaOf}
 use Rattle.rrdp_state.specs.Paths.{path_of, notification_path}
 use Rattle.rrdp_state.specs.Exported.{Repository, notification_of, entry_put, left_by, puts_of, removals_of}
-use Rattle.rrdp_state.specs.Kept.{Kept, advanced, kept_puts, kept_removals, down_from, run_files, left_runs}
+use Rattle.rrdp_state.specs.Kept.{Kept, named_with, advanced, puts_with, kept_puts, kept_removals, down_from, run_files, left_runs}
 use Rattle.rrdp_state.specs.State.{kept_of, StandsFor}
-use Rattle.rrdp_state.proofs.Runs.{named_next, later_delta}
+use Rattle.rrdp_state.proofs.Runs.{named_next, later_serial, later_delta}
+
+-- A delta that can't be named is none, where none is named before the first.
+pub named_with_is : (room serial : ℕ) (text : List ℕ) (first : Bool) (ds : List Delta) → (first ≡ true → ds ≡ [])
+    → named_with serial room (cond (not first && nat_le (length text) room) (Some text) None) ds
+    ≡ fitting most_named room (delta_in serial (cond first None (Some text)) ++ ds)
+named_with_is room serial text true ds none = sym (ap (λ (l : List Delta). fitting most_named room l) (none refl))
+named_with_is room serial text false ds none =
+    let d : Delta = record { serial = serial; text = text } in
+    elim (nat_le (length text) room) as (λ b. nat_le (length text) room ≡ b → named_with serial room (cond b (Some text) None) ds ≡ fitting most_named room (d ∷ ds)) [
+      | true ↦ λ test. refl
+      | false ↦ λ test. sym (ap (λ b. cond (nat_lt 0 most_named && b) (d ∷ fitting (most_named - 1) (room - length text) ds) []) test)
+    ] refl
+
+-- Before the first edition no delta is named.
+pub first_none : (session : List ℕ) (older : List Edition) → nat_eq (length older + 1) 1 ≡ true → named_deltas session older ≡ []
+first_none session [] first = refl
+first_none session (last ∷ older) first = absurd (false≢true (sym (later_serial (length older)) ∙ first))
+
+delta_named : (session : List ℕ) (older : List Edition) (edition : Edition) → FollowEachOther (edition ∷ older)
+    → named_with (length older + 1) (length (edition_texts session older edition).snapshot) (edition_delta session older edition).delta (named_deltas session older)
+    ≡ named_deltas session (edition ∷ older)
+delta_named session older edition follow =
+    named_with_is (length (edition_texts session older edition).snapshot) (length older + 1) (delta_text session (length older + 1) edition.changes)
+    (nat_eq (length older + 1) 1) (named_deltas session older) (first_none session older)
+    ∙ named_next session older edition follow
 
 advanced_is : (repository : Repository) (older : List Edition) (edition : Edition) → FollowEachOther (edition ∷ older)
-    → advanced (kept_of repository older) (edition_texts repository.session older edition) ≡ kept_of repository (edition ∷ older)
+    → advanced (kept_of repository older) (length older + 1) (length (edition_texts repository.session older edition).snapshot)
+    (edition_delta repository.session older edition).delta
+    ≡ kept_of repository (edition ∷ older)
 advanced_is repository [] edition follow =
-    ap (λ (ds : List Delta). record (kept_of repository (edition ∷ [])) { deltas = ds }) (named_next repository.session [] edition follow)
+    ap (λ (ds : List Delta). record (kept_of repository (edition ∷ [])) { deltas = ds }) (delta_named repository.session [] edition follow)
 advanced_is repository (last ∷ older) edition follow =
-    ap (λ (ds : List Delta). record (kept_of repository (edition ∷ (last ∷ older))) { deltas = ds }) (named_next repository.session (last ∷ older) edition follow)
+    ap (λ (ds : List Delta). record (kept_of repository (edition ∷ (last ∷ older))) { deltas = ds }) (delta_named repository.session (last ∷ older) edition follow)
 
-pub stands_next : (repository : Repository) (older : List Edition) (edition : Edition) (old new : Kept) (next : NextFiles)
-    → StandsFor repository older old → FollowEachOther (edition ∷ older) → next ≡ edition_texts repository.session older edition
-    → new ≡ advanced old next → StandsFor repository (edition ∷ older) new
-stands_next repository older edition old new next stands follow texts is = record {
-  follow = follow;
-  state = is ∙ (ap (λ (k : Kept). advanced k next) stands.state ∙ (ap (λ (n : NextFiles). advanced (kept_of repository older) n) texts ∙ advanced_is repository older edition follow));
-}
+kept_session : (repository : Repository) (editions : List Edition) → (kept_of repository editions).session ≡ repository.session
+kept_session repository [] = refl
+kept_session repository (edition ∷ older) = refl
+
+pub stands_next : (repository : Repository) (older : List Edition) (edition : Edition) (old new : Kept) (next : NextDelta) (objects : List Object)
+    → StandsFor repository older old → FollowEachOther (edition ∷ older) → objects ≡ edition.objects → next ≡ edition_delta repository.session older edition
+    → new ≡ advanced old next.serial (length (snapshot_text old.session next.serial objects)) next.delta → StandsFor repository (edition ∷ older) new
+stands_next repository older edition old new next objects stands follow same delta is =
+    let at : next.serial ≡ length older + 1 = ap (λ (n : NextDelta). n.serial) delta in
+    let text : next.delta ≡ (edition_delta repository.session older edition).delta = ap (λ (n : NextDelta). n.delta) delta in
+    let session : old.session ≡ repository.session = ap (λ (k : Kept). k.session) stands.state ∙ kept_session repository older in
+    let long : length (snapshot_text old.session next.serial objects) ≡ length (edition_texts repository.session older edition).snapshot =
+    λ i. length (snapshot_text (session i) (at i) (same i)) in
+    record {
+      follow = follow;
+      state = is ∙ ((λ i. advanced (stands.state i) (at i) (long i) (text i)) ∙ advanced_is repository older edition follow);
+    }
 
 -- ---- puts
 
+some_edition : (n : ℕ) → nat_lt 0 (n + 1) ≡ true
+some_edition n = grind (arith, nat_tests)
+
+kept_put : (repository : Repository) (older : List Edition) (edition : Edition) (all : Bool)
+    → kept_puts (kept_of repository (edition ∷ older)) edition.objects all
+    ≡ puts_with repository (length older + 1) (edition_texts repository.session older edition).snapshot (named_deltas repository.session (edition ∷ older)) all
+kept_put repository older edition all =
+    ap (λ b. cond b (puts_with repository (length older + 1) (edition_texts repository.session older edition).snapshot
+    (named_deltas repository.session (edition ∷ older)) all) []) (some_edition (length older))
+
 puts_are : (repository : Repository) (editions : List Edition) (all : Bool)
-    → kept_puts (kept_of repository editions) (kept_of repository editions).snapshot all ≡ puts_of repository editions all
+    → kept_puts (kept_of repository editions) (objects_of editions) all ≡ puts_of repository editions all
 puts_are repository [] true = refl
 puts_are repository [] false = refl
-puts_are repository (edition ∷ older) true = refl
+puts_are repository (edition ∷ older) true = kept_put repository older edition true
 puts_are repository (edition ∷ older) false =
-    ap (λ (l : List Entry). entry_put repository.session (snapshot_entry (length older + 1) (edition_texts repository.session older edition).snapshot)
+    kept_put repository older edition false
+    ∙ ap (λ (l : List Entry). entry_put repository.session (snapshot_entry (length older + 1) (edition_texts repository.session older edition).snapshot)
     ∷ map (entry_put repository.session) l ++ put notification_path (notification_of repository older edition) ∷ [])
     (sym (take-map delta_entry 1 (named_deltas repository.session (edition ∷ older))))
 
-pub stands_puts : (repository : Repository) (editions : List Edition) (kept : Kept) (all : Bool) → StandsFor repository editions kept
-    → kept_puts kept kept.snapshot all ≡ puts_of repository editions all
-stands_puts repository editions kept all stands = ap (λ (k : Kept). kept_puts k k.snapshot all) stands.state ∙ puts_are repository editions all
+pub stands_puts : (repository : Repository) (editions : List Edition) (kept : Kept) (objects : List Object) (all : Bool) → StandsFor repository editions kept
+    → objects ≡ objects_of editions → kept_puts kept objects all ≡ puts_of repository editions all
+stands_puts repository editions kept objects all stands same = (λ i. kept_puts (stands.state i) (same i) all) ∙ puts_are repository editions all
 
 -- ---- removals
 

@@ -86,7 +86,7 @@ run_taken most room (d ∷ ds) =
 
 -- ---- none comes back
 
-later_serial : (n : ℕ) → nat_eq (suc n + 1) 1 ≡ false
+pub later_serial : (n : ℕ) → nat_eq (suc n + 1) 1 ≡ false
 later_serial n = grind (arith, nat_tests)
 
 -- Each edition but the first has a delta.

@@ -1,41 +1,41 @@
 -- What contracts see of the state, and how its bodies go over it.
 use Rattle.std.specs.Prelude.{ℕ, zero, suc, ◌-◌, Bool, ◌&&◌, not, nat_le, nat_lt, List, [], ◌∷◌, ◌++◌, length, take, map, Option, None, Some, if◌then◌else◌}
+use Rattle.pub_set.specs.declared.objects.Object.{Object}
 use Rattle.outlet_api.specs.Calls.{Call, put, removal}
-use Rattle.rrdp_state.specs.declared.next.NextFiles.{NextFiles}
+use Rattle.rrdp_text.specs.Texts.{snapshot_text}
 use Rattle.rrdp_state.specs.declared.delta.Delta.{Delta}
-use Rattle.rrdp_state.specs.Editions.{delta_in}
 use Rattle.rrdp_state.specs.Named.{FileName, Entry, fitting, most_named, snapshot_entry, delta_entry}
 use Rattle.rrdp_state.specs.Named.FileName.{SnapshotOf, DeltaOf}
 use Rattle.rrdp_state.specs.Paths.{path_of, notification_path}
 use Rattle.rrdp_state.specs.Exported.{Repository, notification_with, entry_put, is_named, left_by}
 
--- The session and the base, the serial of the newest edition, its snapshot, the deltas that its
--- notification names, and how many were named by the one before it, and by the one before that.
+-- The session and the base, the serial of the newest edition, the deltas that its notification names,
+-- and how many were named by the one before it, and by the one before that.
 pub record Kept : Type 0 where
   pub session : List ℕ
   pub base : List ℕ
   pub serial : ℕ
-  pub snapshot : Option (List ℕ)
   pub deltas : List Delta
   pub previous : ℕ
   pub before : ℕ
 
+-- The deltas that are named with one more, beside a snapshot of so many bytes. Where that one can't be
+-- named, none is.
+abbrev pub named_with : ℕ → ℕ → Option (List ℕ) → List Delta → List Delta
+named_with serial snapshot_len None deltas = []
+named_with serial snapshot_len (Some text) deltas =
+    fitting most_named snapshot_len (record { serial = serial; text = text } ∷ deltas)
+
 -- With the delta of one more edition, whose snapshot has so many bytes.
-abbrev pub noted : Kept → ℕ → ℕ → Option (List ℕ) → Kept
-noted kept serial snapshot_len delta = record {
+abbrev pub advanced : Kept → ℕ → ℕ → Option (List ℕ) → Kept
+advanced kept serial snapshot_len delta = record {
   session = kept.session;
   base = kept.base;
   serial = serial;
-  snapshot = kept.snapshot;
-  deltas = fitting most_named snapshot_len (delta_in serial delta ++ kept.deltas);
+  deltas = named_with serial snapshot_len delta kept.deltas;
   previous = length kept.deltas;
   before = kept.previous;
 }
-
--- With the texts of one more edition.
-abbrev pub advanced : Kept → NextFiles → Kept
-advanced kept next =
-    record (noted kept next.serial (length next.snapshot) next.delta) { snapshot = Some next.snapshot }
 
 -- ---- what is put
 
@@ -48,11 +48,13 @@ puts_with repository serial snapshot deltas all =
     (entries_with serial snapshot (if all then deltas else take 1 deltas))
     ++ put notification_path (notification_with repository serial snapshot deltas) ∷ []
 
-abbrev pub kept_puts : Kept → Option (List ℕ) → Bool → List Call
-kept_puts kept None all = []
-kept_puts kept (Some snapshot) all =
-    puts_with (record { session = kept.session; base = kept.base }) kept.serial snapshot
-    kept.deltas all
+-- By the objects that stand after the newest edition.
+abbrev pub kept_puts : Kept → List Object → Bool → List Call
+kept_puts kept objects all =
+    if nat_lt 0 kept.serial
+    then puts_with (record { session = kept.session; base = kept.base }) kept.serial
+    (snapshot_text kept.session kept.serial objects) kept.deltas all
+    else []
 
 -- ---- what is left
 

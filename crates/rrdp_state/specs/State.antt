@@ -1,6 +1,6 @@
 -- What is kept of editions for the next one and for their export (RFC 8182 section 3.3).
-use Rattle.std.specs.Prelude.{◌≡◌, ◌+◌, List, [], ◌∷◌, length, drop, None, Some}
-use Rattle.rrdp_state.specs.Editions.{Edition, FollowEachOther, edition_texts}
+use Rattle.std.specs.Prelude.{◌≡◌, ◌+◌, List, [], ◌∷◌, length, drop}
+use Rattle.rrdp_state.specs.Editions.{Edition, FollowEachOther}
 use Rattle.rrdp_state.specs.Named.{named_deltas}
 use Rattle.rrdp_state.specs.Exported.{Repository}
 use Rattle.rrdp_state.specs.Kept.{Kept}
@@ -11,7 +11,6 @@ kept_of repository [] = record {
   session = repository.session;
   base = repository.base;
   serial = 0;
-  snapshot = None;
   deltas = [];
   previous = 0;
   before = 0;
@@ -20,7 +19,6 @@ kept_of repository (edition ∷ older) = record {
   session = repository.session;
   base = repository.base;
   serial = length older + 1;
-  snapshot = Some (edition_texts repository.session older edition).snapshot;
   deltas = named_deltas repository.session (edition ∷ older);
   previous = length (named_deltas repository.session older);
   before = length (named_deltas repository.session (drop 1 older));

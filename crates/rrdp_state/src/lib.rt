@@ -18,7 +18,7 @@ pub use laws::{
     exports_keep_files_coherent, named_deltas_are_the_longest_run,
     named_deltas_lead_to_the_snapshot, notifications_name_what_is_put,
 };
-pub use next::NextFiles;
-pub use resuming::{NextDelta, Resuming, TELLING_EDITIONS};
+pub use next::NextDelta;
+pub use resuming::{Resuming, TELLING_EDITIONS};
 pub use state::Rrdp;
 pub use text::FileText;

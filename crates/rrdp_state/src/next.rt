@@ -1,12 +1,12 @@
-//! The texts of an edition (RFC 8182 section 3.3.2).
+//! The delta of an edition that comes next (RFC 8182 section 3.3.2).
 
 use crate::text::FileText;
 
-/// The snapshot of a serial, and the delta that leads to it. The first serial has none.
+/// The delta that leads to a serial (RFC 8182 section 3.5.3). The first serial has none, and a delta with more
+/// bytes than the snapshot beside it isn't named, so that there is none either.
 #[derive(Debug, Drop)]
-pub struct NextFiles {
+pub struct NextDelta {
     /// The serial of the edition, from 1.
     pub serial: u64,
-    pub snapshot: FileText,
     pub delta: Option<FileText>,
 }

@@ -4,7 +4,7 @@ ghost use Rattle.std.specs.Prelude.{◌≡◌, [], ◌∷◌, ◌++◌, length, 
 ghost use Rattle.std.specs.String.{string_bytes};
 ghost use Rattle.outlet_api.specs.Calls.{put, removal};
 ghost use Rattle.outlet_api.specs.Exports.{put_of, removal_of};
-ghost use Rattle.rrdp_state.specs.Named.{delta_entry};
+ghost use Rattle.rrdp_state.specs.Named.{snapshot_entry, delta_entry};
 ghost use Rattle.rrdp_state.specs.Paths.{path_of, delta_path, notification_path};
 ghost use Rattle.rrdp_state.specs.Exported.{Repository, entry_put, delta_ref, file_ref, notification_with};
 ghost use Rattle.rrdp_state.specs.Kept.{entries_with, puts_with, left_runs};
@@ -24,17 +24,18 @@ pub(crate) fn puts(
     session: &Uuid,
     base: &str,
     serial: u64,
-    snapshot: &FileText,
+    snapshot: FileText,
     deltas: &[Delta],
     all: bool,
 ) -> Result<Vec<OutFile>, AllocError>
     ensures { IfOk result (λ puts. map put_of puts.items
-        ≡ puts_with (record { session = session.now; base = base.now }) serial snapshot.now
+        ≡ puts_with (record { session = session.now; base = base.now }) serial snapshot
         deltas.now all) }
 {
+    let notification = put_notification(alloc, session, base, serial, &snapshot, deltas)?;
     let shown = if all { deltas } else { newest(deltas) };
     let mut puts = put_files(alloc, session, serial, snapshot, shown)?;
-    puts.push(put_notification(alloc, session, base, serial, snapshot, deltas)?)?;
+    puts.push(notification)?;
     Ok(puts)
 }
 
@@ -45,41 +46,45 @@ fn newest(deltas: &[Delta]) -> &[Delta]
     deltas.get(..1).unwrap_or(deltas)
 }
 
-/// The snapshot and these deltas.
+/// The snapshot and these deltas. The text of the snapshot is moved.
 fn put_files(
     alloc: Global,
     session: &Uuid,
     serial: u64,
-    snapshot: &FileText,
+    snapshot: FileText,
     deltas: &[Delta],
 ) -> Result<Vec<OutFile>, AllocError>
     ensures { IfOk result (λ puts. map put_of puts.items
-        ≡ map (entry_put session.now) (entries_with serial snapshot.now deltas.now)) }
+        ≡ map (entry_put session.now) (entries_with serial snapshot deltas.now)) }
 {
     let mut puts = Vec::new(alloc);
-    puts.push(put_text(alloc, snapshot_path(alloc, session, serial)?, snapshot)?)?;
+    puts.push(put_snapshot(alloc, session, serial, snapshot)?)?;
     for delta in deltas {
         puts.push(put_delta(alloc, session, delta)?)?;
     }
     Ok(puts)
 }
 
+fn put_snapshot(
+    alloc: Global,
+    session: &Uuid,
+    serial: u64,
+    text: FileText,
+) -> Result<OutFile, AllocError>
+    ensures { IfOk result (λ file. put_of file ≡ entry_put session.now (snapshot_entry serial text)) }
+{
+    Ok(OutFile {
+        path: snapshot_path(alloc, session, serial)?,
+        bytes: text.into_string().into_bytes(),
+    })
+}
+
 fn put_delta(alloc: Global, session: &Uuid, delta: &Delta) -> Result<OutFile, AllocError>
     ensures { IfOk result (λ file. put_of file ≡ entry_put session.now (delta_entry delta.now)) }
 {
-    put_text(
-        alloc,
-        delta_path(alloc, session, delta.serial)?,
-        &delta.text,
-    )
-}
-
-fn put_text(alloc: Global, path: String, text: &FileText) -> Result<OutFile, AllocError>
-    ensures { IfOk result (λ file. put_of file ≡ put (string_bytes path) text.now) }
-{
     Ok(OutFile {
-        path,
-        bytes: Vec::from_slice(alloc, text.as_str().as_bytes())?,
+        path: delta_path(alloc, session, delta.serial)?,
+        bytes: Vec::from_slice(alloc, delta.text.as_str().as_bytes())?,
     })
 }
 

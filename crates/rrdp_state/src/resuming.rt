@@ -1,16 +1,15 @@
 //! A session that is taken up again (RFC 8182 section 3.3.1).
 
 ghost use Rattle.std.specs.Prelude.{◌≡◌, ◌+◌, ◌<◌, ◌^◌, ℕ, List, ◌∷◌, length, IfOk};
-ghost use Rattle.rrdp_state.specs.Editions.{Edition, FollowEachOther, objects_of};
+ghost use Rattle.rrdp_state.specs.Editions.{Edition, FollowEachOther, next_delta, edition_delta};
 ghost use Rattle.rrdp_state.specs.Exported.{Repository};
 ghost use Rattle.rrdp_state.specs.State.{StandsFor};
-ghost use Rattle.rrdp_state.specs.Resuming.{IsToldBy, IsEnough, next_delta, edition_delta};
+ghost use Rattle.rrdp_state.specs.Resuming.{IsToldBy, IsEnough};
 
+use crate::next::NextDelta;
 use crate::state::Rrdp;
-use crate::text::FileText;
 use key_ids::Site;
 use pub_set::{Change, ObjectSet};
-use rrdp_text::snapshot_len;
 use std::alloc::{AllocError, Global};
 use std::marker::Model;
 use uuid::Uuid;
@@ -19,32 +18,20 @@ use uuid::Uuid;
 /// named, by each of the last three notifications.
 pub const TELLING_EDITIONS: u64 = 18;
 
-/// The delta of an edition that was published before (RFC 8182 section 3.5.3).
-#[derive(Debug, Drop)]
-pub struct NextDelta {
-    /// The serial of the edition, from 1.
-    pub serial: u64,
-    pub delta: Option<FileText>,
-}
-
 /// A session that is taken up again behind editions that were published before.
 ///
-/// It takes in the newest of them, and writes their deltas as far as they are named, but no snapshot
-/// before that of the last one.
+/// It takes in the newest of them, and writes their deltas as far as they are named, but no snapshot.
 #[derive(Drop)]
 pub struct Resuming {
     rrdp: Rrdp,
 }
 
 impl Model for Resuming {
-    ghost use Rattle.std.specs.Prelude.{◌≡◌, None};
     ghost use Rattle.rrdp_state.specs.Kept.{Kept};
 
     ghost Value = { Kept };
 
     ghost view = { λ resuming. resuming.rrdp };
-
-    ghost invariant = { λ resuming. resuming.rrdp.snapshot ≡ None };
 }
 
 impl Resuming {
@@ -72,14 +59,19 @@ impl Resuming {
         self.rrdp.serial()
     }
 
-    /// The delta that leads to the next edition by these changes. The first edition has none.
-    pub fn delta(&self, alloc: Global, changes: &[Change]) -> Result<NextDelta, AllocError>
+    /// The delta of the next edition, by its set and the changes that lead to it: none where it can't be named.
+    pub fn next(
+        &self,
+        alloc: Global,
+        set: &ObjectSet,
+        changes: &[Change],
+    ) -> Result<NextDelta, AllocError>
         requires { self.now.serial < 2 ^ 63 }
-        ensures { IfOk result (λ next. next ≡ next_delta self.now changes.now) }
+        ensures { IfOk result (λ next. next
+            ≡ next_delta self.now.session (self.now.serial + 1) set.now changes.now) }
     {
         let serial = self.rrdp.serial() + 1;
-        let delta = self.rrdp.delta(alloc, serial, changes)?;
-        Ok(NextDelta { serial, delta })
+        self.rrdp.next(alloc, serial, set, changes)
     }
 
     /// Takes in the next edition, after which this set stands. Its delta is kept if it is named. It
@@ -92,22 +84,18 @@ impl Resuming {
         ensures session { self.new.session ≡ self.old.session }
         ensures serial { self.new.serial ≡ next.serial }
     {
-        let NextDelta { serial, delta } = next;
-        let len = snapshot_len(self.rrdp.session(), serial, set);
-        self.rrdp.note(serial, len, delta);
+        self.rrdp.take_in(next, set);
     }
 
-    /// The files of the session after the last edition, after which this set stands: those of a run in
-    /// which all of its editions were published, where enough of the newest were taken in.
-    pub fn open(self, alloc: Global, set: &ObjectSet) -> Result<Rrdp, AllocError>
-        ensures stands { IfOk result (λ rrdp. (repository : Repository) (told : ℕ) (editions : List Edition)
+    /// The files of the session after the last edition: those of a run in which all of its editions were
+    /// published, where enough of the newest were taken in. Takes no memory.
+    pub fn open(self) -> Rrdp
+        ensures stands { (repository : Repository) (told : ℕ) (editions : List Edition)
             → IsToldBy repository told editions self → IsEnough told editions
-            → set.now ≡ objects_of editions → StandsFor repository editions rrdp) }
-        ensures session { IfOk result (λ rrdp. rrdp.session ≡ self.session) }
-        ensures serial { IfOk result (λ rrdp. rrdp.serial ≡ self.serial) }
+            → StandsFor repository editions result }
+        ensures session { result.session ≡ self.session }
+        ensures serial { result.serial ≡ self.serial }
     {
-        let mut rrdp = self.rrdp;
-        rrdp.write_snapshot(alloc, set)?;
-        Ok(rrdp)
+        self.rrdp
     }
 }

@@ -1,36 +1,37 @@
 //! What is kept of editions for the next one and for their export (RFC 8182 section 3.3).
 
-ghost use Rattle.std.specs.Prelude.{◌≡◌, ◌+◌, List, [], ◌∷◌, map, IfOk, OnOk};
+ghost use Rattle.std.specs.Prelude.{◌≡◌, ◌+◌, List, [], ◌∷◌, length, map, IfOk};
+ghost use Rattle.rrdp_text.specs.Texts.{snapshot_text};
 ghost use Rattle.outlet_api.specs.Exports.{put_of, removal_of};
-ghost use Rattle.rrdp_state.specs.Editions.{Edition, FollowEachOther, texts_of, delta_to, edition_texts};
+ghost use Rattle.rrdp_state.specs.Editions.{Edition, FollowEachOther, objects_of, can_be_named, next_delta, edition_delta};
 ghost use Rattle.rrdp_state.specs.Exported.{Repository, puts_of, removals_of};
-ghost use Rattle.rrdp_state.specs.Kept.{advanced, noted, kept_puts, kept_removals};
+ghost use Rattle.rrdp_state.specs.Kept.{advanced, named_with, kept_puts, kept_removals};
 ghost use Rattle.rrdp_state.specs.State.{StandsFor};
-ghost use Rattle.rrdp_state.specs.Resuming.{kept_behind, with_snapshot};
+ghost use Rattle.rrdp_state.specs.Resuming.{kept_behind};
 
 use crate::delta::Delta;
 use crate::leaving::{Counts, removes};
 use crate::named::{MOST_NAMED, fitting_count};
-use crate::next::NextFiles;
+use crate::next::NextDelta;
 use crate::putting::puts;
 use crate::text::FileText;
 use key_ids::Site;
 use outlet_api::{OutFile, OutFiles};
 use pub_set::{Change, ObjectSet};
-use rrdp_text::{delta_text, snapshot_text};
+use rrdp_text::{delta_len, delta_text, snapshot_len, snapshot_text};
 use std::alloc::{AllocError, Global};
 use std::marker::Model;
 use uuid::Uuid;
 
 /// The RRDP files of a session, after an edition (RFC 8182 section 3.3).
 ///
-/// Of its deltas those that are named are kept, which have no more bytes than the snapshot.
+/// Of its deltas those that are named are kept, which have no more bytes than the snapshot. Its snapshot is
+/// written anew by each export, of the set that stands.
 #[derive(Drop)]
 pub struct Rrdp {
     session: Uuid,
     base: String,
     serial: u64,
-    snapshot: Option<FileText>,
     deltas: Vec<Delta>,
     previous: usize,
     before: usize,
@@ -48,7 +49,6 @@ impl Model for Rrdp {
       session = state.session;
       base = string_bytes state.base;
       serial = state.serial;
-      snapshot = state.snapshot;
       deltas = state.deltas.items;
       previous = state.previous;
       before = state.before;
@@ -79,26 +79,10 @@ impl Rrdp {
             session,
             base: String::from_str(alloc, site.rrdp())?,
             serial,
-            snapshot: None,
             deltas: Vec::with_capacity(alloc, MOST_NAMED + 1)?,
             previous: 0,
             before: 0,
         })
-    }
-
-    /// The snapshot of this set is written, where there was an edition.
-    pub(crate) fn write_snapshot(
-        &mut self,
-        alloc: Global,
-        set: &ObjectSet,
-    ) -> Result<(), AllocError>
-        ensures { OnOk result (self.new ≡ with_snapshot self.old set.now) }
-    {
-        if self.serial > 0 {
-            let text = snapshot_text(alloc, &self.session, self.serial, set)?;
-            self.snapshot = Some(FileText::new(text));
-        }
-        Ok(())
     }
 
     /// The serial of the newest edition, and 0 before the first one.
@@ -108,117 +92,112 @@ impl Rrdp {
         self.serial
     }
 
-    /// The session identifier (RFC 8182 section 3.3.1).
-    pub(crate) fn session(&self) -> &Uuid
-        ensures { result.now ≡ self.now.session }
-    {
-        &self.session
-    }
-
-    /// The texts of the next edition: its set, and the changes that lead to it (RFC 8182 section
-    /// 3.3.2).
+    /// The delta of the next edition, by its set and the changes that lead to it (RFC 8182 section 3.3.2): none
+    /// where it can't be named, which is found before it is written.
     ///
-    /// Linear in what they have.
+    /// Linear in the objects and the changes, and in what is written.
     pub fn next(
         &self,
         alloc: Global,
         serial: u64,
         set: &ObjectSet,
         changes: &[Change],
-    ) -> Result<NextFiles, AllocError>
+    ) -> Result<NextDelta, AllocError>
         requires { serial ≡ self.now.serial + 1 }
         ensures { IfOk result (λ next.
-            next ≡ texts_of self.now.session serial set.now changes.now) }
+            next ≡ next_delta self.now.session serial set.now changes.now) }
     {
-        let snapshot = snapshot_text(alloc, &self.session, serial, set)?;
-        Ok(NextFiles {
+        if !self.can_be_named(serial, set, changes) {
+            return Ok(NextDelta {
+                serial,
+                delta: None,
+            });
+        }
+        let text = delta_text(alloc, &self.session, serial, changes)?;
+        Ok(NextDelta {
             serial,
-            snapshot: FileText::new(snapshot),
-            delta: self.delta(alloc, serial, changes)?,
+            delta: Some(FileText::new(text)),
         })
     }
 
-    /// The delta that leads to a serial by these changes. The first one has none.
-    pub(crate) fn delta(
-        &self,
-        alloc: Global,
-        serial: u64,
-        changes: &[Change],
-    ) -> Result<Option<FileText>, AllocError>
-        ensures { IfOk result (λ delta. delta ≡ delta_to self.now.session serial changes.now) }
+    /// Whether a serial has a delta that has no more bytes than its snapshot.
+    fn can_be_named(&self, serial: u64, set: &ObjectSet, changes: &[Change]) -> bool
+        ensures { result ≡ can_be_named self.now.session serial set.now changes.now }
     {
-        if serial == 1 {
-            return Ok(None);
-        }
-        let text = delta_text(alloc, &self.session, serial, changes)?;
-        Ok(Some(FileText::new(text)))
+        serial != 1
+            && delta_len(&self.session, serial, changes) <= snapshot_len(&self.session, serial, set)
     }
 
-    /// The next edition becomes the newest one. It takes no memory.
-    pub fn advance(&mut self, next: NextFiles)
+    /// The next edition, after which this set stands, becomes the newest one. Its delta is kept if it is named. It
+    /// takes no memory, and time linear in the objects, whatever their bytes are.
+    pub fn advance(&mut self, next: NextDelta, set: &ObjectSet)
         ensures stands { (repository : Repository) (older : List Edition) (edition : Edition)
             → StandsFor repository older self.old → FollowEachOther (edition ∷ older)
-            → next ≡ edition_texts repository.session older edition
+            → set.now ≡ edition.objects → next ≡ edition_delta repository.session older edition
             → StandsFor repository (edition ∷ older) self.new }
         ensures session { self.new.session ≡ self.old.session }
         ensures serial { self.new.serial ≡ next.serial }
     {
-        self.take_in(next);
+        self.take_in(next, set);
     }
 
-    fn take_in(&mut self, next: NextFiles)
-        ensures { self.new ≡ advanced self.old next }
+    /// The next edition's delta is kept before the others, as far as they are named beside the snapshot of this
+    /// set.
+    pub(crate) fn take_in(&mut self, next: NextDelta, set: &ObjectSet)
+        ensures { self.new ≡ advanced self.old next.serial
+            (length (snapshot_text self.old.session next.serial set.now)) next.delta }
     {
-        let NextFiles {
-            serial,
-            snapshot,
-            delta,
-        } = next;
-        self.note(serial, snapshot.len() as u128, delta);
-        self.snapshot = Some(snapshot);
-    }
-
-    /// The delta that leads to a serial is kept before the others, as far as they are named beside a
-    /// snapshot of so many bytes.
-    pub(crate) fn note(&mut self, serial: u64, snapshot_len: u128, delta: Option<FileText>)
-        ensures { self.new ≡ noted self.old serial snapshot_len delta }
-    {
+        let NextDelta { serial, delta } = next;
+        let len = snapshot_len(&self.session, serial, set);
         self.before = self.previous;
         self.previous = self.deltas.len();
-        if let Some(text) = delta {
-            self.deltas.insert(0, Delta { serial, text }).unwrap();
-        }
-        let named = fitting_count(snapshot_len, &self.deltas);
-        self.deltas.truncate(named);
+        self.keep(serial, len, delta);
         self.serial = serial;
+    }
+
+    /// A delta is put before the others, and those are kept that are named beside a snapshot of so many bytes.
+    fn keep(&mut self, serial: u64, snapshot_len: u128, delta: Option<FileText>)
+        ensures { self.new ≡ record self.old { deltas = named_with serial snapshot_len delta self.old.deltas } }
+    {
+        match delta {
+            Some(text) => {
+                self.deltas.insert(0, Delta { serial, text }).unwrap();
+                let named = fitting_count(snapshot_len, &self.deltas);
+                self.deltas.truncate(named);
+            }
+            None => self.deltas.clear(),
+        }
     }
 
     /// What an export puts and removes: the snapshot, the newest delta if it is named, or all that
     /// are named, and last the notification; and then the files that the notification before the
     /// previous one named and that neither of the two later ones names, or nothing where all is put.
-    pub fn files(&self, alloc: Global, all: bool) -> Result<OutFiles, AllocError>
+    ///
+    /// The set is the one that stands after the newest edition. Its snapshot is written once, and isn't copied.
+    pub fn files(&self, alloc: Global, set: &ObjectSet, all: bool) -> Result<OutFiles, AllocError>
         // Other files can be put before the last one.
         ensures puts { IfOk result (λ files. (repository : Repository) (editions : List Edition)
-            → StandsFor repository editions self.now
+            → StandsFor repository editions self.now → set.now ≡ objects_of editions
             → map put_of files.puts.items ≡ puts_of repository editions all) }
         ensures removes { IfOk result (λ files. (repository : Repository) (editions : List Edition)
             → StandsFor repository editions self.now
             → map removal_of files.removes.items ≡ removals_of repository editions all) }
     {
         Ok(OutFiles {
-            puts: self.puts(alloc, all)?,
+            puts: self.puts(alloc, set, all)?,
             removes: self.removes(alloc, all)?,
         })
     }
 
-    fn puts(&self, alloc: Global, all: bool) -> Result<Vec<OutFile>, AllocError>
-        ensures { IfOk result (λ puts.
-            map put_of puts.items ≡ kept_puts self.now self.now.snapshot all) }
+    fn puts(&self, alloc: Global, set: &ObjectSet, all: bool) -> Result<Vec<OutFile>, AllocError>
+        ensures { IfOk result (λ puts. map put_of puts.items ≡ kept_puts self.now set.now all) }
     {
-        let Some(snapshot) = &self.snapshot else {
+        if self.serial == 0 {
             return Ok(Vec::new(alloc));
-        };
+        }
         let (session, base) = (&self.session, self.base.as_str());
+        let text = snapshot_text(alloc, session, self.serial, set)?;
+        let snapshot = FileText::new(text);
         puts(
             alloc,
             session,

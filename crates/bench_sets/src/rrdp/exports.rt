@@ -94,10 +94,10 @@ impl Session {
         let changes = changes_from(alloc, serial, other, set)?;
         let start = Instant::now(rt)?;
         let next = self.rrdp.next(alloc, serial, set, &changes)?;
+        self.rrdp.advance(next, set);
+        let mut files = self.rrdp.files(alloc, set, serial == 1)?;
         let texts = start.elapsed(rt)?;
-        self.rrdp.advance(next);
         let start = Instant::now(rt)?;
-        let mut files = self.rrdp.files(alloc, serial == 1)?;
         put_beside(alloc, &mut files)?;
         if export(alloc, &files, &mut self.outlet).is_err() {
             bail!("a call of the folder failed");

@@ -25,8 +25,8 @@ pub fn answer(alloc: Global, line: &str) -> Result<String> {
 
 fn step_text(alloc: Global, editions: &mut Editions, site: &Site, step: &str) -> Result<String> {
     match step {
-        "newest" => files_text(alloc, &editions.rrdp.files(alloc, false)?),
-        "all" => files_text(alloc, &editions.rrdp.files(alloc, true)?),
+        "newest" => files_text(alloc, &editions.files(alloc, false)?),
+        "all" => files_text(alloc, &editions.files(alloc, true)?),
         "resume" => {
             let told = editions.resume(alloc, site)?;
             Ok(format!(in alloc; "{told}")?)

@@ -2,8 +2,10 @@
 
 use anyhow::{Context, Result, bail};
 use key_ids::Site;
+use outlet_api::OutFiles;
 use pub_set::{Change, Content, ObjectSet, Uri, changes};
-use rrdp_state::{FileText, Resuming, Rrdp, TELLING_EDITIONS};
+use rrdp_state::{Resuming, Rrdp, TELLING_EDITIONS};
+use rrdp_text::{delta_len, snapshot_len};
 use sha2::{Digest, Sha256};
 use std::alloc::Global;
 use uuid::Uuid;
@@ -13,7 +15,7 @@ pub struct Editions {
     session: Uuid,
     set: ObjectSet,
     past: Vec<Past>,
-    pub rrdp: Rrdp,
+    rrdp: Rrdp,
 }
 
 /// An edition that was published: its changes, and the set after it.
@@ -34,7 +36,7 @@ impl Editions {
     }
 
     /// Publishes an edition with these changes. The lengths of its snapshot and its delta.
-    pub fn publish(&mut self, alloc: Global, parts: &str) -> Result<(usize, Option<usize>)> {
+    pub fn publish(&mut self, alloc: Global, parts: &str) -> Result<(u128, Option<u128>)> {
         let old = self.set.copy(alloc)?;
         let query = read_changes(alloc, &self.set, parts)?;
         self.set.query(alloc, "", query)?;
@@ -43,11 +45,22 @@ impl Editions {
             bail!("no serial is left");
         };
         let next = self.rrdp.next(alloc, serial, &self.set, &changes)?;
-        let lengths = (next.snapshot.len(), next.delta.as_ref().map(FileText::len));
-        self.rrdp.advance(next);
+        let snapshot = snapshot_len(&self.session, serial, &self.set);
+        let delta = delta_len(&self.session, serial, &changes);
+        if let Some(text) = &next.delta {
+            if text.len() as u128 != delta {
+                bail!("{delta} bytes, and {} of them", text.len());
+            }
+        }
+        self.rrdp.advance(next, &self.set);
         let set = self.set.copy(alloc)?;
         self.past.push(Past { changes, set })?;
-        Ok(lengths)
+        Ok((snapshot, if serial == 1 { None } else { Some(delta) }))
+    }
+
+    /// What an export puts and removes.
+    pub fn files(&self, alloc: Global, all: bool) -> Result<OutFiles> {
+        Ok(self.rrdp.files(alloc, &self.set, all)?)
     }
 
     /// Takes the session up again, by the newest editions as far as they are needed. How many these are.
@@ -59,10 +72,10 @@ impl Editions {
             if resuming.serial() > u64::from(u32::MAX) {
                 bail!("too many editions");
             }
-            let next = resuming.delta(alloc, &edition.changes)?;
+            let next = resuming.next(alloc, &edition.set, &edition.changes)?;
             resuming.advance(next, &edition.set);
         }
-        self.rrdp = resuming.open(alloc, &self.set)?;
+        self.rrdp = resuming.open();
         Ok(told)
     }
 }

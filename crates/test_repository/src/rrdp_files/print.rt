@@ -6,7 +6,7 @@ use sha2::{Digest, Sha256};
 use std::alloc::Global;
 
 /// The lengths of a snapshot and of a delta.
-pub fn lengths_text(alloc: Global, lengths: (usize, Option<usize>)) -> Result<String> {
+pub fn lengths_text(alloc: Global, lengths: (u128, Option<u128>)) -> Result<String> {
     let (snapshot, delta) = lengths;
     match delta {
         Some(delta) => Ok(format!(in alloc; "{snapshot} {delta}")?),

@@ -1,7 +1,7 @@
 use Rattle.std.proofs.Common.{ℕ, List, inr, sym, ◌∙◌, ap, subst}
 use Rattle.std.proofs.lemmas.Result.{err_from_is_err_and}
 use Rattle.press_core.specs.Press.{PressValue}
-use Rattle.press_core.specs.Files.{files_of}
+use Rattle.press_core.specs.Files.{delta_of}
 use Rattle.krill_top.proofs.Pressed.{pressed_by}
 use Rattle.krill_top.specs.inner.Gathered.{AreSince}
 use Rattle.krill_top.proofs.pressing.press_all.Goals as goal
@@ -22,9 +22,9 @@ returns-in_err-sheet-clause-refused g c =
       });
     })
 
-pub commit-published-requires-clause-files : goal.commit-published-requires-clause-files
-commit-published-requires-clause-files g c =
-    c.in_ok-prepared.ensures.files ∙ ap (λ (p : PressValue). files_of p.rrdp.session c.in_ok-prepared.prepared.edition) (sym c.in_ok-prepared.ensures.kept)
+pub commit-published-requires-clause-delta : goal.commit-published-requires-clause-delta
+commit-published-requires-clause-delta g c =
+    c.in_ok-prepared.ensures.delta ∙ ap (λ (p : PressValue). delta_of p.rrdp.session c.in_ok-prepared.prepared.edition) (sym c.in_ok-prepared.ensures.kept)
 
 pub returns-clause-pressed : goal.returns-clause-pressed
 returns-clause-pressed g c =
