@@ -135,7 +135,7 @@ module _ {D O : Type 0} (disk_of : DiskGhosts D) (outlet_of : OutletGhosts O) wh
           left = stands.left;
           stands = stands.stands;
           serial = stands.serial;
-          files = stands.files;
+          files = record { kept = stands.files.kept; set = stands.files.set };
           site = stands.site;
           session = stands.session;
           exported = refl;

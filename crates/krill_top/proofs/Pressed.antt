@@ -9,14 +9,17 @@ use Rattle.editions.specs.Edition.{Edition}
 use Rattle.editions.specs.declared.ended.EndedKey.{EndedKey}
 use Rattle.editions.specs.declared.gathered.Gathered.{Gathered}
 use Rattle.editions.specs.declared.published_state.PublishedNumbers.{PublishedNumbers}
-use Rattle.editions.specs.PublishedState.{published_of}
+use Rattle.editions.specs.PublishedState.{PublishedStateValue, published_of}
 use Rattle.editions.specs.Sheets.{sheet_of}
 use Rattle.press_core.specs.Press.{PressValue, DropsEach}
 use Rattle.press_core.specs.Signers.{HoldKeys}
 use Rattle.press_core.specs.PrepareInput.{start_of}
 use Rattle.press_core.specs.Next.{NextValue}
 use Rattle.press_core.specs.Stands.{IsLeftBy}
-use Rattle.press_core.specs.Files.{HasFilesOf}
+use Rattle.press_core.specs.Files.{HasFilesOf, repository_at, rrdp_editions}
+use Rattle.rrdp_state.specs.Kept.{Kept}
+use Rattle.rrdp_state.specs.State as rrdp_state
+use Rattle.key_ids.specs.Uris.{Bases}
 use Rattle.press_core.specs.Follows.{edition_of, IsNextEdition}
 use Rattle.krill_top.specs.inner.Gathered.{AreSince}
 use Rattle.krill_top.specs.inner.Pressing.{IsPressed}
@@ -45,6 +48,15 @@ pub record AreRetired (committed new : PressValue) : Type 0 where
   pub others : new ≡ record committed { ring = new.ring; ended = [] }
   pub kept : Keeps committed.ring new.ring
 
+-- a press whose set and RRDP files are the same has the files of the same editions
+pub still_has_files : (editions : List Edition) (old new : PressValue) → new.site ≡ old.site → new.at ≡ old.at → new.rrdp ≡ old.rrdp
+    → HasFilesOf editions old → HasFilesOf editions new
+still_has_files editions old new site at rrdp has = record {
+  kept = subst (λ (b : Bases). rrdp_state.StandsFor (repository_at new.rrdp.session b) (rrdp_editions editions) new.rrdp) (sym site)
+      (subst (λ (r : Kept). rrdp_state.StandsFor (repository_at r.session old.site) (rrdp_editions editions) r) (sym rrdp) has.kept);
+  set = ap (λ (a : PublishedStateValue). a.set) at ∙ has.set;
+}
+
 pub pressed_by : {D : Type 0} (clock : ℕ) (desks : List (View D)) (groups : List Gathered) (prepared : NextValue) (told : PublishedNumbers) (sheet : Sheet) (old ready committed new : PressValue)
     → AreSince 0 desks old.at.cut groups → IsNextEdition (start_of old clock groups) ready.ring prepared → IsReady old ready
     → IsCommitted prepared told ready committed → AreRetired committed new → sheet ≡ sheet_of prepared.next
@@ -62,10 +74,12 @@ pressed_by clock desks groups prepared told sheet old ready committed new since 
   session = ap (λ (p : PressValue). p.rrdp.session) are_retired.others ∙ is_committed.session ∙ ap (λ (p : PressValue). p.rrdp.session) is_ready.same;
   last_export = ap (λ (p : PressValue). p.last_export) are_retired.others ∙ is_committed.last_export ∙ ap (λ (p : PressValue). p.last_export) is_ready.same;
   files = λ lists editions left has.
-      subst (λ (p : PressValue). HasFilesOf (editions ++ edition_of prepared ∷ []) p) (sym are_retired.others)
+      still_has_files (editions ++ edition_of prepared ∷ []) committed new (ap (λ (p : PressValue). p.site) are_retired.others)
+      (ap (λ (p : PressValue). p.at) are_retired.others) (ap (λ (p : PressValue). p.rrdp) are_retired.others)
       (is_committed.files lists editions
       (subst (λ (p : PressValue). IsLeftBy lists editions p.at) (sym is_ready.same) left)
-      (subst (λ (p : PressValue). HasFilesOf editions p) (sym is_ready.same) has));
+      (still_has_files editions old ready (ap (λ (p : PressValue). p.site) is_ready.same) (ap (λ (p : PressValue). p.at) is_ready.same)
+      (ap (λ (p : PressValue). p.rrdp) is_ready.same) has));
   dropped = subst (λ (e : List EndedKey). DropsEach e ready.ring new.ring) is_committed.ended
       (subst (λ (s : List SignerState). DropsEach committed.ended s new.ring) is_committed.ring are_retired.dropped);
   still = subst (λ (s : List SignerState). Keeps s new.ring) is_committed.ring are_retired.kept;

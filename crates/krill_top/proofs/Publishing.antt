@@ -139,7 +139,7 @@ module _ {D O : Type 0} (outlet_of : OutletGhosts O) where
         left = stands.left;
         stands = stands.stands;
         serial = stands.serial;
-        files = stands.files;
+        files = record { kept = stands.files.kept; set = stands.files.set };
         site = stands.site;
         session = stands.session;
         exported = stands.exported;
