@@ -7,7 +7,7 @@ ghost use Rattle.disk_api.specs.declared.memory.MemoryDisk.{MemoryDisk};
 ghost use Rattle.desk_core.specs.View.{View};
 ghost use Rattle.editions.specs.PublishedState.{IsFirst};
 ghost use Rattle.press_core.specs.Next.{IsNext};
-ghost use Rattle.press_core.specs.Files.{files_of};
+ghost use Rattle.press_core.specs.Files.{delta_of};
 ghost use Rattle.histories.specs.Events.{History};
 ghost use Rattle.histories.specs.Legal.{IsLegal};
 ghost use Rattle.test_histories.specs.Told.{AreTold};
@@ -307,7 +307,7 @@ fn stop_publishing(
 // The press is found with the edition that was prepared, or without it.
 fn settle(press: &mut Press<Rehearsal>, prepared: Prepared, is_found: bool)
     requires next { IsNext press.old.site press.old.at prepared.edition }
-    requires files { prepared.files ≡ files_of press.old.rrdp.session prepared.edition }
+    requires delta { prepared.delta ≡ delta_of press.old.rrdp.session prepared.edition }
     ensures at { press.new.at ≡ (if is_found then prepared.edition.next else press.old.at) }
     ensures site { press.new.site ≡ press.old.site }
     ensures signers { length press.new.ring ≡ length press.old.ring }
