@@ -56,12 +56,12 @@ table row.RoasList = entry (codes "roas list") (required Ca ∷ [])
 table row.HistoryCommands = entry (codes "history commands") (required Ca ∷ [])
     (λ ca. line.History ca)
 
--- The rows that a line may name. Those of key rollovers aren't among them yet: a history shows such
--- commands, and no line gives one.
+-- all rows
 abbrev pub rows : List Row
 rows =
     row.Add ∷ row.Delete ∷ row.ParentsAdd ∷ row.ChildrenAdd ∷ row.ChildrenUpdate ∷ row.ChildrenRemove ∷ row.ChildrenSuspend
-    ∷ row.ChildrenUnsuspend ∷ row.RoasUpdate ∷ row.Publish ∷ row.Serial ∷ row.List ∷ row.Show ∷ row.RoasList ∷ row.HistoryCommands ∷ []
+    ∷ row.ChildrenUnsuspend ∷ row.RoasUpdate ∷ row.KeyrollInit ∷ row.KeyrollActivate ∷ row.Publish ∷ row.Serial ∷ row.List
+    ∷ row.Show ∷ row.RoasList ∷ row.HistoryCommands ∷ []
 
 -- ---- what the table says of a row
 

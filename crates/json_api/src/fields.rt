@@ -128,7 +128,7 @@ impl Field {
 }
 
 impl Row {
-    /// The row of that command, where a line may name it: those of key rollovers no line names yet.
+    /// The row of that command.
     pub(crate) fn named(text: &str) -> Option<Row>
         ensures { result ≡ row_named text.now }
     {
@@ -142,6 +142,8 @@ impl Row {
             "children suspend" => Some(Row::ChildrenSuspend),
             "children unsuspend" => Some(Row::ChildrenUnsuspend),
             "roas update" => Some(Row::RoasUpdate),
+            "keyroll init" => Some(Row::KeyrollInit),
+            "keyroll activate" => Some(Row::KeyrollActivate),
             "publish" => Some(Row::Publish),
             "serial" => Some(Row::Serial),
             "list" => Some(Row::List),
