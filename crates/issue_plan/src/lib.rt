@@ -5,6 +5,7 @@
 mod keys;
 mod lookups;
 mod plans;
+mod requests;
 mod uris;
 mod wanted;
 

@@ -4,10 +4,13 @@ ghost use Rattle.std.specs.Prelude.{◌≡◌, map, filter, IfOk};
 ghost use Rattle.std.specs.List.{filter_map};
 ghost use Rattle.entitle.specs.Certified.{settings_of};
 ghost use Rattle.entitle.specs.Owed.{AreOwed};
+ghost use Rattle.issue_plan.specs.Keys as keys_spec;
 ghost use Rattle.issue_plan.specs.Work as spec;
 ghost use Rattle.issue_plan.specs.Work.{IsPlan};
 
 use crate::keys::{NextKey, id_of, next_keys};
+use crate::lookups::set_at;
+use crate::requests::revoked;
 use crate::uris::{wanted_uris, withdrawn};
 use crate::wanted::{certificates, points, roas};
 use authority_book::Config;
@@ -75,15 +78,29 @@ fn goes_on(keys: &[NextKey], id: &KeyId) -> bool
     keys.iter().any(|key| is_live(id, &key.name))
 }
 
+// The key of the row, which ends. An authority of the tree asks its parent to revoke its certificate.
+fn ended(alloc: Global, rows: &[KeyRow], tree: &Tree, row: &KeyRow) -> Result<KeyId, AllocError>
+    ensures { IfOk result (λ id. id ≡ keys_spec.id_of row.now) }
+{
+    match set_at(tree, row.desk) {
+        Some(set) => revoked(alloc, rows, set, row),
+        None => Ok(id_of(row)),
+    }
+}
+
 // The live keys that end.
-fn dropped(alloc: Global, keys: &[NextKey], rows: &[KeyRow]) -> Result<Vec<KeyId>, AllocError>
+fn dropped(
+    alloc: Global,
+    keys: &[NextKey],
+    rows: &[KeyRow],
+    tree: &Tree,
+) -> Result<Vec<KeyId>, AllocError>
     ensures { IfOk result (λ dropped. dropped.items ≡ spec.dropped keys.now rows.now) }
 {
     let mut dropped = Vec::new(alloc);
     for row in rows {
-        let id = id_of(row);
-        if !goes_on(keys, &id) {
-            dropped.push(id)?;
+        if !goes_on(keys, &id_of(row)) {
+            dropped.push(ended(alloc, rows, tree, row)?)?;
         }
     }
     Ok(dropped)
@@ -126,6 +143,6 @@ pub fn plan(
         roas: Items::new(roas(alloc, &keys, owed)?),
         points: Items::new(points(alloc, &keys)?),
         withdrawn: Items::new(withdrawn(alloc, &wanted, issued.rows.as_slice())?),
-        dropped: Items::new(dropped(alloc, &keys, rows)?),
+        dropped: Items::new(dropped(alloc, &keys, rows, tree)?),
     })
 }

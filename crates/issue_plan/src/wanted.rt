@@ -1,21 +1,18 @@
 //! What an edition wants to stand: certificates, ROAs and publication points (RFC 6487, RFC 9582,
 //! RFC 9286).
 
-ghost use Rattle.std.specs.Prelude.{◌≡◌, ◌==◌, map, filter, IfOk};
+ghost use Rattle.std.specs.Prelude.{◌≡◌, IfOk};
 ghost use Rattle.std.specs.List.{filter_map};
 ghost use Rattle.entitle.specs.Certified.{settings_of, names_of};
-ghost use Rattle.issue_plan.specs.Keys as keys_spec;
 ghost use Rattle.issue_plan.specs.Wanted as spec;
 ghost use Rattle.issue_plan.specs.Wanted.{wanted_certificates, wanted_roas, wanted_points};
 
-use crate::keys::{NextKey, id_of};
+use crate::keys::NextKey;
 use crate::lookups::{parent_at, set_at};
+use crate::requests::certified_for;
 use authority_book::Config;
 use entitle::{Owed, Tree};
-use key_ids::KeyId;
 use key_roll::{CertWork, KeyName, KeyRow, PointWork, RoaWork, Role, is_role};
-use provision::{Class, Reply, Request};
-use res_sets::Resources;
 use std::alloc::{AllocError, Global};
 
 // The current key of a desk.
@@ -43,45 +40,6 @@ fn issuer_of(configs: &[Config], keys: &[NextKey], key: &NextKey) -> Option<KeyN
         return Some(key.name);
     }
     current_of(keys, parents_desk(configs, key.desk)?)
-}
-
-// The keys of the desk that have a certificate: its live ones.
-fn certified_keys(alloc: Global, rows: &[KeyRow], desk: u32) -> Result<Vec<KeyId>, AllocError>
-    ensures { IfOk result (λ keys. keys.items
-        ≡ map keys_spec.id_of (filter (λ row. row.desk == desk) rows.now)) }
-{
-    rows.iter()
-        .filter(|row| row.desk == desk)
-        .map(|row| id_of(row))
-        .collect(alloc)
-}
-
-// What a certificate of the key is to hold, as the parent tells the authority that asks for it. One
-// that has no key yet asks which classes there are.
-fn certified_for(
-    alloc: Global,
-    rows: &[KeyRow],
-    set: &Resources,
-    key: &NextKey,
-) -> Result<Resources, AllocError>
-    ensures { IfOk result (λ held. held ≡ set.now) }
-{
-    let class = Class {
-        resources: set.copy(alloc)?,
-        keys: certified_keys(alloc, rows, key.desk)?,
-    };
-    let request = match &key.name {
-        KeyName::Live { id } => Request::Issue {
-            class: String::from_str(alloc, "0")?,
-            key: *id,
-        },
-        KeyName::Fresh { .. } => Request::List,
-    };
-    match provision::answer(alloc, &class, &request)? {
-        Reply::Class { resources } | Reply::Issued { resources, .. } => Ok(resources),
-        // An authority without resources has no key.
-        Reply::NoClass | Reply::Revoked { .. } | Reply::Error { .. } => set.copy(alloc),
-    }
 }
 
 fn certificate_of(
