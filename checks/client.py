@@ -71,6 +71,13 @@ CASES = [
     (["roas", "import", "--ca", "isp", "absent"], 2, "", "krill: absent: No such file or directory\n"),
     (["roas", "export", "--ca", "none"], 1, "", "krill: NoSuchAuthority: no authority has that name (none)\n"
      "'krill list' shows the names.\n"),
+    (["keyroll", "activate", "--ca", "isp"], 1, "", "krill: NoRoll: no rollover was begun that isn't activated\n"
+     "'krill keyroll init' begins one.\n"),
+    (["keyroll", "init", "--ca", "isp"], 0, "Accepted: command 4 of isp.\n", ""),
+    (["keyroll", "init", "--ca", "isp"], 1, "", "krill: RollGoing: a rollover was begun and isn't activated\n"
+     "'krill keyroll activate' goes on with it.\n"),
+    (["keyroll", "init", "--ca", "ta"], 1, "",
+     "krill: NotForAnchor: the anchor 'ta' can't be deleted, has no parent, and keeps its key\n"),
     (["watch", "--looks", "1"], 0, re.compile(r"\d\d:\d\d:\d\d  edition none yet\nAUTHORITY +PUBLISHED +PENDING +HELD\n"
                                                r"ta +0 +0 +0\nisp +0 +0 +2\n\n"), ""),
     (["--krillc", "/bin/false", "list"], 4, "", re.compile(r"krill: krillc ended with status 1\n(.*\n)?")),

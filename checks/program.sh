@@ -151,6 +151,15 @@ if [ "$got" != 0 ] || ! cmp -s told "$top/examples/publish-session.replies"; the
     failed=1
 fi
 
+# The session that rolls a key, over three days of a clock that is told another time.
+if command -v cc >/dev/null; then
+    sh "$top/examples/run-keyroll-session" "$krillc" >output 2>error || {
+        echo "checks/program: the session that rolls a key"
+        cat output error
+        failed=1
+    }
+fi
+
 # What was published stands: the notification names the snapshot with its hash, beside the anchor's
 # certificate and locator.
 (

@@ -59,7 +59,7 @@ class Trial:
 
     def __init__(self, sample, server, folder):
         self.sample, self.server, self.folder = sample, server, folder
-        self.program = Program(KRILLC, os.path.join(folder, "krill"), sample.signers)
+        self.program = Program(KRILLC, os.path.join(folder, "krill"), sample.signers, sample.is_late)
         self.result = table.Result(sample)
         self.follower = None
 
@@ -68,6 +68,8 @@ class Trial:
         # HTTP tells times in whole seconds: a notification of the second in which the one before it was fetched would
         # be taken for that one.
         wait_until(int(time.time()))
+        if self.sample.is_late:
+            self.program.set_late(edition.late)
         reply = ask_all(self.program, edition)
         origins = self.program.published_origins()
         if origins != {*edition.origins}:
@@ -105,6 +107,8 @@ class Trial:
 
     def try_edition(self, edition):
         exported, wanted = self.publish(edition)
+        if edition.late:
+            return
         self.server.folder = self.program.repository
         if self.sample.is_spoiled:
             self.server.folder = os.path.join(self.folder, "spoiled")

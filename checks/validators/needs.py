@@ -9,6 +9,7 @@ PACKAGES = {
     "openssl": ("openssl",),
     "iproute2": ("ip",),
     "util-linux": ("unshare",),
+    "gcc": ("cc",),
 }
 # A Python package that signer/krill-signer needs, and its Debian package.
 PYTHON_PACKAGE, PYTHON_DEBIAN = "cryptography", "python3-cryptography"

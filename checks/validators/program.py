@@ -14,15 +14,17 @@ class Failed(Exception):
 
 
 class Program:
-    """krillc over the store in a folder of its own, which is empty at first, with so many signers."""
+    """krillc over the store in a folder of its own, which is empty at first, with so many signers. Its clock
+    can be set late, if that is asked."""
 
-    def __init__(self, program, folder, signers):
+    def __init__(self, program, folder, signers, is_late=False):
         self.folder = folder
         self.data = os.path.join(folder, "krill-data")
         os.makedirs(self.data, exist_ok=True)
         self.signers = [self._start_signer(number) for number in range(signers)]
         self.krillc = subprocess.Popen(
-            [program, "run"], cwd=folder, stdin=subprocess.PIPE, stdout=subprocess.PIPE, text=True)
+            [program, "run"], cwd=folder, stdin=subprocess.PIPE, stdout=subprocess.PIPE, text=True,
+            env={**os.environ, **(self._with_clock() if is_late else {})})
         self.watch = threading.Timer(LONGEST, self.krillc.kill)
         self.watch.start()
 
@@ -35,6 +37,18 @@ class Program:
         keys = os.path.join(self.folder, f"keys-{number}")
         words = ["--keys", keys, "--fifos", path, "--one-run", "--pool", POOL]
         return subprocess.Popen([sys.executable, SIGNER, *words])
+
+    def _with_clock(self):
+        """What makes krillc's clock one that can be set: checks/clock.c."""
+        library = os.path.join(self.folder, "clock.so")
+        subprocess.run(["cc", "-shared", "-fPIC", "-o", library, os.path.join(TOP, "checks", "clock.c")], check=True)
+        self.set_late(0)
+        return {"LD_PRELOAD": library, "CLOCK_FILE": os.path.join(self.folder, "clock")}
+
+    def set_late(self, seconds):
+        """Sets krillc's clock late by so many seconds."""
+        with open(os.path.join(self.folder, "clock"), "w", encoding="ascii") as file:
+            file.write(f"{-seconds}\n")
 
     @property
     def repository(self):

@@ -13,6 +13,8 @@ class Edition:
     lines: list
     origins: list
     refused: int = 0
+    # How many seconds krillc's clock is late. Nobody looks at such an edition, whose time may be over.
+    late: int = 0
 
 
 @dataclass
@@ -24,6 +26,11 @@ class Sample:
     is_spoiled: bool = False
     # Whether a relying party that runs all the time follows the editions too, a minute for each.
     is_followed: bool = False
+
+    @property
+    def is_late(self):
+        """Whether krillc's clock is late at some edition."""
+        return any(edition.late for edition in self.editions)
 
 
 def update(ca, add=(), remove=()):
@@ -44,8 +51,8 @@ def authority(parent, child, signer=0, **resources):
     ]
 
 
-def edition(lines, origins):
-    return Edition([*lines, PUBLISH], [*origins])
+def edition(lines, origins, late=0):
+    return Edition([*lines, PUBLISH], [*origins], late=late)
 
 
 def example(name, origins, refused=0):
@@ -172,6 +179,21 @@ def deletion():
     ])
 
 
+def rolled_keys():
+    """The keys of an authority and of its child are rolled at once. Each stage is looked at today: the first two editions,
+    of which the second makes the new keys, are a day and some old."""
+    own, below = "10.0.0.0/9 => 1", "10.1.0.0/16 => 2"
+    lines = [
+        *authority("ta", "isp", ipv4="10.0.0.0/8"), *authority("isp", "shop", ipv4="10.1.0.0/16"),
+        update("isp", [own]), update("shop", [below]),
+    ]
+    both = {word: [json.dumps({"command": f"keyroll {word}", "ca": ca}) for ca in ("isp", "shop")] for word in ("init", "activate")}
+    return Sample("a parent's and a child's key rolled: staged, activated, retired", [
+        edition(lines, [own, below], late=90_000), edition(both["init"], [own, below], late=90_000),
+        edition([update("isp")], [own, below]), edition(both["activate"], [own, below]), edition([], [own, below]),
+    ])
+
+
 def many_origins(count):
     origins = [f"10.{number // 256}.{number % 256}.0/24 => {number}" for number in range(count)]
     lines = [*authority("ta", "isp", ipv4="10.0.0.0/8"), update("isp", origins)]
@@ -191,6 +213,6 @@ def one_after_another(count):
 
 SAMPLES = [
     spoiled_roa(), *EXAMPLES, no_origins(), families_and_maxima(), odd_resources(), long_names(), two_signers(),
-    same_origin_twice(), chain(8), many_children(40), shrinking_grants(), deletion(), one_after_another(5),
-    many_origins(1024),
+    same_origin_twice(), chain(8), many_children(40), shrinking_grants(), deletion(), rolled_keys(),
+    one_after_another(5), many_origins(1024),
 ]

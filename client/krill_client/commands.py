@@ -97,6 +97,14 @@ def roas_update(store, asked):
     return send(store, asked, "roas update", ca=asked.ca, add=asked.add, remove=asked.remove)
 
 
+def keyroll_init(store, asked):
+    return send(store, asked, "keyroll init", ca=asked.ca)
+
+
+def keyroll_activate(store, asked):
+    return send(store, asked, "keyroll activate", ca=asked.ca)
+
+
 def configured(store, name):
     """The origins that the authority has, or the refusal of reading them."""
     reply = read(store, "roas list", ca=name)
