@@ -45,7 +45,7 @@ impl Authority {
         bytes: Vec<u8>,
     ) -> Result<()> {
         let uri = site.file_uri(alloc, self.name.as_str(), name.as_str())?;
-        let hash = maker.put(uri, bytes)?;
+        let hash = maker.put(alloc, uri, bytes)?;
         self.files.insert(name, hash)?;
         Ok(())
     }
@@ -65,7 +65,7 @@ impl Authority {
         let cert = entity_of(alloc, site, maker, &self, uri.as_str(), Held::Inherit)?;
         let content = self.manifest(alloc)?;
         let bytes = signed_object(alloc, maker, &self, ObjectKind::Manifest, &cert, &content)?;
-        maker.put(uri, bytes)?;
+        maker.put(alloc, uri, bytes)?;
         Ok(())
     }
 

@@ -76,11 +76,11 @@ impl Maker {
     }
 
     /// Puts an object there. Its hash.
-    pub fn put(&mut self, uri: String, bytes: Vec<u8>) -> Result<[u8; 32]> {
+    pub fn put(&mut self, alloc: Global, uri: String, bytes: Vec<u8>) -> Result<[u8; 32]> {
         let hash = Sha256::digest(&bytes);
         self.changes.push(Change::Put {
             uri: Uri::new(uri),
-            bytes: Content::new(bytes),
+            bytes: Content::new(alloc, bytes)?,
             replaces: None,
         })?;
         Ok(hash)

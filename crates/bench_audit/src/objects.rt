@@ -26,7 +26,7 @@ pub fn anchor(alloc: Global, site: &Site, maker: &mut Maker, held: Held) -> Resu
     };
     let bytes = maker.certify(alloc, &key, &cert)?;
     let uri = site.anchor_uri(alloc)?;
-    maker.put(site.anchor_uri(alloc)?, bytes)?;
+    maker.put(alloc, site.anchor_uri(alloc)?, bytes)?;
     Authority::new(alloc, "ta", key, uri)
 }
 

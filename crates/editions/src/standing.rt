@@ -47,7 +47,7 @@ impl Joins<Object, Change> for Object {
         match (stands, comes) {
             (_, Some(Change::Put { uri, bytes, .. })) => Ok(Some(Object {
                 uri: uri.copy(alloc)?,
-                bytes: bytes.copy(alloc)?,
+                bytes: bytes.share()?,
             })),
             (_, Some(Change::Withdraw { .. })) => Ok(None),
             (Some(object), None) => Ok(Some(object.copy(alloc)?)),
@@ -140,7 +140,8 @@ fn set_of(alloc: Global, objects: Vec<Object>) -> Result<ObjectSet, AllocError>
     Ok(set)
 }
 
-/// What the changes make of the set. Linear in what stands and what changes; what stays is copied.
+/// What the changes make of the set. Linear in how many objects stand and change; their bytes
+/// are shared, and not copied.
 pub fn next_set(alloc: Global, old: &ObjectSet, changes: &[Change]) -> Result<ObjectSet, AllocError>
     requires { Rise uri_of changes.now }
     ensures { IfOk result (λ set. IsApplied old.now changes.now set) }

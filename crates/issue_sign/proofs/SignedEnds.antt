@@ -56,8 +56,8 @@ crl-read crl tbs out signature is e h short =
 -- ---- objects
 
 -- An object made of what was signed: its spelling and what is known of it, by the signature.
-pub object-of : (signed : SignedBytes) (o : Object) (spelling : List ℕ → List ℕ) (Known : List ℕ → Type 0) → o.bytes ≡ signed.bytes.items
-    → o.hash ≡ sha256 signed.bytes.items → o.signature ≡ signed.signature → signed.bytes.items ≡ spelling signed.signature.bytes
+pub object-of : (signed : SignedBytes) (o : Object) (spelling : List ℕ → List ℕ) (Known : List ℕ → Type 0) → o.bytes ≡ signed.bytes
+    → o.hash ≡ sha256 signed.bytes → o.signature ≡ signed.signature → signed.bytes ≡ spelling signed.signature.bytes
     → Known signed.signature.bytes → IsObjectOf (spelling o.signature.bytes) (Known o.signature.bytes) o
 object-of signed o spelling Known bytes hash signature made known =
     subst (λ (g : Signature). IsObjectOf (spelling g.bytes) (Known g.bytes) o) (sym signature)
@@ -65,8 +65,8 @@ object-of signed o spelling Known bytes hash signature made known =
 
 -- The same of a signed object, whose content was seen as a slice.
 pub object-with : (kind : ObjectKind) (seen content : List ℕ) (cert : CertValue) (once : OneUse) (signed : SignedBytes) (o : Object) → seen ≡ content
-    → o.bytes ≡ signed.bytes.items → o.hash ≡ sha256 signed.bytes.items → o.signature ≡ signed.signature
-    → signed.bytes.items ≡ object_bytes kind seen cert signed.signature.bytes once.key.bytes once.signature.bytes
+    → o.bytes ≡ signed.bytes → o.hash ≡ sha256 signed.bytes → o.signature ≡ signed.signature
+    → signed.bytes ≡ object_bytes kind seen cert signed.signature.bytes once.key.bytes once.signature.bytes
     → IsObject kind seen cert signed.signature.bytes once.key.bytes once.signature.bytes
     → IsObjectOf (object_bytes kind content cert o.signature.bytes once.key.bytes once.signature.bytes)
     (IsObject kind content cert o.signature.bytes once.key.bytes once.signature.bytes) o

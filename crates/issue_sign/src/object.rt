@@ -24,15 +24,15 @@ pub struct Object {
 impl Object {
     /// The object of these bytes.
     pub fn new(signed: SignedBytes, once: Option<OneUse>) -> Object
-        ensures bytes { result.bytes ≡ signed.bytes.items }
-        ensures hash { result.hash ≡ sha256 signed.bytes.items }
+        ensures bytes { result.bytes ≡ signed.bytes }
+        ensures hash { result.hash ≡ sha256 signed.bytes }
         ensures once { result.once ≡ once }
         ensures signature { result.signature ≡ signed.signature }
     {
         let SignedBytes { bytes, signature } = signed;
-        let hash = Sha256::digest(&bytes);
+        let hash = Sha256::digest(bytes.as_slice());
         Object {
-            bytes: Content::new(bytes),
+            bytes,
             hash,
             once,
             signature,

@@ -7,6 +7,7 @@ ghost use Rattle.cert_obj.specs.Formats as certificates;
 ghost use Rattle.issue_sign.specs.Signed.{framed, IsSigned, IsEnd, IsCertificate};
 
 use cert_obj::Cert;
+use pub_set::Content;
 use signer_api::{PublicKey, Signature, Signer};
 use signer_ring::{CallFault, Ring};
 use std::alloc::Global;
@@ -14,7 +15,7 @@ use std::alloc::Global;
 /// An object that is signed, with the signature.
 #[derive(Debug, Drop)]
 pub struct SignedBytes {
-    pub bytes: Vec<u8>,
+    pub bytes: Content,
     pub signature: Signature,
 }
 
@@ -35,7 +36,7 @@ pub fn sign_certificate<S: Signer>(
     requires cert { IsCert (cert_value cert.now) }
 
     // The certificate with the key's signature, which is all that the signer did.
-    ensures bytes { IfOk result (λ made. made.bytes.items
+    ensures bytes { IfOk result (λ made. made.bytes
         ≡ framed (certificates.signed_bytes (cert_value cert.now)) made.signature.bytes) }
     ensures spelled { IfOk result (λ made. IsCertificate (cert_value cert.now) made.signature.bytes) }
     ensures signed { IfOk result (λ made. IsSigned signer key.now.bytes
@@ -49,6 +50,7 @@ pub fn sign_certificate<S: Signer>(
     let signed = tbs.as_slice();
     let signature = signer_ring::sign(alloc, ring, signer, key, signed)?;
     is_whole(&signature.bytes);
-    let bytes = cert_obj::write(alloc, signed, &signature)?;
+    let written = cert_obj::write(alloc, signed, &signature)?;
+    let bytes = Content::new(alloc, written)?;
     Ok(SignedBytes { bytes, signature })
 }

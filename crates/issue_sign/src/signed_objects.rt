@@ -17,6 +17,7 @@ use cert_obj::Cert;
 use cms_obj::ObjectKind;
 use crl_obj::Crl;
 use key_ids::KeyId;
+use pub_set::Content;
 use signer_api::{OneUse, PublicKey, Signer};
 use signer_ring::{CallFault, Ring};
 use std::alloc::Global;
@@ -33,7 +34,7 @@ pub fn sign_crl<S: Signer>(
     requires crl { IsCrl (crl_value crl.now) }
 
     // The CRL with the key's signature, which is all that the signer did.
-    ensures bytes { IfOk result (λ made. made.bytes.items
+    ensures bytes { IfOk result (λ made. made.bytes
         ≡ framed (crls.signed_bytes (crl_value crl.now)) made.signature.bytes) }
     ensures spelled { IfOk result (λ made. IsCrlOf (crl_value crl.now) made.signature.bytes) }
     ensures signed { IfOk result (λ made. IsSigned signer key.now.bytes
@@ -47,7 +48,8 @@ pub fn sign_crl<S: Signer>(
     let signed = tbs.as_slice();
     let signature = signer_ring::sign(alloc, ring, signer, key, signed)?;
     is_whole(&signature.bytes);
-    let bytes = crl_obj::write(alloc, signed, &signature)?;
+    let written = crl_obj::write(alloc, signed, &signature)?;
+    let bytes = Content::new(alloc, written)?;
     Ok(SignedBytes { bytes, signature })
 }
 
@@ -96,7 +98,7 @@ pub fn sign_object<S: Signer>(
     requires cert { IsCert (cert_value cert.now) }
 
     // The object, signed at the beginning of the certificate's time.
-    ensures bytes { IfOk result (λ made. made.bytes.items ≡ object_bytes kind content.now
+    ensures bytes { IfOk result (λ made. made.bytes ≡ object_bytes kind content.now
         (cert_value cert.now) made.signature.bytes once.now.key.bytes once.now.signature.bytes) }
     ensures spelled { IfOk result (λ made. IsObject kind content.now (cert_value cert.now)
         made.signature.bytes once.now.key.bytes once.now.signature.bytes) }
@@ -116,7 +118,7 @@ pub fn sign_object<S: Signer>(
         return Err(CallFault::Memory);
     }
     let id = KeyId::of(&once.key.bytes);
-    let bytes = cms_obj::write(
+    let written = cms_obj::write(
         alloc,
         kind,
         content,
@@ -125,6 +127,7 @@ pub fn sign_object<S: Signer>(
         cert.not_before,
         &once.signature,
     )?;
+    let bytes = Content::new(alloc, written)?;
     let signature = certificate.signature;
     Ok(SignedBytes { bytes, signature })
 }

@@ -59,7 +59,7 @@ fn put<'a>(alloc: Global, set: &ObjectSet, bytes: &'a [u8]) -> Result<(Change, &
     let replaces = hash_at(set, &uri);
     let put = Change::Put {
         uri,
-        bytes: Content::new(Vec::from_slice(alloc, content)?),
+        bytes: Content::new(alloc, Vec::from_slice(alloc, content)?)?,
         replaces,
     };
     Ok((put, bytes))

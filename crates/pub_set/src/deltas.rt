@@ -85,11 +85,11 @@ fn difference(
         (Some(gone), Some(come)) if gone.bytes.as_slice() != come.bytes.as_slice() => {
             (
                 come.uri.copy(alloc)?,
-                come.bytes.copy(alloc)?,
+                come.bytes.share()?,
                 Some(digest(&gone.bytes)),
             )
         }
-        (None, Some(come)) => (come.uri.copy(alloc)?, come.bytes.copy(alloc)?, None),
+        (None, Some(come)) => (come.uri.copy(alloc)?, come.bytes.share()?, None),
         (Some(gone), None) => {
             return Ok(Some(Change::Withdraw {
                 uri: gone.uri.copy(alloc)?,

@@ -22,13 +22,13 @@ pub struct Object {
 }
 
 impl Object {
-    /// The same object in memory of its own.
+    /// The same object. Its bytes are shared.
     pub fn copy(&self, alloc: Global) -> Result<Object, AllocError>
         ensures { IfOk result (λ copy. copy ≡ self.now) }
     {
         Ok(Object {
             uri: self.uri.copy(alloc)?,
-            bytes: self.bytes.copy(alloc)?,
+            bytes: self.bytes.share()?,
         })
     }
 }
@@ -135,7 +135,7 @@ impl ObjectSet {
         Ok(())
     }
 
-    /// The same set in memory of its own.
+    /// The same set, whose objects' bytes are shared.
     pub fn copy(&self, alloc: Global) -> Result<ObjectSet, AllocError>
         ensures { IfOk result (λ copy. copy ≡ self.now) }
     {

@@ -6,6 +6,7 @@ ghost use Rattle.std.specs.String.{string_bytes};
 use std::alloc::{AllocError, Global};
 use std::fmt;
 use std::marker::Model;
+use std::sync::Arc;
 
 /// The URI of an object. A clause sees the bytes of its text.
 #[derive(Debug, Drop)]
@@ -65,26 +66,29 @@ impl fmt::Display for Uri {
     }
 }
 
-/// The bytes of an object.
+/// The bytes of an object. Copies share them.
 #[derive(Debug, Drop)]
 pub struct Content {
-    bytes: Vec<u8>,
+    bytes: Arc<Vec<u8>>,
 }
 
 impl Model for Content {
     ghost use Rattle.std.specs.Prelude.{ℕ, List};
+    ghost use Rattle.std.specs.Arc.{arc_value};
 
     ghost Value = { List ℕ };
 
-    ghost view = { λ content. content.bytes.items };
+    ghost view = { λ content. (arc_value content.bytes).items };
 }
 
 impl Content {
-    /// These bytes. Takes no memory.
-    pub fn new(bytes: Vec<u8>) -> Content
-        ensures { result ≡ bytes.items }
+    /// These bytes. They aren't moved.
+    pub fn new(alloc: Global, bytes: Vec<u8>) -> Result<Content, AllocError>
+        ensures { IfOk result (λ content. content ≡ bytes.items) }
     {
-        Content { bytes }
+        Ok(Content {
+            bytes: Arc::new(alloc, bytes)?,
+        })
     }
 
     /// The bytes.
@@ -94,19 +98,13 @@ impl Content {
         self.bytes.as_slice()
     }
 
-    /// The bytes, given back.
-    pub fn into_vec(self) -> Vec<u8>
-        ensures { result.items ≡ self }
-    {
-        self.bytes
-    }
-
-    /// The same bytes in memory of their own.
-    pub fn copy(&self, alloc: Global) -> Result<Content, AllocError>
-        ensures { IfOk result (λ copy. copy ≡ self.now) }
+    /// The same bytes, which both then hold. It takes no memory, and fails only where so many hold
+    /// them that they can't be counted.
+    pub fn share(&self) -> Result<Content, AllocError>
+        ensures { IfOk result (λ shared. shared ≡ self.now) }
     {
         Ok(Content {
-            bytes: Vec::from_slice(alloc, &self.bytes)?,
+            bytes: Arc::try_clone(&self.bytes)?,
         })
     }
 }

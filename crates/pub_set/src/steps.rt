@@ -44,7 +44,7 @@ impl Change {
         }
     }
 
-    /// The same change in memory of its own.
+    /// The same change. The bytes that it puts are shared.
     pub fn copy(&self, alloc: Global) -> Result<Change, AllocError>
         ensures { IfOk result (λ copy. copy ≡ self.now) }
     {
@@ -55,7 +55,7 @@ impl Change {
                 replaces,
             } => Ok(Change::Put {
                 uri: uri.copy(alloc)?,
-                bytes: bytes.copy(alloc)?,
+                bytes: bytes.share()?,
                 replaces: *replaces,
             }),
             Change::Withdraw { uri, hash } => Ok(Change::Withdraw {

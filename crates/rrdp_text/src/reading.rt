@@ -46,7 +46,7 @@ fn object<'a>(
     let (content, rest) = fields::content(alloc, rest)?;
     let object = Object {
         uri: uri_of(alloc, uri)?,
-        bytes: Content::new(content),
+        bytes: Content::new(alloc, content)?,
     };
     Ok((object, uri, rest))
 }
@@ -82,7 +82,7 @@ fn put<'a>(
     let (replaces, content, rest) = put_parts(alloc, rest)?;
     let change = Change::Put {
         uri: uri_of(alloc, uri)?,
-        bytes: Content::new(content),
+        bytes: Content::new(alloc, content)?,
         replaces,
     };
     Ok((change, uri, rest))

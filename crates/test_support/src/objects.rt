@@ -68,7 +68,7 @@ pub fn read_uri(alloc: Global, text: &str) -> Result<Uri> {
 }
 
 fn read_bytes(alloc: Global, text: &str) -> Result<Content> {
-    Ok(Content::new(hex::decode(alloc, text)?))
+    Ok(Content::new(alloc, hex::decode(alloc, text)?)?)
 }
 
 /// The hash of hex digits.

@@ -30,7 +30,7 @@ pub fn set_of(alloc: Global, count: u32, changed: u32) -> Result<ObjectSet, Allo
         let number = i.saturating_mul(2);
         let uri = uri_of(alloc, number)?;
         let edition = if number == changed { 1 } else { 0 };
-        let bytes = Content::new(bytes_of(alloc, number, edition)?);
+        let bytes = Content::new(alloc, bytes_of(alloc, number, edition)?)?;
         if set.is_behind(uri.as_str()) {
             set.push(Object { uri, bytes })?;
         }
@@ -42,7 +42,7 @@ pub fn set_of(alloc: Global, count: u32, changed: u32) -> Result<ObjectSet, Allo
 pub fn put_new(alloc: Global, number: u32) -> Result<Change, AllocError> {
     Ok(Change::Put {
         uri: uri_of(alloc, number)?,
-        bytes: Content::new(bytes_of(alloc, number, 0)?),
+        bytes: Content::new(alloc, bytes_of(alloc, number, 0)?)?,
         replaces: None,
     })
 }
@@ -52,7 +52,7 @@ pub fn put_over(alloc: Global, number: u32, edition: u8) -> Result<Change, Alloc
     let replaced = bytes_of(alloc, number, 1 - edition % 2)?;
     Ok(Change::Put {
         uri: uri_of(alloc, number)?,
-        bytes: Content::new(bytes_of(alloc, number, edition % 2)?),
+        bytes: Content::new(alloc, bytes_of(alloc, number, edition % 2)?)?,
         replaces: Some(Sha256::digest(&replaced)),
     })
 }

@@ -19,7 +19,7 @@ fn content(alloc: Global, number: u32) -> Result<Content> {
     for place in 0..BYTES {
         bytes.push((place.wrapping_mul(7) ^ number.wrapping_mul(31)).to_le_bytes()[0])?;
     }
-    Ok(Content::new(bytes))
+    Ok(Content::new(alloc, bytes)?)
 }
 
 /// The set of so many objects.

@@ -73,7 +73,7 @@ pub fn changed(
     let mut changes = Vec::new(alloc);
     changes.push(Change::Put {
         uri: object.uri.copy(alloc)?,
-        bytes: Content::new(bytes),
+        bytes: Content::new(alloc, bytes)?,
         replaces: Some(Sha256::digest(held)),
     })?;
     let mut set = base.copy(alloc)?;

@@ -100,7 +100,7 @@ fn read_change(alloc: Global, set: &ObjectSet, part: &str) -> Result<Change> {
     Ok(Change::Put {
         replaces: hash_at(set, uri),
         uri: Uri::new(String::from_str(alloc, uri)?),
-        bytes: Content::new(hex::decode(alloc, bytes)?),
+        bytes: Content::new(alloc, hex::decode(alloc, bytes)?)?,
     })
 }
 

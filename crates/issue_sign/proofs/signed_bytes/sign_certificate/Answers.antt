@@ -21,6 +21,18 @@ returns-in_err-signature-clause-stopped g c =
     (end-of c.in_err-signature.field-0.0 c.args.signer c.args.key.now.bytes (signed_bytes (cert_value c.args.cert.now))
     c.args.ring.now c.sign.new.ring c.in_err-signature.ensures.stopped)
 
+pub returns-in_err-written-clause-stopped : goal.returns-in_err-written-clause-stopped
+returns-in_err-written-clause-stopped g c =
+    let p = err_from_is_err_and c.from_residual-in_err-written.result c.from_residual-in_err-written.ensures.1 in
+    let same = c.as_slice-signed.ensures.value ∙ c.in_ok-tbs.ensures in
+    rw (p.1, p.2)
+    (inr (
+      c.in_ok-signature.signature.bytes,
+      (signed-as c.args.signer c.args.key.now.bytes c.as_slice-signed.result.now (signed_bytes (cert_value c.args.cert.now))
+          c.args.ring.now c.sign.new.ring c.in_ok-signature.signature.bytes same c.in_ok-signature.ensures.signed
+          c.in_ok-signature.ensures.vouched c.is_whole.ensures).call,
+    ))
+
 pub returns-in_err-bytes-clause-stopped : goal.returns-in_err-bytes-clause-stopped
 returns-in_err-bytes-clause-stopped g c =
     let p = err_from_is_err_and c.from_residual-in_err-bytes.result c.from_residual-in_err-bytes.ensures.1 in
@@ -35,16 +47,17 @@ returns-in_err-bytes-clause-stopped g c =
 
 pub returns-clause-bytes : goal.returns-clause-bytes
 returns-clause-bytes g c =
-    framed-as c.in_ok-bytes.bytes.items c.as_slice-signed.result.now (signed_bytes (cert_value c.args.cert.now))
-    c.in_ok-signature.signature.bytes c.in_ok-bytes.ensures.bytes
+    c.in_ok-bytes.ensures
+    ∙ framed-as c.in_ok-written.written.items c.as_slice-signed.result.now (signed_bytes (cert_value c.args.cert.now))
+    c.in_ok-signature.signature.bytes c.in_ok-written.ensures.bytes
     (c.as_slice-signed.ensures.value ∙ c.in_ok-tbs.ensures)
 
 pub returns-clause-spelled : goal.returns-clause-spelled
 returns-clause-spelled g c =
     let same = c.as_slice-signed.ensures.value ∙ c.in_ok-tbs.ensures in
-    certificate-read (cert_value c.args.cert.now) c.as_slice-signed.result.now c.in_ok-bytes.bytes.items
-    c.in_ok-signature.signature.bytes c.in_ok-bytes.ensures.bytes same
-    (c.in_ok-bytes.ensures.spelled (cert_value c.args.cert.now) c.requires.cert same)
+    certificate-read (cert_value c.args.cert.now) c.as_slice-signed.result.now c.in_ok-written.written.items
+    c.in_ok-signature.signature.bytes c.in_ok-written.ensures.bytes same
+    (c.in_ok-written.ensures.spelled (cert_value c.args.cert.now) c.requires.cert same)
 
 pub returns-clause-signed : goal.returns-clause-signed
 returns-clause-signed g c =

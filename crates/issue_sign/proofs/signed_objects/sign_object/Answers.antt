@@ -8,6 +8,12 @@ pub returns-then-not-fits-clause-stopped : goal.returns-then-not-fits-clause-sto
 returns-then-not-fits-clause-stopped g c =
     inr (c.in_ok-certificate.certificate.signature.bytes, c.in_ok-certificate.ensures.signed.call)
 
+pub returns-in_err-written-clause-stopped : goal.returns-in_err-written-clause-stopped
+returns-in_err-written-clause-stopped g c =
+    let p = err_from_is_err_and c.from_residual-in_err-written.result c.from_residual-in_err-written.ensures.1 in
+    rw (p.1, p.2)
+    (inr (c.in_ok-certificate.certificate.signature.bytes, c.in_ok-certificate.ensures.signed.call))
+
 pub returns-in_err-bytes-clause-stopped : goal.returns-in_err-bytes-clause-stopped
 returns-in_err-bytes-clause-stopped g c =
     let p = err_from_is_err_and c.from_residual-in_err-bytes.result c.from_residual-in_err-bytes.ensures.1 in
@@ -16,16 +22,17 @@ returns-in_err-bytes-clause-stopped g c =
 
 pub returns-clause-bytes : goal.returns-clause-bytes
 returns-clause-bytes g c =
-    object-as c.args.kind c.args.content.now (cert_value c.args.cert.now) c.as_slice-whole.result.now c.of-id.result.bytes
+    c.in_ok-bytes.ensures
+    ∙ object-as c.args.kind c.args.content.now (cert_value c.args.cert.now) c.as_slice-whole.result.now c.of-id.result.bytes
     c.in_ok-certificate.certificate.signature.bytes c.args.once.now.key.bytes c.args.once.now.signature.bytes
-    c.in_ok-bytes.bytes.items c.args.cert.now.not_before c.in_ok-bytes.ensures.bytes
-    (c.as_slice-whole.ensures.value ∙ c.in_ok-certificate.ensures.bytes) c.of-id.ensures refl
+    c.in_ok-written.written.items c.args.cert.now.not_before c.in_ok-written.ensures.bytes
+    (c.as_slice-whole.ensures ∙ c.in_ok-certificate.ensures.bytes) c.of-id.ensures refl
 
 pub returns-clause-spelled : goal.returns-clause-spelled
 returns-clause-spelled g c = record {
   certificate = c.in_ok-certificate.ensures.spelled;
   object = object-read c.args.kind c.args.content.now (cert_value c.args.cert.now) c.as_slice-whole.result.now c.of-id.result.bytes
       c.in_ok-certificate.certificate.signature.bytes c.args.once.now.key.bytes c.args.once.now.signature.bytes
-      c.in_ok-bytes.bytes.items c.args.cert.now.not_before c.in_ok-bytes.ensures.bytes
-      (c.as_slice-whole.ensures.value ∙ c.in_ok-certificate.ensures.bytes) c.of-id.ensures refl c.in_ok-bytes.ensures.spelled;
+      c.in_ok-written.written.items c.args.cert.now.not_before c.in_ok-written.ensures.bytes
+      (c.as_slice-whole.ensures ∙ c.in_ok-certificate.ensures.bytes) c.of-id.ensures refl c.in_ok-written.ensures.spelled;
 }
