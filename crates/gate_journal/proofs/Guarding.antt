@@ -38,6 +38,11 @@ pub shown_known : (count : ℕ) (content : Option (List ℕ)) → IfSome content
 shown_known count None = tt
 shown_known count (Some bytes) = refl
 
+-- and bytes where records are
+pub shown_told : (count : ℕ) (content : Option (List ℕ)) → IfSome (shows count content) (λ _. IsSome content)
+shown_told count None = tt
+shown_told count (Some bytes) = refl
+
 module _ (limit count : ℕ) where
   -- of an open journal
   pub open_stands : (content : Option (List ℕ)) (may_leave : List ℕ → Type 0) (doubt : Option (List ℕ)) (shut : Option (ℕ × ℕ)) → shut ≡ None → IsGuarded content may_leave limit count doubt shut → (c : List ℕ) → may_leave c → RecoversToKnown limit (shows count content) c

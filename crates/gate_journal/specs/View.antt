@@ -46,8 +46,9 @@ stake_of (Some rose) doubt payload = doubt
 pub record IsSafe {D : Type 0} (disk_of : DiskGhosts D) (journal : View D) : Type 0 where
   pub bytes : IfSome (disk_of.content journal.disk) (λ bytes. RecoversToInDoubt journal.limit journal.records journal.doubt bytes)
   pub images : (c : List ℕ) → disk_of.may_leave journal.disk c → RecoversToInDoubt journal.limit journal.records journal.doubt c
-  -- the records are known where the bytes are
+  -- the records are known where the bytes are, and the bytes where the records are
   pub known : IfSome (disk_of.content journal.disk) (λ _. IsSome journal.records)
+  pub told : IfSome journal.records (λ _. IsSome (disk_of.content journal.disk))
   -- an open journal has no record in doubt
   pub settled : journal.shut ≡ None → journal.doubt ≡ None
 

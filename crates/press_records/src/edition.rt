@@ -6,6 +6,7 @@ ghost use Rattle.record_forms.specs.Forms.{read_whole};
 ghost use Rattle.record_forms.specs.Outcome.{Gives, IsUnlessMemory};
 ghost use Rattle.press_records.specs.Rows.{row_value};
 ghost use Rattle.press_records.specs.Edition.{EditionValue, StandingValue, may_follow, edition_fields, edition_told, editions};
+ghost use Rattle.press_records.specs.Recordable.{IsTyped};
 ghost use Rattle.press_records.specs.Views.{standing_value, edition_value, fields_value, given_value};
 ghost use Rattle.press_records.specs.inner.Raw.{edition_lists, lists_value, spelled_lists};
 
@@ -13,6 +14,7 @@ use crate::changes::{Changes, ChangesOver, uris_rise};
 use crate::numbers::Numbers;
 use crate::rows::{RawRow, RawRows, RowsOver, raw_rows};
 use crate::rules::{are_live, is_cut, is_dated, is_next};
+use crate::types::edition_fits;
 use items::Items;
 use key_roll::KeyRow;
 use pub_set::{Change, ObjectSet};
@@ -217,9 +219,12 @@ impl<'a> EditionRecord<'a> {
         before: &[KeyRow],
         given: GivenEdition<'a>,
     ) -> Result<EditionRecord<'a>, AllocError>
-        ensures { IfOk result (λ made. (standing : StandingValue) → standing.rows ≡ map row_value before.now
+        ensures spelled { IfOk result (λ made. (standing : StandingValue) → standing.rows ≡ map row_value before.now
             → made ≡ (editions standing).spelling (given_value given.entry)) }
+        // What the edition's types say of it.
+        ensures typed { IfOk result (λ _. IsTyped (given_value given.entry)) }
     {
+        edition_fits(&given);
         let rows = raw_rows(alloc, before, given.rows)?;
         Ok(EditionRecord { given, rows })
     }

@@ -11,6 +11,7 @@ mod recovered;
 mod rows;
 mod rules;
 mod store;
+mod types;
 
 pub use edition::{EditionRecord, GivenEdition, ReadEdition, Standing, read_edition};
 pub use laws::{

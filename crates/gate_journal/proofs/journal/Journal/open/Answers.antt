@@ -2,7 +2,7 @@ use Rattle.std.proofs.Common.{◌≡◌, None, length, refl, rules}
 use Rattle.gate_journal.specs.inner.Kept.{IsConsistentJournal, IsGuarded}
 use Rattle.gate_journal.proofs.Laid.{shown_sizes}
 use Rattle.gate_journal.proofs.Keeping.{kept_found}
-use Rattle.gate_journal.proofs.Guarding.{guarded_found, open_stands, shows_found, known_of_images, shown_known}
+use Rattle.gate_journal.proofs.Guarding.{guarded_found, open_stands, shows_found, known_of_images, shown_known, shown_told}
 use Rattle.gate_journal.proofs.Found.{found_laid, unknown_opened}
 use Rattle.gate_journal.proofs.journal.Journal.open.Goals as goal
 
@@ -46,4 +46,4 @@ returns-in-Ok-clause-durable g c =
 pub returns-in-Ok-clause-safe : goal.returns-in-Ok-clause-safe
 returns-in-Ok-clause-safe g c =
     let guarded = (invariant_of-result g c).1 in
-    record { bytes = known_of_images (g.D.Disk.content c.find.new.disk) (g.D.Disk.may_leave c.find.new.disk) _ (g.met.D.Disk.left_as_read c.find.new.disk) guarded.images; images = guarded.images; known = shown_known c.len.result (g.D.Disk.content c.find.new.disk); settled = guarded.settled }
+    record { bytes = known_of_images (g.D.Disk.content c.find.new.disk) (g.D.Disk.may_leave c.find.new.disk) _ (g.met.D.Disk.left_as_read c.find.new.disk) guarded.images; images = guarded.images; known = shown_known c.len.result (g.D.Disk.content c.find.new.disk); told = shown_told c.len.result (g.D.Disk.content c.find.new.disk); settled = guarded.settled }

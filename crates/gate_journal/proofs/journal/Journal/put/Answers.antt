@@ -7,7 +7,7 @@ use Rattle.gate_journal.specs.View.{View, RecoversToOrWith}
 use Rattle.gate_journal.specs.declared.place.Place.{Place}
 use Rattle.disk_api.specs.laws.RunLaws.{weaker}
 use Rattle.gate_journal.proofs.Keeping.{kept_long, open_failed, open_failed_shows, open_sized, open_stored_shows}
-use Rattle.gate_journal.proofs.Guarding.{known_of_images, shown_known, open_stands, storing_stands, guarded_failed, guarded_stored}
+use Rattle.gate_journal.proofs.Guarding.{known_of_images, shown_known, shown_told, open_stands, storing_stands, guarded_failed, guarded_stored}
 use Rattle.gate_journal.proofs.journal.Journal.put.Goals as goal
 
 pub store-requires-clause-known : goal.store-requires-clause-known
@@ -143,9 +143,9 @@ returns-in-Err-clause-any_moment g c =
 pub returns-in-Ok-clause-safe : goal.returns-in-Ok-clause-safe
 returns-in-Ok-clause-safe g c =
     let guarded = (invariant_of-self g c).1 in
-    record { bytes = known_of_images (g.D.Disk.content c.store.new.disk) (g.D.Disk.may_leave c.store.new.disk) _ (g.met.D.Disk.left_as_read c.store.new.disk) guarded.images; images = guarded.images; known = shown_known (c.self.inside.count + 1) (g.D.Disk.content c.store.new.disk); settled = guarded.settled }
+    record { bytes = known_of_images (g.D.Disk.content c.store.new.disk) (g.D.Disk.may_leave c.store.new.disk) _ (g.met.D.Disk.left_as_read c.store.new.disk) guarded.images; images = guarded.images; known = shown_known (c.self.inside.count + 1) (g.D.Disk.content c.store.new.disk); told = shown_told (c.self.inside.count + 1) (g.D.Disk.content c.store.new.disk); settled = guarded.settled }
 
 pub returns-in-Err-clause-safe : goal.returns-in-Err-clause-safe
 returns-in-Err-clause-safe g c =
     let guarded = (invariant_of-self-in-Err g c).1 in
-    record { bytes = known_of_images (g.D.Disk.content c.store.new.disk) (g.D.Disk.may_leave c.store.new.disk) _ (g.met.D.Disk.left_as_read c.store.new.disk) guarded.images; images = guarded.images; known = shown_known c.self.inside.count (g.D.Disk.content c.store.new.disk); settled = guarded.settled }
+    record { bytes = known_of_images (g.D.Disk.content c.store.new.disk) (g.D.Disk.may_leave c.store.new.disk) _ (g.met.D.Disk.left_as_read c.store.new.disk) guarded.images; images = guarded.images; known = shown_known c.self.inside.count (g.D.Disk.content c.store.new.disk); told = shown_told c.self.inside.count (g.D.Disk.content c.store.new.disk); settled = guarded.settled }

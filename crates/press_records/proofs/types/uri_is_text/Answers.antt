@@ -1,0 +1,9 @@
+use Rattle.std.proofs.Common.{◌≡◌, List, ℕ, true, ◌∙◌, ap, subst}
+use Rattle.std.specs.Str.{is_utf8, IsUtf8}
+use Rattle.std.proofs.lemmas.Str.{is_utf8-from_IsUtf8}
+use Rattle.press_records.proofs.types.uri_is_text.Goals as goal
+
+pub returns : goal.returns
+returns c =
+    let same = c.as_bytes.ensures.value ∙ (c.as_str.ensures ∙ c.uri.ensures) in
+    subst (λ (bytes : List ℕ). is_utf8 bytes ≡ true) same (is_utf8-from_IsUtf8 c.as_bytes.result.now c.as_bytes.ensures.utf8)
