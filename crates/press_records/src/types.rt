@@ -13,6 +13,14 @@ use crate::edition::GivenEdition;
 use key_roll::{KeyRow, RevokedRow};
 use pub_set::Change;
 
+fn fits(number: u64)
+    ensures { number < 2 ^ 64 }
+{}
+
+fn is_short(number: u32)
+    ensures { number < 2 ^ 32 }
+{}
+
 fn numbers_fit(numbers: &[u64])
     ensures { AllByRecursion (λ n. n < 2 ^ 64) numbers.now }
 {}
@@ -20,7 +28,9 @@ fn numbers_fit(numbers: &[u64])
 fn entry_fits(entry: &RevokedRow)
     ensures { IsEntry entry.now }
 {
-    let _numbers = (entry.serial, entry.not_after, entry.revoked_at);
+    fits(entry.serial);
+    fits(entry.not_after);
+    fits(entry.revoked_at);
 }
 
 fn entries_fit(entries: &[RevokedRow])
@@ -36,8 +46,13 @@ fn entries_fit(entries: &[RevokedRow])
 fn row_fits(row: &KeyRow)
     ensures { IsTypedRow (row_value row.now) }
 {
-    let _names = (row.desk, row.signer, row.done);
-    let _counts = (row.next_serial, row.number, row.this_update, row.since);
+    is_short(row.desk);
+    is_short(row.signer);
+    is_short(row.done);
+    fits(row.next_serial);
+    fits(row.number);
+    fits(row.this_update);
+    fits(row.since);
     entries_fit(row.revoked.as_slice());
 }
 
@@ -71,7 +86,8 @@ fn uris_are_texts(changes: &[Change])
 pub fn edition_fits(given: &GivenEdition<'_>)
     ensures { IsTyped (given_value given.now) }
 {
-    let _numbers = (given.serial, given.moment);
+    fits(given.serial);
+    fits(given.moment);
     numbers_fit(given.cut);
     rows_fit(given.rows);
     uris_are_texts(given.changes);

@@ -5,5 +5,5 @@ use Rattle.press_records.proofs.types.uri_is_text.Goals as goal
 
 pub returns : goal.returns
 returns c =
-    let same = c.as_bytes.ensures.value ∙ (c.as_str.ensures ∙ c.uri.ensures) in
-    subst (λ (bytes : List ℕ). is_utf8 bytes ≡ true) same (is_utf8-from_IsUtf8 c.as_bytes.result.now c.as_bytes.ensures.utf8)
+    let same = c.as_bytes-text.ensures.value ∙ (c.as_str.ensures ∙ c.uri.ensures) in
+    subst (λ (bytes : List ℕ). is_utf8 bytes ≡ true) same (is_utf8-from_IsUtf8 c.as_bytes-text.result.now c.as_bytes-text.ensures.utf8)
