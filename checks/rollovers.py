@@ -88,9 +88,10 @@ def main():
     lines, told = steps()
     name = "a tree of four levels, rolled over at once and in turn"
     case = "\t".join([name, "Rehearsal", SEED, "", *lines])
-    done = subprocess.run([program], input=case + "\n", capture_output=True, text=True)
-    got = done.stdout.rstrip("\n").split("\t")
-    if done.returncode or got[:1] != [name]:
+    done = subprocess.run([program], input=f"# publications\n{case}\n", capture_output=True, text=True)
+    heading, _, answer = done.stdout.rstrip("\n").partition("\n")
+    got = answer.split("\t")
+    if done.returncode or heading != "# publications" or got[:1] != [name]:
         sys.exit(f"checks/rollovers: status {done.returncode}\n{done.stdout[:2000]}{done.stderr[-2000:]}")
     for at, (have, want) in enumerate(zip(got[1:], told)):
         if have != want:
