@@ -88,6 +88,7 @@ fn note_point(
         key: authority.cert.key,
         number: listing.crl.number,
         this_update: listing.crl.this_update,
+        manifest_update: listing.manifest.body.this_update,
         greatest_serial: 0,
         crl: copied(alloc, &listing.crl.entries)?,
     })?;

@@ -26,6 +26,7 @@ point_value p = record {
   key = p.key.bytes;
   number = p.number;
   this_update = p.this_update;
+  manifest_update = p.manifest_update;
   greatest_serial = p.greatest_serial;
   crl = p.crl.items;
 }

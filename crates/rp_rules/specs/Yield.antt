@@ -4,6 +4,7 @@ use Rattle.std.specs.List.{flat_map, fold}
 use Rattle.pub_set.specs.Changes.{Contents}
 use Rattle.cert_obj.specs.Values.{CertValue, SignedCert, is_issued}
 use Rattle.crl_obj.specs.declared.values.CrlEntry.{CrlEntry}
+use Rattle.payloads.specs.ManifestFormats.{this_update_of}
 use Rattle.payloads.specs.RoaFormats.{Entry, roa_asn, roa_entries}
 use Rattle.rp_rules.specs.Objects.{SignedRoa, certificate_in, roa_in}
 use Rattle.rp_rules.specs.Authorities.{Authority, listed_uri}
@@ -68,12 +69,13 @@ greatest_serial held p =
     fold max (max (own_serial p.authority.cert) p.manifest.certificate.cert.serial)
     (map (listed_serial held p) (other_files p))
 
--- A point: its key, the number of manifest and CRL, when the CRL was made, the greatest serial,
--- the CRL's entries.
+-- A point: its key, the number of manifest and CRL, when the CRL and when the manifest was made, the
+-- greatest serial, the CRL's entries.
 pub record PointValue : Type 0 where
   pub key : List ℕ
   pub number : ℕ
   pub this_update : ℕ
+  pub manifest_update : ℕ
   pub greatest_serial : ℕ
   pub crl : List CrlEntry
 
@@ -82,6 +84,7 @@ point_value held p = record {
   key = p.authority.cert.key;
   number = p.crl.number;
   this_update = p.crl.this_update;
+  manifest_update = this_update_of p.manifest.body;
   greatest_serial = greatest_serial held p;
   crl = p.crl.entries;
 }

@@ -20,6 +20,8 @@ pub struct AuditedPoint {
     pub number: u64,
     /// When the CRL was made, in seconds since 1970 (RFC 5280 section 5.1.2.4).
     pub this_update: u64,
+    /// When the manifest was made, in seconds since 1970 (RFC 9286 section 4.2.1).
+    pub manifest_update: u64,
     /// The greatest serial of the certificates that the point lists or holds, and of the anchor's own.
     pub greatest_serial: u64,
     /// The entries of the CRL.

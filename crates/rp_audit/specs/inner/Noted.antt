@@ -2,6 +2,7 @@
 use Rattle.std.specs.Prelude.{◌≡◌, ℕ, zero, suc, List, [], ◌∷◌, ◌++◌, Ok}
 use Rattle.std.specs.BTreeSet.{contains_text}
 use Rattle.pub_set.specs.Changes.{Contents}
+use Rattle.payloads.specs.ManifestFormats.{this_update_of}
 use Rattle.rp_rules.specs.Checks.{Checked, ◌>>=◌}
 use Rattle.rp_rules.specs.Authorities.{listed_uri}
 use Rattle.rp_rules.specs.Points.{Point, accepted_roa}
@@ -56,6 +57,7 @@ open_point p = record {
   key = p.authority.cert.key;
   number = p.crl.number;
   this_update = p.crl.this_update;
+  manifest_update = this_update_of p.manifest.body;
   greatest_serial = 0;
   crl = p.crl.entries;
 }
