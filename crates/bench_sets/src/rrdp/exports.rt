@@ -40,7 +40,10 @@ fn set_of(alloc: Global, objects: u32, variant: u32) -> Result<ObjectSet> {
     for number in 0..objects {
         let object = Object {
             uri: Uri::new(format!(in alloc; "{RSYNC_BASE}isp/0/{number:040}.roa")?),
-            bytes: Content::new(alloc, filled(alloc, BYTES, number.wrapping_mul(2) ^ variant)?)?,
+            bytes: Content::new(
+                alloc,
+                filled(alloc, BYTES, number.wrapping_mul(2) ^ variant)?,
+            )?,
         };
         if !set.is_behind(object.uri.as_str()) {
             bail!("out of order");
