@@ -6,6 +6,8 @@ pub mod Given
 pub mod Numbers
 pub mod Views
 pub mod History
+pub mod Left
+pub mod Lives
 pub mod Tables
 pub mod Lasts
 pub mod Crls

@@ -10,13 +10,16 @@ pub mod Walks
 pub mod Whole
 pub mod Checks
 pub mod Endings
+pub mod Folders
 pub mod Rising
 pub mod Canonical
 pub mod Serials
 pub mod Point
 pub mod Members
 pub mod Seats
+pub mod Stays
 pub mod Roas
+pub mod Lasting
 pub mod Children
 pub mod Inside
 pub mod Tops
@@ -24,8 +27,10 @@ pub mod Stands
 pub mod Listed
 pub mod Files
 pub mod Build
+pub mod NewLists
 pub mod Levelled
 pub mod Apart
+pub mod Emptied
 pub mod Everywhere
 pub mod Trees
 pub mod Assembled

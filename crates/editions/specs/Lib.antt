@@ -8,6 +8,7 @@ pub mod Gathering
 pub mod Held
 pub mod Joining
 pub mod Keys
+pub mod MadeIn
 pub mod Moments
 pub mod Names
 pub mod Objects

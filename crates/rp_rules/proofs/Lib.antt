@@ -1,5 +1,6 @@
 pub mod Lists
 pub mod Kept
+pub mod Lasting
 pub mod Spans
 pub mod Vouching
 pub mod Accepting

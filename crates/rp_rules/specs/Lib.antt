@@ -7,6 +7,7 @@ pub mod Certificates
 pub mod Points
 pub mod Walk
 pub mod Accepted
+pub mod Lasting
 pub mod Asked
 pub mod Yield
 pub mod Views

@@ -1,17 +1,28 @@
 //! Laws of the walk.
 
-ghost use Rattle.std.specs.Prelude.{◌≡◌, ◌≤◌, ◌↔◌, ℕ, true, List};
+ghost use Rattle.std.specs.Prelude.{◌≡◌, ◌≤◌, ◌↔◌, ℕ, true, List, Ok};
 ghost use Rattle.std.specs.List.{Contains};
 ghost use Rattle.res_sets.specs.declared.numbers.Family.{Family};
-ghost use Rattle.cert_obj.specs.Values.{IsListOf};
+ghost use Rattle.cert_obj.specs.Values.{IsListOf, SignedCert};
+ghost use Rattle.crl_obj.specs.declared.values.CrlEntry.{CrlEntry};
+ghost use Rattle.crl_obj.specs.Values.{CrlValue, SignedCrl};
 ghost use Rattle.pub_set.specs.declared.objects.Object.{Object};
 ghost use Rattle.pub_set.specs.Objects.{content_at};
+ghost use Rattle.pub_set.specs.Changes.{Contents};
 ghost use Rattle.rp_rules.specs.Holdings.{Span, has_span, has_number, is_inside};
+ghost use Rattle.rp_rules.specs.Objects.{SignedManifest, SignedRoa};
+ghost use Rattle.rp_rules.specs.Authorities.{Authority};
 ghost use Rattle.rp_rules.specs.Certificates.{WalkContext, Vouched, VouchesMore, vouching, File};
+ghost use Rattle.rp_rules.specs.Certificates.{accepted_anchor, accepted_authority};
 ghost use Rattle.rp_rules.specs.Points.{Point, are_distinct, files_of};
+ghost use Rattle.rp_rules.specs.Points.{accepted_manifest, accepted_crl, accepted_point, accepted_roa};
 ghost use Rattle.rp_rules.specs.Walk.{Visit, Published, visited, walk};
 ghost use Rattle.rp_rules.specs.Accepted.{AreAccepted, IsReached};
 ghost use Rattle.rp_rules.specs.Asked.{SaysSame};
+ghost use Rattle.rp_rules.specs.Lasting.{IsSameIssuer, LooksAgain, KeepsAnchorRules, KeepsCertificateRules};
+ghost use Rattle.rp_rules.specs.Lasting.{KeepsManifestRules, KeepsCrlRules, KeepsPointRules, KeepsRoaRules};
+ghost use Rattle.rp_rules.specs.Lasting.{IsLastingAnchor, IsLastingCertificate, IsLastingManifest, IsLastingCrl};
+ghost use Rattle.rp_rules.specs.Lasting.{IsLastingRoa};
 ghost use Rattle.rp_rules.specs.Sound.{IsSoundBy};
 
 /// A sound set stays sound where more is vouched, and the walk is the same.
@@ -64,4 +75,45 @@ pub fn sets_are_inside_by_numbers()
     ensures { (family : Family) (set other : List Span) → IsListOf family set → IsListOf family other
         → (is_inside set other ≡ true)
         ↔ ((n : ℕ) → has_number set n ≡ true → has_number other n ≡ true) }
+{}
+
+/// An object is accepted exactly where it keeps the rules of its kind: those that last, under its issuer's key and
+/// places, and those that are asked at each walk.
+pub fn accepted_objects_keep_the_rules()
+    ensures anchors { (s : WalkContext) (held : Contents) (anchor : Authority)
+        → (accepted_anchor s held ≡ Ok anchor) ↔ KeepsAnchorRules s held anchor }
+    ensures certificates { (s : WalkContext) (held : Contents) (issuer : Authority) (revoked : List CrlEntry)
+        (visited : List (List ℕ)) (file : File) (child : Authority)
+        → (accepted_authority s held issuer revoked visited file ≡ Ok child)
+        ↔ KeepsCertificateRules s held issuer revoked visited file child }
+    ensures manifests { (s : WalkContext) (held : Contents) (issuer : Authority) (visited : List (List ℕ))
+        (m : SignedManifest)
+        → (accepted_manifest s held issuer visited ≡ Ok m) ↔ KeepsManifestRules s held issuer visited m }
+    ensures crls { (s : WalkContext) (held : Contents) (issuer : Authority) (visited : List (List ℕ)) (file : File)
+        (crl : CrlValue)
+        → (accepted_crl s held issuer visited file ≡ Ok crl) ↔ KeepsCrlRules s held issuer visited file crl }
+    ensures points { (s : WalkContext) (held : Contents) (authority : Authority) (visited : List (List ℕ)) (p : Point)
+        → (accepted_point s held authority visited ≡ Ok p) ↔ KeepsPointRules s held authority visited p }
+    ensures roas { (s : WalkContext) (held : Contents) (p : Point) (visited : List (List ℕ)) (file : File)
+        (r : SignedRoa)
+        → (accepted_roa s held p visited file ≡ Ok r) ↔ KeepsRoaRules s held p visited file r }
+{}
+
+/// The rules that last are kept at any other look too, at whatever moment and with no less vouched, under the same key
+/// in the same places.
+pub fn lasting_rules_last()
+    ensures anchors { (s other : WalkContext) (bytes : List ℕ) (c : SignedCert) → LooksAgain s other
+        → IsLastingAnchor s bytes c → IsLastingAnchor other bytes c }
+    ensures certificates { (s other : WalkContext) (one two : Authority) (uri bytes : List ℕ) (c : SignedCert)
+        → LooksAgain s other → IsSameIssuer one two
+        → IsLastingCertificate s one uri bytes c → IsLastingCertificate other two uri bytes c }
+    ensures manifests { (s other : WalkContext) (one two : Authority) (bytes : List ℕ) (m : SignedManifest)
+        → LooksAgain s other → IsSameIssuer one two
+        → IsLastingManifest s one bytes m → IsLastingManifest other two bytes m }
+    ensures crls { (s other : WalkContext) (one two : Authority) (uri bytes : List ℕ) (c : SignedCrl)
+        → LooksAgain s other → IsSameIssuer one two
+        → IsLastingCrl s one uri bytes c → IsLastingCrl other two uri bytes c }
+    ensures roas { (s other : WalkContext) (one two : Authority) (uri bytes : List ℕ) (r : SignedRoa)
+        → LooksAgain s other → IsSameIssuer one two
+        → IsLastingRoa s one uri bytes r → IsLastingRoa other two uri bytes r }
 {}

@@ -8,8 +8,8 @@ mod rules;
 
 pub use audited::{Audited, AuditedPoint, YieldedOrigin};
 pub use laws::{
-    asked_signatures_decide, each_uri_is_visited_once, listed_files_are_visited,
-    more_vouched_stays_sound, sets_are_inside_by_numbers, spans_are_had_by_numbers,
-    visits_are_accepted,
+    accepted_objects_keep_the_rules, asked_signatures_decide, each_uri_is_visited_once,
+    lasting_rules_last, listed_files_are_visited, more_vouched_stays_sound,
+    sets_are_inside_by_numbers, spans_are_had_by_numbers, visits_are_accepted,
 };
 pub use rules::Rule;

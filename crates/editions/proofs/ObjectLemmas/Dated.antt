@@ -1,12 +1,13 @@
 -- What an edition makes has the edition's moment, so it isn't what stood before it.
-use Rattle.std.proofs.Common.{◌≡◌, ℕ, zero, suc, ◌+◌, ◌<◌, Bool, true, false, cond, Some, None, List, [], ◌∷◌, ◌++◌, length, take, refl, sym, ap, subst, ◌∙◌, arith, ◌⊎◌, inl, inr}
-use Rattle.std.proofs.lemmas.Option.{same_Some, none-some}
+use Rattle.std.proofs.Common.{◌≡◌, ℕ, zero, suc, ◌<◌, ◌≤◌, Bool, true, false, cond, Some, List, length, take, refl, sym, ap, ◌∙◌, arith, ◌⊎◌, inl, inr}
+use Rattle.std.specs.List.{slice_get}
+use Rattle.std.proofs.lemmas.Bool.{cases_eq}
+use Rattle.std.proofs.lemmas.Option.{same_Some, none-some, slice_get_within}
 use Rattle.std.proofs.lemmas.List.{take_all}
 use Rattle.cert_obj.specs.Values.{CertValue, SignedCert}
 use Rattle.crl_obj.specs.Values.{CrlValue, SignedCrl}
 use Rattle.cms_obj.specs.Values.{ObjectValue}
 use Rattle.rp_rules.specs.Objects.{certificate_in, crl_in, object_in}
-use Rattle.pub_set.specs.Changes.{Contents}
 use Rattle.issue_drafts.specs.WorkKeys.{Keys}
 use Rattle.issue_drafts.specs.IssueInput.{IssueInput}
 use Rattle.issue_drafts.specs.Publishers.{is_key, publishing_of}
@@ -17,10 +18,11 @@ use Rattle.editions.specs.Edition.{Edition, state_after, set_after}
 use Rattle.editions.specs.Wanted.{there, whole, new_objects}
 use Rattle.editions.specs.Objects.{Issuance, moment_of, IsObject}
 use Rattle.editions.specs.Step.{Premises, AreSteps}
+use Rattle.editions.specs.MadeIn.{issuance_of}
 use Rattle.editions.proofs.ObjectLemmas.OneKind.{with-certificate, with-crl, with-object}
-use Rattle.editions.proofs.ObjectLemmas.Standing.{put-at}
 use Rattle.editions.proofs.ObjectLemmas.Given.{roa-read, manifest-read}
-use Rattle.editions.proofs.ObjectLemmas.History.{there-is, take-next, moment-after, seen}
+use Rattle.editions.proofs.ObjectLemmas.History.{there-is, moment-before, rises}
+use Rattle.editions.proofs.ObjectLemmas.Left.{was-made}
 
 -- ---- the moment that bytes tell
 
@@ -109,39 +111,38 @@ made-at m d Manifest bytes is = inr (inr (record {
 -- ---- what stands
 
 module _ (premises : Premises) (editions : List Edition) (steps : AreSteps premises editions) where
-  stood-by : (k : ℕ) → length editions ≡ suc k → (uri bytes : List ℕ)
-      → set_after editions uri ≡ Some bytes → IsAt bytes (state_after editions).moment
-  stood-by k long uri bytes stands =
-      let last = there-is editions k (omega (arith, long)) in
-      let v = seen premises editions steps k last.0 last.1 in
-      let all : take (k + 1) editions ≡ editions =
-      take_all (k + 1) editions (omega (arith, long)) in
-      let split : take k editions ++ last.0 ∷ [] ≡ editions =
-      sym (take-next editions k last.0 last.1) ∙ all in
-      let new : v.m.new ≡ set_after editions =
-      v.view.new ∙ ap (λ (l : List Edition). set_after l) split in
-      let put = put-at v.m v.view.set uri bytes
-      (ap (λ (set : Contents). set uri) new ∙ stands) in
-      let moment : moment_of v.m ≡ (state_after editions).moment =
-      v.view.moment
-      ∙ (sym (moment-after editions k last.0 last.1)
-      ∙ ap (λ (l : List Edition). (state_after l).moment) all) in
-      subst (IsAt bytes) moment (made-at v.m put.0 put.0.kind bytes put.2.object)
+  -- The moment of an edition is at most that of later ones.
+  at-most : (n k : ℕ) → k < n → n ≤ length editions → (edition : Edition)
+      → slice_get editions k ≡ Some edition → edition.moment ≤ (state_after (take n editions)).moment
+  at-most zero k before within edition there = absurd (omega (arith, before))
+  at-most (suc n) k before within edition there =
+      let last = there-is editions n (omega (arith, within)) in
+      let is : (state_after (take (suc n) editions)).moment ≡ last.0.moment =
+      moment-before editions n last.0 last.1 in
+      elim (cases_eq k n) [
+        | inl same ↦
+            let one : edition ≡ last.0 = same_Some edition last.0
+            (sym there ∙ (ap (slice_get editions) same ∙ last.1)) in
+            let moment : edition.moment ≡ last.0.moment = ap (λ (e : Edition). e.moment) one in
+            omega (arith, is, moment)
+        | inr apart ↦
+            let least = at-most n k (omega (arith, before, apart)) (omega (arith, within)) edition there in
+            let more = rises premises editions steps n last.0 last.1 in
+            omega (arith, least, more, is)
+      ]
 
-  stood-at : (n : ℕ) → length editions ≡ n → (uri bytes : List ℕ)
-      → set_after editions uri ≡ Some bytes → IsAt bytes (state_after editions).moment
-  stood-at (suc k) long uri bytes stands = stood-by k long uri bytes stands
-  stood-at zero long uri bytes stands = absurd (none-some bytes (nothing editions long uri ∙ stands))
-    where
-      nothing : (l : List Edition) → length l ≡ 0 → (uri : List ℕ) → None ≡ set_after l uri
-      nothing [] none uri = refl
-      nothing (e ∷ l) none uri = absurd (omega (arith, none))
-
-  -- What is made later isn't what stands.
+  -- What is made later isn't what stands: an edition of before made that.
   pub other-stood : (m : Issuance) (d : Draft) (bytes uri : List ℕ)
       → (state_after editions).moment < moment_of m → IsObject m d d.kind bytes
       → set_after editions uri ≡ Some bytes → ⊥
   other-stood m d bytes uri later is stands =
-      let same = one-moment bytes (state_after editions).moment (moment_of m)
-      (stood-at (length editions) refl uri bytes stands) (made-at m d d.kind bytes is) in
-      omega (arith, same, later)
+      let was = was-made premises editions steps uri bytes stands in
+      let made = was.1 in
+      let same : made.edition.moment ≡ moment_of m = one-moment bytes made.edition.moment (moment_of m)
+      (made-at (issuance_of premises made.clock (take was.0 editions) made.edition made.step) made.draft
+      made.draft.kind bytes made.object) (made-at m d d.kind bytes is) in
+      let all : (state_after (take (length editions) editions)).moment ≡ (state_after editions).moment =
+      ap (λ (l : List Edition). (state_after l).moment) (take_all (length editions) editions (omega arith)) in
+      let least = at-most (length editions) was.0 (slice_get_within editions was.0 made.edition made.there)
+      (omega arith) made.edition made.there in
+      omega (arith, same, later, least, all)

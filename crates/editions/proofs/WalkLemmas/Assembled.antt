@@ -1,18 +1,9 @@
 -- The set of an edition is published.
-use Rattle.std.proofs.Common.{◌≡◌, ◌≢◌, ℕ, ◌+◌, ◌-◌, ◌&&◌, Bool, true, false, cond, Option, Some, List, [], ◌∷◌, ◌++◌, length, map, take, drop, option_map, All, AllPairs, IsSome, codes, nat_eq, refl, sym, ap, subst, ◌∙◌, arith, append_assoc, inl, inr}
-use Rattle.std.specs.Prelude.{nat_lt, nat_le}
-use Rattle.std.specs.List.{list_all, starts_with, ends_with}
-use Rattle.std.specs.Option.{option_map_or}
+use Rattle.std.proofs.Common.{◌≡◌, ◌≢◌, ℕ, Bool, true, false, cond, Option, Some, List, [], ◌∷◌, ◌++◌, length, map, option_map, All, AllPairs, IsSome, refl, sym, ap, subst, ◌∙◌, inl, inr}
 use Rattle.std.specs.Ordering.{is_eq}
-use Rattle.std.specs.Cmp.Lexicographic.{pointwise}
-use Rattle.std.proofs.lemmas.Bool.{and_from, le-leb, lt-ltb}
 use Rattle.std.proofs.lemmas.Cmp.{nat_list_cmp_total, tied_itself}
-use Rattle.std.proofs.lemmas.List.{length-append}
 use Rattle.std.proofs.lemmas.List.Sums.{list_all-from_AllPass}
-use Rattle.std.proofs.lemmas.Slice.Eq.{bytes_eq-Decides}
-use Rattle.std.proofs.lemmas.Option.{slice_get_within, get_or_from_slice_get}
-use Rattle.std.proofs.Math.Seq.{drop-append_seam, take-append_seam}
-use Rattle.names.specs.Name.{IsName, is_name_byte}
+use Rattle.names.specs.Name.{IsName}
 use Rattle.key_ids.specs.Uris.{Bases, anchor_uri, folder_of, file_uri}
 use Rattle.authority_book.specs.declared.rows.NameRow.{NameRow}
 use Rattle.entitle.specs.Certified.{names_of}
@@ -21,7 +12,7 @@ use Rattle.key_roll.specs.declared.rows.Role.TheVariants.{Current}
 use Rattle.cert_obj.specs.Values.{SignedCert}
 use Rattle.pub_set.specs.declared.objects.Object.{Object}
 use Rattle.pub_set.specs.Objects.{content_at, is_same, IsAscending}
-use Rattle.rp_rules.specs.Authorities.{is_folder, is_authority_name, between}
+use Rattle.rp_rules.specs.Authorities.{is_folder}
 use Rattle.rp_rules.specs.Certificates.{is_revoked}
 use Rattle.rp_rules.specs.Walk.{walk}
 use Rattle.rp_rules.specs.Sound.{is_visited}
@@ -29,56 +20,25 @@ use Rattle.issue_values.specs.Bodies.{crl_entry}
 use Rattle.issue_plan.specs.Keys.{row_of}
 use Rattle.issue_keys.specs.Keys.{id_of}
 use Rattle.issue_drafts.specs.Publishers.{name_at}
-use Rattle.editions.specs.Edition.{Edition, state_after, set_after}
+use Rattle.editions.specs.Edition.{Edition, set_after}
 use Rattle.editions.specs.Held.{IsHeld, HaveOwnSerials}
 use Rattle.editions.specs.Superseded.{AreSuperseded}
 use Rattle.editions.specs.Objects.{Issuance}
 use Rattle.editions.specs.Wanted.{keeps_point}
-use Rattle.editions.specs.Step.{Premises, IsStep, AreSteps, plan_input_at, counted, configs_at}
+use Rattle.editions.specs.Step.{Premises, IsStep, AreSteps, counted, configs_at}
 use Rattle.editions.specs.Published.{looking, yielded_for, IsPublished}
 use Rattle.editions.specs.Names.{AreTree}
 use Rattle.items.specs.laws.AmongLaws.{In, in-all, all-in}
 use Rattle.editions.proofs.WalkLemmas.Rows.{issuance, rows-apart, last-step, current-kept}
 use Rattle.editions.proofs.WalkLemmas.KeyTree.{in-tree}
 use Rattle.editions.proofs.WalkLemmas.Serials.{unrevoked}
-use Rattle.editions.proofs.WalkLemmas.Endings.{ending}
+use Rattle.editions.proofs.WalkLemmas.Folders.{plain-folder, plain-name}
 use Rattle.editions.proofs.WalkLemmas.Inside.{HaveSpans, AreInsides}
 use Rattle.editions.proofs.WalkLemmas.Build.{AreKinds}
 use Rattle.editions.proofs.WalkLemmas.Apart.{AreTold}
 use Rattle.editions.proofs.WalkLemmas.Whole.{IsWalked}
 use Rattle.editions.proofs.WalkLemmas.Levelled as levelled
 use Rattle.editions.proofs.WalkLemmas.Trees as trees
-
--- ---- folders
-
-starts : (xs ys : List ℕ) → starts_with nat_eq (xs ++ ys) xs ≡ true
-starts xs ys =
-    ap (pointwise nat_eq xs) (take-append_seam xs ys) ∙ (bytes_eq-Decides xs xs).1 refl
-
-plain-folder : (site : Bases) (name : List ℕ) → IsName name → is_folder site (folder_of site name) ≡ true
-plain-folder site name is =
-    let end : List ℕ = codes "/0/" in
-    let uri : List ℕ = folder_of site name in
-    let regrouped : uri ≡ site.rsync ++ (name ++ end) = append_assoc site.rsync name end in
-    let front : starts_with nat_eq uri site.rsync ≡ true =
-    ap (λ (u : List ℕ). starts_with nat_eq u site.rsync) regrouped ∙ starts site.rsync (name ++ end) in
-    let back : ends_with nat_eq uri end ≡ true = ending (site.rsync ++ name) end end refl in
-    let long = length-append (site.rsync ++ name) end in
-    let shorter = length-append site.rsync name in
-    let count : length uri - (length site.rsync + 3) ≡ length name = omega (arith, long, shorter) in
-    let middle : between (length site.rsync) 3 uri ≡ name =
-    ap (λ (n : ℕ). take n (drop (length site.rsync) uri)) count
-    ∙ (ap (take (length name)) (ap (drop (length site.rsync)) regrouped
-    ∙ drop-append_seam site.rsync (name ++ end))
-    ∙ take-append_seam name end) in
-    let named : is_authority_name name ≡ true =
-    and_from (nat_lt 0 (length name) && nat_le (length name) 64) (list_all is_name_byte name)
-    (and_from (nat_lt 0 (length name)) (nat_le (length name) 64) (lt-ltb 0 (length name) is.not_empty)
-    (le-leb (length name) 64 is.short)) (list_all-from_AllPass is_name_byte name is.plain) in
-    and_from (starts_with nat_eq uri site.rsync && ends_with nat_eq uri end)
-    (is_authority_name (between (length site.rsync) 3 uri))
-    (and_from (starts_with nat_eq uri site.rsync) (ends_with nat_eq uri end) front back)
-    (ap is_authority_name middle ∙ named)
 
 -- ---- each object of a set
 
@@ -131,13 +91,8 @@ module _ (own : (premises : Premises) (editions : List Edition) (id : List ℕ) 
 
   plain-at : (k : KeyRow) → In k m.keys → IsName (name_at names k.desk)
   plain-at k at =
-      let is = (in-tree m.plan_input.basis m.keys tree step.made.certified before step.made.next k at).is in
-      let row : NameRow =
-      (in-tree m.plan_input.basis m.keys tree step.made.certified before step.made.next k at).name in
-      subst IsName
-      (ap (λ (r : NameRow). r.name) (get_or_from_slice_get names k.desk row row is.named)
-      ∙ sym (ap (λ (o : Option NameRow). option_map_or (λ (n : NameRow). n.name) o []) is.named))
-      (plain k.desk row (slice_get_within names k.desk row is.named))
+      let is = in-tree m.plan_input.basis m.keys tree step.made.certified before step.made.next k at in
+      plain-name names plain k.desk is.name is.is.named
 
   folders : (k : KeyRow) → In k m.keys
       → is_folder m.plan_input.site (folder_of m.plan_input.site (name_at names k.desk)) ≡ true
