@@ -5,6 +5,7 @@ ghost use denote.Param.Send.{IsSync};
 use items::Items;
 use notice_board::{Board, Sheet, Viewer};
 use std::alloc::{AllocError, Global};
+use std::marker::Brand;
 use std::sync::Wait;
 use std::thread::{Threads, join, map_vec, sleep};
 use std::time::{Clock, Duration, Instant};
@@ -28,7 +29,7 @@ pub fn time_looks<R: Threads + Wait + Clock + Sync>(
 ) -> Result<Looked, AllocError>
     requires { IsSync R.row }
 {
-    let (mut board, viewers) = Board::new(rt, alloc, sheet_of(alloc, 0), readers)?;
+    let (mut board, viewers) = Board::new::<Brand, R>(rt, alloc, sheet_of(alloc, 0), readers)?;
     let writer = &mut board;
     let (written, looks) = join(
         rt,
@@ -67,6 +68,7 @@ fn sheet_of(alloc: Global, serial: u64) -> Sheet
     }
 }
 
+// Shows so many sheets. Where the last one has the greatest serial, none comes after it.
 fn write_all<R: Wait + Clock>(
     rt: &R,
     alloc: Global,
@@ -76,10 +78,10 @@ fn write_all<R: Wait + Clock>(
 ) -> Result<(), AllocError> {
     for _ in 0..sheets {
         let Some(serial) = board.serial().checked_add(1) else {
-            return Err(AllocError);
+            return Ok(());
         };
         board.ready(alloc, sheet_of(alloc, serial))?;
-        board.show(rt);
+        board.show::<Brand, R>(rt);
         sleep(rt, wait);
     }
     Ok(())

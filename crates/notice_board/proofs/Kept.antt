@@ -1,55 +1,57 @@
--- Each step keeps the rule.
-use Rattle.std.proofs.Common.{◌≡◌, ◌≢◌, ⊎_elim, ℕ, List, [], ◌∷◌, ◌++◌, set, refl, subst}
-use mathlib.Core.Option.{some}
-use mathlib.Core.List.{IsPrefix}
+-- Each step keeps the rule of the board.
+use Rattle.std.proofs.Common.{◌≡◌, ◌≢◌, ⊎_elim, ℕ, true, List, [], ◌∷◌, ◌++◌, set, refl, sym, ap, ◌∙◌, subst}
+use mathlib.Core.Option.{some, some-ne-none}
 use lib.ListN.{get_elem?}
 use Rattle.left_right.specs.Register.{Admits, TurnsAt, Forks, Merges}
 use Rattle.atomic_table.proofs.Lists.{at_set, at_snoc}
-use Rattle.notice_board.specs.declared.sheets.Sheet.{Sheet}
+use Rattle.notice_board.specs.declared.lists.Known.{Known}
+use Rattle.notice_board.specs.declared.shown.ListId.{ListId}
 use Rattle.notice_board.specs.declared.views.View.{View}
-use Rattle.notice_board.specs.Rule.{KeepsBoardRule, newcomer, Looks, informed}
-use Rattle.notice_board.proofs.Lists.{prefix_self, prefix_trans}
+use Rattle.notice_board.specs.Rule.{KeepsBoardRule, newcomer}
+use Rattle.notice_board.specs.inner.Steps.{Looks}
 
-abbrev Fits : List Sheet → View → Type 0
-Fits shown v = IsPrefix v.seen shown × IsPrefix v.told shown
+abbrev Fits : ListId → View → Type 0
+Fits list v = v.knows ≡ true → v.list ≡ list
 
-new_fits : (shown : List Sheet) → Fits shown newcomer
-new_fits shown = ((shown, refl), (shown, refl))
+new_fits : (list : ListId) → Fits list newcomer
+new_fits list h = absurd (cc h)
 
-set_kept : (shown : List Sheet) (views : List View) (seat : ℕ) (v : View) → KeepsBoardRule shown views → Fits shown v → KeepsBoardRule shown (set views seat v)
-set_kept shown views seat v h fits j u e =
+set_kept : (list : ListId) (views : List View) (seat : ℕ) (v : View) → KeepsBoardRule list views → Fits list v → KeepsBoardRule list (set views seat v)
+set_kept list views seat v h fits j u e =
     ⊎_elim
-    (λ (t : (j ≡ seat) × (v ≡ u)). subst (Fits shown) t.1 fits)
+    (λ (t : (j ≡ seat) × (v ≡ u)). subst (Fits list) t.1 fits)
     (λ (t : (j ≢ seat) × (get_elem? views j ≡ some u)). h j u t.1)
     (at_set views seat j v u e)
 
-snoc_kept : (shown : List Sheet) (views : List View) (v : View) → KeepsBoardRule shown views → Fits shown v → KeepsBoardRule shown (views ++ v ∷ [])
-snoc_kept shown views v h fits j u e = ⊎_elim (h j u) (λ (t : v ≡ u). subst (Fits shown) t fits) (at_snoc views v u j e)
+snoc_kept : (list : ListId) (views : List View) (v : View) → KeepsBoardRule list views → Fits list v → KeepsBoardRule list (views ++ v ∷ [])
+snoc_kept list views v h fits j u e = ⊎_elim (h j u) (λ (t : v ≡ u). subst (Fits list) t fits) (at_snoc views v u j e)
 
-pub admits : Admits KeepsBoardRule newcomer
-admits shown views h = snoc_kept shown views newcomer h (new_fits shown)
+pub alone : (list : ListId) → KeepsBoardRule list (newcomer ∷ [])
+alone list = snoc_kept list [] newcomer (λ j u e. absurd (some-ne-none u (sym e))) (new_fits list)
 
-grown : (x y : List Sheet) (views : List View) → IsPrefix x y → KeepsBoardRule x views → KeepsBoardRule y views
-grown x y views up h j u e = let f = h j u e in (prefix_trans u.seen x y f.0 up, prefix_trans u.told x y f.1 up)
+abbrev pub Kept : Known → List View → Type 0
+Kept known views = KeepsBoardRule known.list views
 
-pub looks : (seat : ℕ) (v : View) (x y : List Sheet) → IsPrefix x y → TurnsAt KeepsBoardRule seat v x y Looks
-looks seat v x y up views h at =
-    let w : View = record v { seen = y } in
-    let f = grown x y views up h seat v at in (
+pub admits : Admits Kept newcomer
+admits known views h = snoc_kept known.list views newcomer h (new_fits known.list)
+
+pub looks : (seat : ℕ) (v : View) (x y : Known) → y.list ≡ x.list → TurnsAt Kept seat v x y (λ v x y w. Looks v y.list w)
+looks seat v x y same views h at =
+    let w : View = record { knows = true; list = y.list } in
+    let moved : KeepsBoardRule y.list views = subst (λ (l : ListId). KeepsBoardRule l views) (sym same) h in (
       w,
-      set_kept y views seat w (grown x y views up h) (prefix_self y, f.1),
-      (refl, f.0, f.1),
+      set_kept y.list views seat w moved (λ knows. refl),
+      record { knows = refl; list_is = refl; same = λ knows. sym (moved seat v at knows) },
     )
 
-pub forks : (seat : ℕ) (v : View) → Forks KeepsBoardRule seat v v v
-forks seat v x views h at = let f = h seat v at in snoc_kept x (set views seat v) v (set_kept x views seat v h f) f
+pub forks : (seat : ℕ) (v : View) → Forks Kept seat v v v
+forks seat v x views h at = let f = h seat v at in snoc_kept x.list (set views seat v) v (set_kept x.list views seat v h f) f
 
-pub merges : (seat : ℕ) (v : View) (other : ℕ) (w : View) → Merges KeepsBoardRule seat v other w (informed v w) newcomer
+pub merges : (seat : ℕ) (v : View) (other : ℕ) (w : View) → Merges Kept seat v other w w newcomer
 merges seat v other w x views h at apart there =
-    let both = informed v w in
-    let theirs : Fits x w =
+    let theirs : Fits x.list w =
     ⊎_elim
-    (λ (t : (other ≡ seat) × (both ≡ w)). absurd (apart t.0))
+    (λ (t : (other ≡ seat) × (w ≡ w)). absurd (apart t.0))
     (λ (t : (other ≢ seat) × (get_elem? views other ≡ some w)). h other w t.1)
-    (at_set views seat other both w there) in
-    set_kept x (set views seat both) other newcomer (set_kept x views seat both h ((h seat v at).0, theirs.0)) (new_fits x)
+    (at_set views seat other w w there) in
+    set_kept x.list (set views seat w) other newcomer (set_kept x.list views seat w h theirs) (new_fits x.list)

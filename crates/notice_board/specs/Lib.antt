@@ -2,3 +2,4 @@ pub mod Lists
 pub mod Rows
 pub mod Seats
 pub mod Rule
+pub mod inner

@@ -2,6 +2,7 @@
 use Rattle.std.specs.Prelude.{◌≡◌, ℕ, ◌==◌, List, [], Option, Some, MatchOption}
 use Rattle.std.specs.List.{find}
 use Rattle.notice_board.specs.declared.sheets.Sheet.{Sheet}
+use Rattle.notice_board.specs.declared.shown.ShownEdition.{ShownEdition}
 use Rattle.notice_board.specs.declared.sheets.SheetRow.{SheetRow}
 use Rattle.notice_board.specs.declared.sheets.ShownStage.TheVariants.{Absent}
 use Rattle.notice_board.specs.Lists.{last_sheet}
@@ -25,6 +26,6 @@ abbrev pub IsRowOf : List SheetRow → ℕ → SheetRow → Type 0
 IsRowOf rows desk row = MatchOption (row_of rows desk) (IsUnknown desk row) (λ there. row ≡ there)
 
 -- the row is that of the desk on the sheet which was shown last
-abbrev pub IsRowShown : List Sheet → ℕ → SheetRow → Type 0
+abbrev pub IsRowShown : List ShownEdition → ℕ → SheetRow → Type 0
 IsRowShown shown desk row =
     (sheet : Sheet) × (last_sheet shown ≡ Some sheet) × IsRowOf sheet.rows desk row

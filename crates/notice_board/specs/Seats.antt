@@ -1,12 +1,20 @@
--- What contracts see of a board.
-use Rattle.std.specs.Prelude.{List, fold}
+-- What contracts see of a board and of its viewers.
+use Rattle.std.specs.Prelude.{List, Option}
 use Rattle.notice_board.specs.declared.sheets.Sheet.{Sheet}
+use Rattle.notice_board.specs.declared.shown.ListId.{ListId}
+use Rattle.notice_board.specs.declared.shown.ShownEdition.{ShownEdition}
 
--- the sheets that were shown, and those that will have been once what is ready is shown
-pub record BoardLists : Type 0 where
-  pub shown : List Sheet
-  pub next : List Sheet
+-- A board: which list is its own, the editions that were shown, and the sheet that is ready
+pub record BoardSeat : Type 0 where
+  pub list : ListId
+  pub shown : List ShownEdition
+  pub ready : Option Sheet
 
--- what will have been shown: the last list that is pending, and where none is, what was shown
-abbrev pub coming : List Sheet → List (List Sheet) → List Sheet
-coming shown pending = fold (λ _ next. next) shown pending
+-- A viewer: which list it knows, and the editions that it has seen
+pub record ViewerSeat : Type 0 where
+  pub list : ListId
+  pub seen : List ShownEdition
+
+-- a viewer that has seen all that the board has shown
+abbrev pub viewer_seat : BoardSeat → ViewerSeat
+viewer_seat board = record { list = board.list; seen = board.shown }

@@ -1,112 +1,53 @@
 // What readers take: the sheet that was shown last, with the list of all that were shown.
-ghost use Rattle.std.specs.Prelude.{◌≡◌, ◌<◌, ◌++◌, [], ◌∷◌, true, Some, IfOk};
-ghost use Rattle.notice_board.specs.Lists.{last_serial, last_sheet, rises};
+ghost use Rattle.std.specs.Prelude.{◌≡◌, true, Some, IfOk, MatchBool};
+ghost use Rattle.std.specs.Arc.{arc_value};
+ghost use mathlib.Core.List.{IsPrefix};
+ghost use Rattle.notice_board.specs.Lists.{last_sheet, rises};
+ghost use Rattle.notice_board.specs.inner.Known.{editions_of, known_of};
 
 use crate::Sheet;
+use crate::lists::{Known, ListOwner, Token};
 use left_right::Absorb;
-use logbook::{Opening, Rule, Seen, Start};
-use std::alloc::{AllocError, Global};
+use std::alloc::AllocError;
 use std::marker::Model;
-use std::snapshot::Snapshot;
 use std::sync::Arc;
 
-/// A book that tracks nothing, whose log is any list.
-pub struct AnyList;
-
-impl Rule<Sheet, u64> for AnyList {
-    ghost use Rattle.std.specs.Prelude.{[]};
-    ghost use base.Fml.{ftrue};
-
-    ghost holds = { λ cells log. Unit {0} };
-
-    ghost first = { [] };
-
-    ghost hinted = { λ n log. Unit {0} };
-
-    ghost shows = { λ log. [] };
-
-    ghost keeps = { λ names log. ftrue };
-
-    ghost moves = { λ ask before after answer. Unit {0} };
-}
-
-/// A token that names a list of sheets. It has no bytes.
-type List = Seen<Sheet, u64, AnyList>;
-
-struct One;
-
-impl Opening<Snapshot<Sheet>, Sheet> for One {
-    ghost use Rattle.std.specs.Prelude.{[], ◌∷◌};
-
-    ghost log = { λ count sheet. sheet.value ∷ [] };
-}
-
-struct OneMore;
-
-impl Opening<(List, Snapshot<Sheet>), Sheet> for OneMore {
-    ghost use Rattle.std.specs.Prelude.{◌++◌, [], ◌∷◌};
-
-    ghost log = { λ count about. about.0.log ++ about.1.value ∷ [] };
-}
-
-fn list_of(sheet: &Sheet) -> List
-    ensures { result.log ≡ sheet.now ∷ [] }
-{
-    Seen::open_row::<Snapshot<Sheet>, One>(&Snapshot::of(sheet), Start::alone(), 0).0
-}
-
-fn with_one_more(list: &List, sheet: &Sheet) -> List
-    ensures { result.log ≡ list.now.log ++ sheet.now ∷ [] }
-{
-    let about = (list.again(), Snapshot::of(sheet));
-    Seen::open_row::<(List, Snapshot<Sheet>), OneMore>(&about, Start::alone(), 0).0
-}
-
-/// The sheet that was shown last. A clause sees the list of all that were shown.
+/// The sheet that was shown last. A clause sees the list of all editions that were shown.
 #[derive(Drop)]
 pub struct Notice {
     sheet: Arc<Sheet>,
-    shown: List,
+    shown: Token,
 }
 
 impl Model for Notice {
-    ghost use Rattle.std.specs.Prelude.{◌≡◌, List, Some, true};
+    ghost use Rattle.std.specs.Prelude.{◌≡◌, Some, true};
     ghost use Rattle.std.specs.Arc.{arc_value};
-    ghost use Rattle.notice_board.specs.declared.sheets.Sheet.{Sheet};
+    ghost use Rattle.notice_board.specs.declared.lists.Known.{Known};
     ghost use Rattle.notice_board.specs.Lists.{last_sheet, rises};
+    ghost use Rattle.notice_board.specs.inner.Known.{editions_of, known_of};
 
-    ghost Value = { List Sheet };
+    ghost Value = { Known };
 
-    ghost view = { λ n. n.shown.log };
+    ghost view = { λ n. known_of n.shown.book n.shown.log };
 
-    ghost invariant = { λ n. (last_sheet n.shown.log ≡ Some (arc_value n.sheet)) × (rises n.shown.log ≡ true) };
+    ghost invariant = { λ n. (last_sheet (editions_of n.shown.log) ≡ Some (arc_value n.sheet))
+        × (rises (editions_of n.shown.log) ≡ true) };
 }
 
 impl Notice {
-    /// The first sheet of a board.
-    pub fn first(alloc: Global, sheet: Sheet) -> Result<Notice, AllocError>
-        ensures { IfOk result (λ n. n ≡ sheet ∷ []) }
+    /// What lies on the board where the owner added that sheet last.
+    pub fn of(sheet: Arc<Sheet>, owner: &ListOwner) -> Notice
+        requires last { last_sheet (editions_of owner.now.log) ≡ Some (arc_value sheet) }
+        requires rises { rises (editions_of owner.now.log) ≡ true }
+        ensures { result ≡ owner.now }
     {
-        let shown = list_of(&sheet);
-        match Arc::new(alloc, sheet) {
-            Ok(sheet) => Ok(Notice { sheet, shown }),
-            Err(_) => Err(AllocError),
+        Notice {
+            sheet,
+            shown: owner.seen(),
         }
     }
 
-    /// The sheet after this one.
-    pub fn followed_by(&self, alloc: Global, sheet: Sheet) -> Result<Notice, AllocError>
-        requires { last_serial self.now < sheet.serial }
-        ensures { IfOk result (λ n. n ≡ self.now ++ sheet ∷ []) }
-    {
-        let shown = with_one_more(&self.shown, &sheet);
-        match Arc::new(alloc, sheet) {
-            Ok(next) => Ok(Notice { sheet: next, shown }),
-            Err(_) => Err(AllocError),
-        }
-    }
-
-    /// The same once more. It takes no memory.
+    /// The same once more. It takes no memory; refused is a count of owners that is full.
     pub fn again(&self) -> Result<Notice, AllocError>
         ensures { IfOk result (λ n. n ≡ self.now) }
     {
@@ -118,16 +59,32 @@ impl Notice {
 
     /// The sheet that was shown last.
     pub fn sheet(&self) -> &Sheet
-        ensures last { last_sheet self.now ≡ Some result.now }
-        ensures rises { rises self.now ≡ true }
+        ensures last { last_sheet (editions_of self.now.log) ≡ Some result.now }
+        ensures rises { rises (editions_of self.now.log) ≡ true }
     {
         &self.sheet
+    }
+
+    /// That the list was seen so far.
+    pub fn seen(&self) -> Token
+        ensures { known_of result.book result.log ≡ self.now }
+    {
+        self.shown.again()
+    }
+
+    /// Whether the other one of the list was shown after this one.
+    pub fn is_before(&self, other: &Notice) -> bool
+        requires { other.now.list ≡ self.now.list }
+        ensures { MatchBool result (IsPrefix (editions_of self.now.log) (editions_of other.now.log)) (IsPrefix (editions_of other.now.log) (editions_of self.now.log)) }
+    {
+        let mut both = self.shown.again();
+        both.learn(&other.shown);
+        self.sheet.serial < other.sheet.serial
     }
 }
 
 impl Absorb<Notice> for Notice {
-    // A clause reads an array as a list, of any length.
-    type State = [Sheet; 0];
+    type State = Known;
 
     ghost state = { λ n. n };
 

@@ -1,16 +1,13 @@
 // What the threads at a board know, and what each step does to it.
-use crate::Sheet;
+use crate::ListId;
 use crate::notices::Notice;
 use atomic_table::{Join, Split};
 use crossbeam_utils::rule::{Outcome, Protocol};
-use std::collections::LinkedList;
 
-/// What the writer or a viewer knows. No value of it is made.
+/// What the writer or a viewer knows: whether it knows a list, and which. No value of it is made.
 pub struct View {
-    /// The sheets that it has seen.
-    pub seen: LinkedList<Sheet>,
-    /// The sheets that it was told of.
-    pub told: LinkedList<Sheet>,
+    pub knows: bool,
+    pub list: ListId,
 }
 
 /// The rule of the board.
@@ -19,7 +16,7 @@ pub struct Shows;
 impl Protocol<Notice, View> for Shows {
     ghost use Rattle.notice_board.specs.Rule.{KeepsBoardRule, newcomer};
 
-    ghost holds = { KeepsBoardRule };
+    ghost holds = { λ notice views. KeepsBoardRule notice.list views };
 
     ghost first = { newcomer };
 }
@@ -28,9 +25,9 @@ impl Protocol<Notice, View> for Shows {
 pub struct Look;
 
 impl Outcome<Notice, View> for Look {
-    ghost use Rattle.notice_board.specs.Rule.{Looks};
+    ghost use Rattle.notice_board.specs.inner.Steps.{Looks};
 
-    ghost then = { Looks };
+    ghost then = { λ v x y w. Looks v y.list w };
 }
 
 /// What the writer tells a new viewer.
@@ -43,9 +40,9 @@ impl Split<View> for Tell {
 }
 
 impl Join<View> for Tell {
-    ghost use Rattle.notice_board.specs.Rule.{informed, newcomer};
+    ghost use Rattle.notice_board.specs.Rule.{newcomer};
 
-    ghost both = { informed };
+    ghost both = { λ v w. w };
 
     ghost spent = { newcomer };
 }

@@ -1,10 +1,8 @@
-use Rattle.std.proofs.Common.{◌≡◌, drop, take, length}
-use Rattle.notice_board.specs.Seats.{coming}
+use Rattle.std.proofs.Common.{◌≡◌, drop}
 use Rattle.notice_board.proofs.board.publish.Given as goal
 
 abbrev pub invariant-loop : goal.invariant-loop
 invariant-loop g l =
     (goal.iterator-loop g).can_next l.iterator' × (goal.iterator-loop g).is_finite l.iterator'
-    × (take (length l.writer.desk.shown.value) (coming l.writer.desk.shown.value (drop l.writer.behind l.writer.log.items)) ≡ l.writer.desk.shown.value)
     × (l.writer.desk.shown.value ≡ l.initial.writer.desk.shown.value)
     × (drop l.writer.behind l.writer.log.items ≡ drop l.initial.writer.behind l.initial.writer.log.items)

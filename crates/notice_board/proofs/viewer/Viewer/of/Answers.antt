@@ -1,6 +1,0 @@
-use Rattle.notice_board.proofs.Lists.{prefix_self}
-use Rattle.notice_board.proofs.Kept.{looks}
-use Rattle.notice_board.proofs.viewer.Viewer.of.Goals as goal
-
-pub enter_as-requires : goal.enter_as-requires
-enter_as-requires c x = looks _ _ x x (prefix_self x)
