@@ -4,3 +4,4 @@ pub mod Loading
 pub mod Listed
 pub mod Committed
 pub mod Opened
+pub mod Words

@@ -1,12 +1,10 @@
 -- Records of commands, and lists of them.
-use Rattle.std.proofs.Common.{◌≡◌, ℕ, ◌+◌, ◌*◌, ◌++◌, List, [], ◌∷◌, None, Result, Ok, true, false, length, map, refl, sym, ap, ◌∙◌, arith, length-append}
+use Rattle.std.proofs.Common.{◌≡◌, ℕ, ◌++◌, List, [], ◌∷◌, None, Result, Ok, true, false, map, refl, sym, ap, ◌∙◌}
 use Rattle.std.specs.Prelude.{is_err}
-use Rattle.std.specs.List.{All, AllByRecursion, flat_map}
+use Rattle.std.specs.List.{All, AllByRecursion}
 use Rattle.std.proofs.lemmas.List.{map-append}
-use Rattle.std.proofs.lemmas.List.Concat.{flat_map-cons}
 use Rattle.std.proofs.lemmas.List.Elements.{All-append, All-from_recursion, recursion_from_All}
 use Rattle.authority_book.specs.declared.commands.Command.{Command}
-use Rattle.authority_book.specs.declared.commands.Command.TheVariants.{UpdateRoas}
 use Rattle.authority_book.specs.declared.refusals.Refusal.{Refusal}
 use Rattle.authority_book.specs.Settings.{Settings}
 use Rattle.authority_book.specs.Verdict.{refused_or_ok, verdict_of, IsAccepted}

@@ -5,6 +5,8 @@
 //! the acknowledged commands, and at most the one whose record was being written.
 #![tactic(auto)]
 
+mod counted;
+mod counting;
 mod desk;
 mod faults;
 mod laws;
@@ -12,6 +14,7 @@ mod opening;
 mod records;
 mod rose;
 
+pub use counted::{CountedDesk, UncountedDesk};
 pub use desk::Desk;
 pub use faults::{DeskFault, DeskOpenFault, DeskRefused};
 pub use laws::commands_are_determined;

@@ -1,5 +1,5 @@
 -- What a desk keeps true of its parts.
-use Rattle.std.specs.Prelude.{◌≡◌, ℕ, Option, List, length, IfSome}
+use Rattle.std.specs.Prelude.{◌≡◌, ℕ, List, length, IfSome}
 use Rattle.disk_api.specs.declared.disk.Disk.{Ghosts as DiskGhosts}
 use Rattle.authority_book.specs.declared.commands.Command.{Command}
 use Rattle.authority_book.specs.Settings.{Settings}

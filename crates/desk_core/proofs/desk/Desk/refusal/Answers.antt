@@ -1,8 +1,7 @@
-use Rattle.std.proofs.Common.{◌≡◌, ◌∙◌, ℕ, Ok, sym, subst}
+use Rattle.std.proofs.Common.{◌∙◌, ℕ, sym, subst}
 use Rattle.gate_journal.specs.Format.{payloads}
 use Rattle.gate_journal.specs.Answers.{CanAppend as HasJournalPlace, IsFullAnswer as IsJournalFull, IsRefusal}
 use Rattle.gate_journal.specs.declared.fault.AppendFault.{AppendFault}
-use Rattle.authority_book.specs.Verdict.{verdict_of}
 use Rattle.desk_core.specs.View.{View}
 use Rattle.desk_core.specs.Answers.{CanCommit, IsDeskFault}
 use Rattle.desk_core.specs.declared.faults.DeskFault.{DeskFault}
