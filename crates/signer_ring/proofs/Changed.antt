@@ -17,7 +17,7 @@ tells-back one NotTold tells = tells
 tells-back one (Listed given) tells = tells
 tells-back one Hashed tells = tells
 
-tells-before : (call : Call) (signer : SignerState) → Tells (change call signer) → Tells signer
+pub tells-before : (call : Call) (signer : SignerState) → Tells (change call signer) → Tells signer
 tells-before (Makes n key) signer tells = tells
 tells-before (Signs n one) signer tells = tells-back one signer.vouching tells
 tells-before (Once n one) signer tells = tells-back one signer.vouching tells
@@ -27,7 +27,7 @@ vouches-more one NotTold key digest signature vouched = vouched
 vouches-more one (Listed given) key digest signature vouched = Contains-append_left given (one ∷ []) _ vouched
 vouches-more one Hashed key digest signature vouched = vouched
 
-vouches-after : (call : Call) (signer : SignerState) (key digest signature : List ℕ) → Vouches signer key digest signature → Vouches (change call signer) key digest signature
+pub vouches-after : (call : Call) (signer : SignerState) (key digest signature : List ℕ) → Vouches signer key digest signature → Vouches (change call signer) key digest signature
 vouches-after (Makes n key) signer k digest signature vouched = vouched
 vouches-after (Signs n one) signer k digest signature vouched = vouches-more one signer.vouching k digest signature vouched
 vouches-after (Once n one) signer k digest signature vouched = vouches-more one signer.vouching k digest signature vouched

@@ -1,3 +1,9 @@
 pub mod Asked
 pub mod RingCalls
 pub mod Changed
+pub mod Answered
+pub mod Merged
+pub mod Moving
+pub mod Own
+pub mod Ringing
+pub mod Worked

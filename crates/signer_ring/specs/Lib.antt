@@ -1,3 +1,5 @@
 pub mod Calls
+pub mod Jobs
 pub mod Ring
+pub mod inner
 pub mod laws

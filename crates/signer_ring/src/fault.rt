@@ -1,8 +1,10 @@
 // Why a call of a ring stopped.
 ghost use Rattle.std.specs.Prelude.{◌≡◌};
 ghost use Rattle.signer_ring.specs.Ring.{answer_of};
+ghost use Rattle.signer_ring.specs.declared.fault.RingFault.TheVariants.{Memory};
 
 use signer_api::SignerStop;
+use std::alloc::AllocError;
 use thiserror::Error;
 
 /// Why a call of a ring stopped.
@@ -14,6 +16,14 @@ pub enum RingFault {
     SignerFault { signer: u32 },
     #[error("out of memory")]
     Memory,
+}
+
+impl From<AllocError> for RingFault {
+    ghost from_gives = { λ _ fault. fault ≡ Memory };
+
+    fn from(_: AllocError) -> Self {
+        RingFault::Memory
+    }
 }
 
 /// What a signer answered, to those who called it by its number.

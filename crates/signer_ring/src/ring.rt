@@ -5,9 +5,12 @@ ghost use Rattle.signer_ring.specs.Ring.{AllTell, Vouched, ChangesOne, CallsOne,
 
 use crate::RingFault;
 use crate::fault::answered;
+use crate::jobs::{SignJob, Signed};
+use crate::side::{first_absent, sign_all};
 use signer_api::{Digest, OneUse, PublicKey, Signature, Signer};
 use std::alloc::Global;
 use std::marker::Model;
+use std::thread::Threads;
 
 /// Signers, numbered from 0 in the order in which they were handed in.
 ///
@@ -168,5 +171,44 @@ impl<S: Signer> Ring<S> {
     {
         let told = self.signers[number as usize].check(alloc, key, digest, signature);
         answered(number, told)
+    }
+}
+
+impl<S: Signer + Send> Ring<S> {
+    ghost use Rattle.std.specs.Prelude.{◌≡◌, ◌↔◌, ℕ, Some, Err, length, IfOk, IfErr, All};
+    ghost use Rattle.signer_ring.specs.Calls.{after_calls, IsVouched};
+    ghost use Rattle.signer_ring.specs.Jobs as words;
+    ghost use Rattle.signer_ring.specs.Jobs.{AreAnswers, calls_for, IsForAllStop};
+    ghost use Rattle.signer_ring.specs.Ring.{Keeps};
+    ghost use Rattle.signer_ring.specs.declared.fault.RingFault.TheVariants.{NoSuchSigner};
+
+    /// Does the jobs, with all signers at the same time: one worker for each, which does that signer's own jobs
+    /// in their order up to the first at which it stops. The answers come in the order of all jobs.
+    ///
+    /// Where a thread can't be started, the caller does that work itself. Whatever it answers, the ring has all
+    /// of its signers.
+    pub fn for_all<R: Threads + Sync>(
+        &mut self,
+        rt: &R,
+        alloc: Global,
+        jobs: Vec<SignJob>,
+    ) -> Result<Vec<Signed>, RingFault>
+        // A signer that isn't there, the first that is asked: exactly then, and then nothing is done.
+        ensures absent { (n : ℕ) → (result ≡ Err (NoSuchSigner n))
+            ↔ (words.first_absent (length self.old) jobs.items ≡ Some n) }
+
+        // An answer to each job: the signers made these calls and no others, and vouch for what they signed.
+        ensures answered { IfOk result (λ answers. AreAnswers jobs.items answers.items) }
+        ensures called { IfOk result (λ answers. self.new ≡ after_calls self.old (calls_for jobs.items answers.items)) }
+        ensures vouched { IfOk result (λ answers. All (IsVouched self.new) (calls_for jobs.items answers.items)) }
+
+        // Else each signer made calls for the first of its own jobs, and a fault names the least that failed.
+        ensures stopped { IfErr result (IsForAllStop jobs.items self.old self.new) }
+        ensures kept { Keeps self.old self.new }
+    {
+        if let Some(signer) = first_absent(&jobs, self.len()) {
+            return Err(RingFault::NoSuchSigner { signer });
+        }
+        sign_all(rt, alloc, &mut self.signers, &jobs)
     }
 }

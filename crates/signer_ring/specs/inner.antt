@@ -1,0 +1,2 @@
+-- Scaffolding: words that only private contracts, invariants and proofs need.
+pub mod Working
