@@ -1,4 +1,5 @@
-//! Cases of a word that counts and of a notice board, in one thread, and races of threads that share one.
+//! Cases of a word that counts and of a notice board, in one thread, races of threads that share one, and signers
+//! that work at the same time.
 //!
 //! A line of standard input is a case, of the part whose heading, `# NAME`, stands above it. Each case's
 //! answer is printed, and each heading once more. Each part's module says what its cases have.
@@ -8,6 +9,8 @@ ghost use denote.Param.Send.{IsSync};
 
 mod board_races;
 mod boards;
+mod sheets;
+mod side;
 mod word_races;
 mod words;
 
@@ -43,6 +46,7 @@ fn answer<R: Threads + Wait + Sync>(rt: &R, alloc: Global, part: &str, line: &st
         "word_races" => word_races::answer(rt, alloc, line),
         "boards" => boards::answer(rt, alloc, line),
         "board_races" => board_races::answer(rt, alloc, line),
+        "side" => side::answer(rt, alloc, line),
         _ => bail!("no such part: {part}"),
     }
 }

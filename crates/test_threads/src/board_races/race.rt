@@ -1,11 +1,10 @@
 //! One writer, and readers that look on.
-ghost use Rattle.std.specs.Prelude.{◌≡◌, IfOk};
 ghost use denote.Param.Send.{IsSync};
 
-use items::Items;
-use notice_board::{Board, Sheet, SheetRow, ShownStage, Viewer};
-use res_sets::{Family, Ranges, Resources};
+use crate::sheets::{ROWS, is_whole, sheet_of, stage_of};
+use notice_board::{Board, Viewer};
 use std::alloc::{AllocError, Global};
+use std::marker::Brand;
 use std::sync::Wait;
 use std::thread::{Threads, join, map_vec};
 
@@ -19,9 +18,6 @@ pub struct Raced {
     pub last: u64,
 }
 
-// How many rows a sheet has. Each has the sheet's serial in it.
-const ROWS: u32 = 5;
-
 /// A writer shows as many sheets as told, while readers look until they find the last one.
 pub fn race<R: Threads + Wait + Sync>(
     rt: &R,
@@ -31,7 +27,7 @@ pub fn race<R: Threads + Wait + Sync>(
 ) -> Result<Raced, AllocError>
     requires { IsSync R.row }
 {
-    let (mut board, viewers) = Board::new(rt, alloc, sheet_of(alloc, 0)?, readers)?;
+    let (mut board, viewers) = Board::new::<Brand, R>(rt, alloc, sheet_of(alloc, 0)?, readers)?;
     let writer = &mut board;
     let (written, read) = join(
         rt,
@@ -57,50 +53,14 @@ fn write_all<R: Wait>(
     Ok(())
 }
 
+// Shows the next sheet. Where the last one has the greatest serial, none comes after it.
 fn show_next<R: Wait>(rt: &R, alloc: Global, board: &mut Board) -> Result<(), AllocError> {
     let Some(serial) = board.serial().checked_add(1) else {
-        return Err(AllocError);
+        return Ok(());
     };
     board.ready(alloc, sheet_of(alloc, serial)?)?;
-    board.show(rt);
+    board.show::<Brand, R>(rt);
     Ok(())
-}
-
-// A sheet of which each part tells the serial.
-fn sheet_of(alloc: Global, serial: u64) -> Result<Sheet, AllocError>
-    ensures { IfOk result (λ sheet. sheet.serial ≡ serial) }
-{
-    let mut rows = Vec::with_capacity(alloc, ROWS as usize)?;
-    for desk in 0..ROWS {
-        rows.push(row_of(alloc, desk, serial))?;
-    }
-    Ok(Sheet {
-        serial,
-        moment: !serial,
-        rows: Items::new(rows),
-    })
-}
-
-fn row_of(alloc: Global, desk: u32, serial: u64) -> SheetRow {
-    SheetRow {
-        desk,
-        certified: Resources {
-            asn: Ranges::empty(alloc, Family::Asn),
-            v4: Ranges::empty(alloc, Family::V4),
-            v6: Ranges::empty(alloc, Family::V6),
-        },
-        stage: stage_of(serial),
-        published: Items::new(Vec::new(alloc)),
-    }
-}
-
-fn stage_of(serial: u64) -> ShownStage {
-    match serial % 4 {
-        0 => ShownStage::Absent,
-        1 => ShownStage::Steady,
-        2 => ShownStage::Staged,
-        _ => ShownStage::Retiring,
-    }
 }
 
 // Looks until the last sheet is found, and says whether all that was found was right.
@@ -131,14 +91,4 @@ fn look(alloc: Global, viewer: &mut Viewer, turn: u32) -> bool {
         1 => viewer.sheet(alloc).is_ok_and(|sheet| is_whole(&sheet)),
         _ => viewer.serial() == viewer.last_seen(),
     }
-}
-
-fn is_whole(sheet: &Sheet) -> bool {
-    sheet.moment == !sheet.serial
-        && sheet.rows.len() == ROWS as usize
-        && sheet
-            .rows
-            .as_slice()
-            .iter()
-            .all(|row| row.stage == stage_of(sheet.serial))
 }
