@@ -36,7 +36,7 @@ use Rattle.editions.specs.Keys.{IsNextBy, AreEach}
 use Rattle.editions.specs.Edition.{Edition, State, first_state, after_edition, state_from, state_after}
 use Rattle.editions.specs.PublishedState.{PublishedStateValue, IsConsistentState}
 use Rattle.editions.specs.inner.PlanAndTable.{made_from, KeepsUri, AreOfPlan}
-use Rattle.press_records.specs.Rows.{row_value, rise}
+use Rattle.press_records.specs.Rows.{RowValue, row_value, rise}
 use Rattle.press_records.specs.Stages.{are_staged}
 use Rattle.press_records.specs.Recordable.{IsTyped, IsTypedRow, IsRowOver, IsChangeOver, IsRecordable}
 use Rattle.press_records.specs.Changes.{uris_rise}
@@ -221,14 +221,11 @@ module _ (keys-law : IsKeysLaw) (start : PrepareInput) (ring : List SignerState)
         (λ change at. at-its-uri is.made.made.changes change is.made.is_made.rising at)
         (subst (AllByRecursion (λ (change : Change). is_utf8 (uri_of change) ≡ true)) is.made.changes typed.uris))
 
-    module _ (lists : List (List Command)) (editions : List Edition) (left : IsLeftBy lists editions start.at) where
-      abbrev before : StandingValue
-      before = standing_at (state_after editions)
-
+    module _ (before : StandingValue) (alike : IsAlike before (standing_of start.at)) where
       next-serial : is_next before.serial prepared.next.serial ≡ true
       next-serial =
           let serial = is.next.serial in
-          let same = left.serial in
+          let same = alike.serial in
           let below = is.made.planned.in_range.counted.serial in
           and_from (eqb prepared.next.serial (before.serial + 1)) (leb prepared.next.serial (2 ^ 63))
           (eq-eqb prepared.next.serial (before.serial + 1) (omega (arith, serial, same)))
@@ -237,7 +234,7 @@ module _ (keys-law : IsKeysLaw) (start : PrepareInput) (ring : List SignerState)
       dated : is_dated before.moment prepared.next.moment ≡ true
       dated =
           let behind = is.next.moment in
-          let same = left.moment in
+          let same = alike.moment in
           let at = moment-is in
           let low = is.made.able.moment.from in
           let high = is.made.able.moment.to in
@@ -253,7 +250,7 @@ module _ (keys-law : IsKeysLaw) (start : PrepareInput) (ring : List SignerState)
           (eq-eqb (length prepared.next.cut) 64 is.next.kept.cut)
           (grown before.cut prepared.next.cut (λ desk.
           let le = is.next.cut desk in
-          let same = left.cut desk in
+          let same = alike.cut desk in
           omega (arith, le, same)))
 
       live : are_live prepared.next.moment (map row_value prepared.next.rows) ≡ true
@@ -275,8 +272,8 @@ module _ (keys-law : IsKeysLaw) (start : PrepareInput) (ring : List SignerState)
         serial = typed.serial;
         moment = typed.moment;
         cut = typed.cut;
-        rows = subst (λ (l : List KeyRow). AllByRecursion (IsRowOver (map row_value l)) (map row_value prepared.next.rows)) left.rows rows-fit;
-        changes = subst (λ (held : Contents). AllByRecursion (IsChangeOver held) prepared.changes) (fun_ext left.set) changes-fit;
+        rows = subst (λ (l : List RowValue). AllByRecursion (IsRowOver l) (map row_value prepared.next.rows)) (sym alike.rows) rows-fit;
+        changes = subst (λ (held : Contents). AllByRecursion (IsChangeOver held) prepared.changes) (fun_ext (λ uri. sym (alike.set uri))) changes-fit;
         follows = follows;
       }
 

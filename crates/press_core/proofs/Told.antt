@@ -12,7 +12,7 @@ use Rattle.std.proofs.lemmas.List.Kept.{IsStrictlySortedBy-filter}
 use Rattle.pub_set.specs.declared.objects.Object.{Object}
 use Rattle.pub_set.specs.declared.steps.Change.{Change}
 use Rattle.pub_set.specs.Objects.{uri_cmp, uri_at, is_same, content_at, IsAscending, AllBelow, AllAbove}
-use Rattle.pub_set.specs.Changes.{Contents, uri_of, left_by, after, after_all, set_at}
+use Rattle.pub_set.specs.Changes.{Contents, uri_of, left_by, after, after_all}
 use Rattle.pub_set.specs.laws.UriLaws.{uri_total, tied_is, same_is, same_self, other_below, other_above, below_from_above}
 use Rattle.pub_set.specs.laws.LookupLaws.{found_at-append, rise-nil, rise-push, rise-append, rise-between, above_further, all_weaken, all_append}
 use Rattle.editions.specs.Edition.{Edition, State, first_state, after_edition, state_from, set_after}

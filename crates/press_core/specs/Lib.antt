@@ -11,4 +11,11 @@ pub mod Exports
 pub mod Met
 pub mod Faults
 pub mod Records
+pub mod JournalRecords
+pub mod Stored
+pub mod StoredAnswers
+pub mod Loading
+pub mod Tables
+pub mod Agreement
+pub mod Resuming
 pub mod inner

@@ -29,6 +29,8 @@ ghost use Rattle.press_core.specs.Signers.{HasAllVouched};
 ghost use Rattle.press_core.specs.PrepareInput.{PrepareInput};
 ghost use Rattle.press_core.specs.Next.{NextValue};
 ghost use Rattle.press_core.specs.Planned.{IsPrepared, calls_for};
+ghost use Rattle.press_records.specs.Store.{Store};
+ghost use Rattle.press_core.specs.JournalRecords.{AreRecords, IsRecordOf};
 ghost use Rattle.press_core.specs.Staged.{AreStaged, HasStages};
 ghost use Rattle.press_core.specs.Stands.{IsLeftBy, StandsFor};
 ghost use Rattle.press_core.specs.Follows.{edition_of, AreBehind, Follows};
@@ -43,6 +45,7 @@ use editions::{
     gathered_commands_go_on, manifests_rise, same_objects_same_set, steps_come_one_by_one,
     steps_stay_steps, the_plans_keys_are_next, the_table_goes_on, what_is_planned_and_made_follows,
 };
+use press_records::{one_more_edition, what_stands_alike_reads_alike};
 
 /// What stands before the first edition is what no editions leave, over whatever commands.
 pub fn first_published_state_stands()
@@ -115,6 +118,17 @@ pub fn prepared_editions_follow()
     steps_come_one_by_one();
     the_table_goes_on();
     what_is_planned_and_made_follows();
+}
+
+/// The records of editions, with that of the next one behind them, are those of all of these.
+pub fn edition_records_go_on()
+    ensures { (lists : List (List Command)) (before : List Edition) (at : PublishedStateValue) (prepared : NextValue)
+        (store : Store) (records : List (List ℕ)) (entry : List ℕ)
+        → IsLeftBy lists before at → AreRecords store before records → IsRecordOf at prepared entry
+        → AreRecords store (before ++ edition_of prepared ∷ []) (records ++ entry ∷ []) }
+{
+    one_more_edition();
+    what_stands_alike_reads_alike();
 }
 
 /// The keys that the making of a planned work leaves are those of stages, where the keys before were, and the

@@ -34,15 +34,22 @@ impl Prepared {
         Prepared { edition, delta }
     }
 
+    /// The edition, without its files.
+    pub(crate) fn edition(&self) -> &NextEdition
+        ensures { result.now ≡ self.now.edition }
+    {
+        &self.edition
+    }
+
     /// What the edition puts and withdraws, by rising URI.
-    pub fn changes(&self) -> &[Change]
+    pub(crate) fn changes(&self) -> &[Change]
         ensures { result.now ≡ self.now.edition.changes }
     {
         self.edition.changes()
     }
 
     /// What readers will be shown of the edition.
-    pub fn sheet(&self, alloc: Global) -> Result<Sheet, AllocError>
+    pub(crate) fn sheet(&self, alloc: Global) -> Result<Sheet, AllocError>
         ensures { IfOk result (λ sheet. sheet ≡ sheet_of self.now.edition.next) }
     {
         self.edition.published_state().sheet(alloc)

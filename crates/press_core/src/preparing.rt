@@ -11,7 +11,7 @@ ghost use Rattle.press_core.specs.Faults.{IsPressFault};
 ghost use Rattle.press_core.specs.Signers.{HoldKeys};
 ghost use Rattle.press_core.specs.Staged.{HasStages};
 
-use crate::fault::{Met, PressFault};
+use crate::fault::{MetAt, PressFault};
 use crate::making::make_edition;
 use crate::next_edition::NextEdition;
 use crate::setup::{moment_of, plan_of, set_up};
@@ -49,7 +49,7 @@ pub fn prepare_over<S: Signer>(
     if !at.is_called_for(setup.cut.as_slice(), &work) {
         return Err(PressFault::Nothing {
             serial: parts.serial,
-            met: Met::new(24, now),
+            met: MetAt::new(24, now),
         });
     }
     make_edition(alloc, site, at, setup, &work, ring, now)

@@ -5,9 +5,12 @@ ghost use Rattle.std.specs.Prelude.{IfOk, IfErr, IfSome, OnOk};
 ghost use Rattle.signer_ring.specs.Ring.{Keeps};
 ghost use Rattle.authority_book.specs.declared.commands.Command.{Command};
 ghost use Rattle.editions.specs.Edition.{Edition};
-ghost use Rattle.editions.specs.PublishedState.{published_of, IsFirst};
+ghost use Rattle.editions.specs.PublishedState.{published_of};
+ghost use Rattle.editions.specs.Clear.{IsClear};
 ghost use Rattle.editions.specs.Sheets.{sheet_of};
+ghost use Rattle.editions.specs.Clear.{IsClear};
 ghost use Rattle.press_core.specs.Next.{IsNext};
+ghost use Rattle.press_core.specs.Staged.{HasStages};
 ghost use Rattle.entitle.specs.Certified.{names_of};
 ghost use Rattle.editions.specs.Gathering.{configs_with, AreGathered, AreAccepted};
 ghost use Rattle.press_core.specs.Press.{DropsEach};
@@ -43,7 +46,6 @@ use signer_api::Signer;
 use signer_ring::Ring;
 use std::alloc::{AllocError, Global};
 use std::marker::Model;
-use uuid::Uuid;
 
 /// Publishes for a tree of authorities.
 #[derive(Drop)]
@@ -77,45 +79,34 @@ impl<S: Signer> Model for Press<S> {
         × (press.rrdp.serial ≡ press.at.serial) };
 }
 
-/// Why there is no press. The signers are handed back.
-#[derive(Drop)]
-pub struct PressRefused<S: Signer = Box<dyn Signer + Send>> {
-    pub ring: Ring<S>,
-    pub fault: AllocError,
-}
-
 impl<S: Signer> Press<S> {
-    /// A press that has published nothing. Its RRDP files are of that session (RFC 8182 section
-    /// 3.3.1).
-    pub fn new(
+    /// A press that goes on, of which nothing was exported in this run.
+    pub(crate) fn resumed(
         alloc: Global,
         site: Site,
-        session: Uuid,
         ring: Ring<S>,
-    ) -> Result<Press<S>, PressRefused<S>>
-        ensures first { IfOk result (λ press. IsFirst press.at) }
-        ensures site { IfOk result (λ press. press.site ≡ site) }
-        ensures ring { IfOk result (λ press. press.ring ≡ ring) }
-        ensures ended { IfOk result (λ press. press.ended ≡ []) }
-        ensures session { IfOk result (λ press. press.rrdp.session ≡ session) }
-        ensures files { IfOk result (HasFilesOf []) }
-        ensures last_export { IfOk result (λ press. press.last_export ≡ NoExport) }
-        ensures refused { IfErr result (λ refused. refused.ring ≡ ring) }
+        at: PublishedState,
+        rrdp: Rrdp,
+    ) -> Press<S>
+        requires clear { IsClear site at.rows at.issued }
+        requires stages { HasStages at }
+        requires files { rrdp.serial ≡ at.serial }
+        ensures { result ≡ record {
+          site = site;
+          ring = ring;
+          at = at;
+          ended = [];
+          rrdp = rrdp;
+          last_export = NoExport;
+        } }
     {
-        let first = match PublishedState::first(alloc) {
-            Ok(first) => first,
-            Err(fault) => return Err(PressRefused { ring, fault }),
-        };
-        match Rrdp::new(alloc, session, &site) {
-            Ok(rrdp) => Ok(Press {
-                site,
-                ring,
-                at: first,
-                ended: Vec::new(alloc),
-                rrdp,
-                last_export: LastExport::NoExport,
-            }),
-            Err(fault) => Err(PressRefused { ring, fault }),
+        Press {
+            site,
+            ring,
+            at,
+            ended: Vec::new(alloc),
+            rrdp,
+            last_export: LastExport::NoExport,
         }
     }
 
@@ -161,7 +152,7 @@ impl<S: Signer> Press<S> {
     /// `now` is in seconds since 1970. Refusals are asked in this order: `ClockRange`, `SerialEnd`,
     /// `Nothing`, before any signer is called; then `SignerFault` and `KeyClash`, as the signers'
     /// calls come to them. `Memory` may come at any time.
-    pub fn prepare(
+    pub(crate) fn prepare(
         &mut self,
         alloc: Global,
         now: u64,
@@ -236,7 +227,7 @@ impl<S: Signer> Press<S> {
     }
 
     /// The edition that was prepared becomes the last one. It takes no memory.
-    pub fn commit(&mut self, prepared: Prepared) -> PublishedNumbers
+    pub(crate) fn commit(&mut self, prepared: Prepared) -> PublishedNumbers
         requires next { IsNext self.old.site self.old.at prepared.edition }
         requires delta { prepared.delta ≡ delta_of self.old.rrdp.session prepared.edition }
         ensures at { self.new.at ≡ prepared.edition.next }
@@ -268,7 +259,7 @@ impl<S: Signer> Press<S> {
     ///
     /// An outlet's put replaces a file whole. Where the outlet fails or memory is wanting, the press
     /// stands with its edition, and the next export puts every file that the notification names.
-    pub fn export_to<O: Outlet>(
+    pub(crate) fn export_to<O: Outlet>(
         &mut self,
         alloc: Global,
         outlet: &mut O,
@@ -320,7 +311,7 @@ impl<S: Signer> Press<S> {
     }
 
     /// Asks the signers to drop the keys that the last edition of this run ended, each once. It takes no memory.
-    pub fn retire_keys(&mut self)
+    pub(crate) fn retire_keys(&mut self)
         ensures dropped { DropsEach self.old.ended self.old.ring self.new.ring }
         ensures others { self.new ≡ record self.old { ring = self.new.ring; ended = [] } }
         ensures kept { Keeps self.old.ring self.new.ring }
@@ -330,7 +321,7 @@ impl<S: Signer> Press<S> {
     }
 
     /// The signers, handed back.
-    pub fn close(self) -> Ring<S>
+    pub(crate) fn close(self) -> Ring<S>
         ensures { result ≡ self.ring }
     {
         self.ring

@@ -7,7 +7,7 @@ ghost use Rattle.authority_book.specs.declared.commands.Command.{Command};
 ghost use Rattle.pub_set.specs.Objects.{found_at, content_at};
 ghost use Rattle.press_records.specs.Rows.{row_value};
 ghost use Rattle.press_records.specs.Stages.{are_staged};
-ghost use Rattle.press_records.specs.Edition.{nothing_stands, IsAlike};
+ghost use Rattle.press_records.specs.Edition.{StandingValue, nothing_stands, IsAlike};
 ghost use Rattle.press_records.specs.Recordable.{IsTyped, IsRecordable};
 ghost use Rattle.press_records.specs.Records.{after_editions};
 ghost use Rattle.editions.specs.Edition.{Edition, state_after};
@@ -21,17 +21,17 @@ ghost use Rattle.press_core.specs.Records.{edition_value, standing_at, standing_
 
 use editions::the_plans_keys_are_next;
 
-/// What is prepared can be recorded, over what the editions leave that left what stood, whatever they are: where its
-/// keys are in stages, and the table of what stood told the hash of what stands at each URI. Numbers that fit and URIs
-/// in UTF-8 are what its types say.
+/// What is prepared can be recorded, over what stood and over whatever is alike: where its keys are in stages, and the
+/// table of what stood told the hash of what stands at each URI. Numbers that fit and URIs in UTF-8 are what its types
+/// say.
 pub fn prepared_editions_can_be_recorded()
     ensures { (start : PrepareInput) (ring : List SignerState) (prepared : NextValue) → IsPrepared start ring prepared
         → IsConsistentState start.at → are_staged (map row_value prepared.next.rows) ≡ true
         → ((uri : List ℕ) → found_at (λ row. row.uri) (λ row. row.hash) start.at.issued uri
         ≡ option_map sha256 (content_at start.at.set uri))
         → IsTyped (edition_value (edition_of prepared))
-        → (lists : List (List Command)) (editions : List Edition) → IsLeftBy lists editions start.at
-        → IsRecordable (standing_at (state_after editions)) (edition_value (edition_of prepared)) }
+        → (before : StandingValue) → IsAlike before (standing_of start.at)
+        → IsRecordable before (edition_value (edition_of prepared)) }
 {
     the_plans_keys_are_next();
 }

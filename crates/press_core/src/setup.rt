@@ -14,7 +14,7 @@ ghost use Rattle.press_core.specs.Planned.{IsInRange};
 ghost use Rattle.press_core.specs.Faults.{IsPressFault};
 ghost use Rattle.press_core.specs.inner.Ready.{basis_over, IsSetUp};
 
-use crate::fault::{Met, PressFault};
+use crate::fault::{MetAt, PressFault};
 use authority_book::Config;
 use editions::{
     Gathered, PublishedState, configs_with, cut_with, first_at_end, gathered_commands_are_taken_in,
@@ -51,13 +51,13 @@ pub fn moment_of(at: &PublishedState, now: u64) -> Result<u64, PressFault>
     let Some(moment) = next_moment(now, parts.moment) else {
         return Err(PressFault::ClockRange {
             now,
-            met: Met::new(25, now),
+            met: MetAt::new(25, now),
         });
     };
     if let Some(value) = first_at_end(parts.serial, parts.rows.as_slice()) {
         return Err(PressFault::SerialEnd {
             value,
-            met: Met::new(26, now),
+            met: MetAt::new(26, now),
         });
     }
     Ok(moment)

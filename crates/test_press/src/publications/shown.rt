@@ -2,7 +2,8 @@
 
 use crate::publications::trials::Edition;
 use anyhow::Result;
-use press_core::PressFault;
+use disk_api::MemoryDisk;
+use press_core::PrepareFault;
 use pub_set::Change;
 use sha2::{Digest, Sha256};
 use std::alloc::Global;
@@ -50,30 +51,35 @@ pub fn edition_text(alloc: Global, edition: &Edition) -> Result<String> {
 }
 
 /// The code and the clock of a refusal, its name and its number.
-pub fn fault_text(alloc: Global, fault: &PressFault) -> Result<String> {
+pub fn fault_text(alloc: Global, fault: &PrepareFault<MemoryDisk>) -> Result<String> {
     let text = match fault {
-        PressFault::ClockRange { now, met } => {
+        PrepareFault::ClockRange { now, met } => {
             let (code, clock) = (met.code(), met.clock());
             format!(in alloc; "{code} at {clock}: ClockRange {now}")?
         }
-        PressFault::SerialEnd { value, met } => {
+        PrepareFault::SerialEnd { value, met } => {
             let (code, clock) = (met.code(), met.clock());
             format!(in alloc; "{code} at {clock}: SerialEnd {value}")?
         }
-        PressFault::Nothing { serial, met } => {
+        PrepareFault::Nothing { serial, met } => {
             let (code, clock) = (met.code(), met.clock());
             format!(in alloc; "{code} at {clock}: Nothing {serial}")?
         }
-        PressFault::SignerFault { signer, met } => {
+        PrepareFault::SignerFault { signer, met } => {
             let (code, clock) = (met.code(), met.clock());
             format!(in alloc; "{code} at {clock}: SignerFault {signer}")?
         }
-        PressFault::KeyClash { id, met } => {
+        PrepareFault::KeyClash { id, met } => {
             let (code, clock) = (met.code(), met.clock());
             let digits = hex::encode(alloc, id.bytes)?;
             format!(in alloc; "{code} at {clock}: KeyClash {digits}")?
         }
-        PressFault::Memory => String::from_str(alloc, "out of memory")?,
+        PrepareFault::JournalFull { held, needed, met } => {
+            let (code, clock) = (met.code(), met.clock());
+            format!(in alloc; "{code} at {clock}: JournalFull {held} {needed}")?
+        }
+        PrepareFault::Shut { .. } => String::from_str(alloc, "shut")?,
+        PrepareFault::Memory => String::from_str(alloc, "out of memory")?,
     };
     Ok(text)
 }

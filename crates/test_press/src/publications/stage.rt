@@ -39,10 +39,11 @@ impl<S: Signer> Stage<S> {
         if signers.len() > 8 {
             bail!("too many signers");
         }
+        let site = site(alloc)?;
         Ok(Stage {
-            trial: Trial::new(alloc, site(alloc)?, Ring::new(signers))?,
+            trial: Trial::new(alloc, &site, Ring::new(signers))?,
             desks: Desks::new(alloc)?,
-            site: site(alloc)?,
+            site,
             changes: String::new(alloc),
             outlet: MemoryOutlet::new(alloc, Vec::new(alloc)),
         })

@@ -1,20 +1,24 @@
-//! A press that is tried.
+//! A press that is tried, over a disk in memory.
 
-ghost use Rattle.std.specs.Prelude.{◌<◌, All, IsTrue};
+ghost use Rattle.std.specs.Prelude.{◌≡◌, ◌<◌, [], All, IsTrue, IfOk};
+ghost use Rattle.press_core.specs.Resuming.{AreFirsts};
 
 use crate::publications::desks::Desks;
 use crate::publications::gathering::{gathered, names_have_signers};
 use crate::publications::shown::changes_text;
 use anyhow::{Result, bail};
+use disk_api::MemoryDisk;
 use editions::{Gathered, PublishedNumbers, PublishedState};
 use key_ids::Site;
 use key_roll::KeyRow;
 use outlet_api::{ExportFault, MemoryOutlet};
-use press_core::{Press, PressFault, PressRefused};
+use press_core::{
+    CommitFault, LoadRefused, Loaded, PrepareFault, ResumeRefused, StoredPress, load,
+};
 use pub_set::Change;
 use signer_api::Signer;
 use signer_ring::Ring;
-use std::alloc::{AllocError, Global};
+use std::alloc::Global;
 use std::marker::Model;
 use uuid::Uuid;
 
@@ -31,12 +35,12 @@ pub struct Edition {
 }
 
 /// What a publication comes to.
-pub type Told = std::result::Result<Edition, PressFault>;
+pub type Told = std::result::Result<Edition, PrepareFault<MemoryDisk>>;
 
 /// A press, and how many signers it has.
 #[derive(Drop)]
 pub struct Trial<S: Signer> {
-    press: Press<S>,
+    press: StoredPress<MemoryDisk, S>,
     signers: u32,
 }
 
@@ -46,29 +50,30 @@ impl<S: Signer> Model for Trial<S> {
 
     ghost Value = { PressValue };
 
-    ghost view = { λ trial. trial.press };
+    ghost view = { λ trial. trial.press.press };
 
-    ghost invariant = { λ trial. length trial.press.ring ≡ trial.signers };
+    ghost invariant = { λ trial. length trial.press.press.ring ≡ trial.signers };
 }
 
 impl<S: Signer> Trial<S> {
-    /// A press that published nothing.
-    pub fn new(alloc: Global, site: Site, ring: Ring<S>) -> Result<Trial<S>, AllocError> {
+    /// A press that published nothing, over an empty disk.
+    pub fn new(alloc: Global, site: &Site, ring: Ring<S>) -> Result<Trial<S>> {
         let signers = ring.len();
-        match Press::new(alloc, site, Uuid::from_u128(SESSION), ring) {
+        let loaded = load_empty(alloc, site)?;
+        match StoredPress::resume(alloc, loaded, None, Vec::new(alloc), ring) {
             Ok(press) => Ok(Trial { press, signers }),
-            Err(PressRefused { fault, .. }) => Err(fault),
+            Err(ResumeRefused { .. }) => bail!("no memory for a press"),
         }
     }
 
     /// What stands.
     pub fn published_state(&self) -> &PublishedState {
-        self.press.published_state()
+        self.press.press().published_state()
     }
 
     /// Exports the last edition, and says whether it came to its end.
     pub fn export(&mut self, alloc: Global, outlet: &mut MemoryOutlet) -> Result<bool> {
-        if self.press.serial() == 0 {
+        if self.press.press().serial() == 0 {
             bail!("nothing to export");
         }
         match self.press.export_to(alloc, outlet) {
@@ -80,7 +85,7 @@ impl<S: Signer> Trial<S> {
 
     /// Publishes at that clock what the desks accepted.
     pub fn publish(&mut self, alloc: Global, now: u64, desks: &Desks) -> Result<Told> {
-        let at = self.press.published_state();
+        let at = self.press.press().published_state();
         let gathered = gathered(alloc, at, desks)?;
         if !rows_have_signers(at.parts().rows.as_slice(), self.signers) {
             bail!("a live key without a signer");
@@ -94,7 +99,10 @@ impl<S: Signer> Trial<S> {
         };
         let changes = changes_text(alloc, prepared.changes())?;
         let (puts, withdrawals) = counts(prepared.changes());
-        let published = self.press.commit(prepared);
+        let published = match self.press.commit(prepared) {
+            Ok(published) => published,
+            Err(CommitFault::DiskFault { .. }) => bail!("a disk in memory failed"),
+        };
         self.press.retire_keys();
         Ok(Ok(Edition {
             published,
@@ -103,6 +111,22 @@ impl<S: Signer> Trial<S> {
             changes,
         }))
     }
+}
+
+// What an empty disk has: no edition.
+fn load_empty(alloc: Global, site: &Site) -> Result<Loaded<MemoryDisk>>
+    ensures serial { IfOk result (λ loaded. loaded.serial ≡ 0) }
+    ensures firsts { IfOk result (λ loaded. AreFirsts loaded.cut []) }
+{
+    let disk = MemoryDisk::new(alloc, Vec::new(alloc), Vec::new(alloc));
+    let loaded = match load(alloc, disk, site, Uuid::from_u128(SESSION)) {
+        Ok(loaded) => loaded,
+        Err(LoadRefused { .. }) => bail!("an empty disk isn't loaded"),
+    };
+    if loaded.serial() != 0 {
+        bail!("an empty disk has an edition");
+    }
+    Ok(loaded)
 }
 
 // Whether the live keys use only so many signers.
