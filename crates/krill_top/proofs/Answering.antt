@@ -1,7 +1,7 @@
 -- What lines are answered, from what the instance's calls do.
 use Rattle.std.proofs.Common.{◌≡◌, ℕ, ◌⊎◌, ◌<◌, Bool, true, false, List, [], ◌∷◌, ◌++◌, length, refl, sym, ◌∙◌, ap, subst, inl, inr, arith}
 use Rattle.std.specs.declared.alloc.Global.{Global}
-use Rattle.std.specs.Prelude.{Result, Ok, Err, IfOk, Vec, Option, None, Some, slice_set}
+use Rattle.std.specs.Prelude.{Result, Ok, Err, IfOk, IfErr, Vec, Option, None, Some, slice_set}
 use Rattle.disk_api.specs.declared.disk.Disk.{Ghosts as DiskGhosts}
 use Rattle.outlet_api.specs.declared.outlet.Outlet.{Ghosts as OutletGhosts}
 use Rattle.authority_book.specs.declared.commands.Command.{Command}
@@ -30,6 +30,18 @@ use Rattle.krill_top.proofs.Moving.{stay_timed, moves_at, timed_so}
 pub if_ok_so : {T E : Type 0} (r : Result T E) (P Q : T → Type 0) → IfOk r P → ((x : T) → P x → Q x) → IfOk r Q
 if_ok_so (Ok x) P Q p f = f x p
 if_ok_so (Err e) P Q p f = tt
+
+pub if_err_so : {T E : Type 0} (r : Result T E) (P Q : E → Type 0) → IfErr r P → ((x : E) → P x → Q x) → IfErr r Q
+if_err_so (Ok x) P Q p f = tt
+if_err_so (Err e) P Q p f = f e p
+
+pub if_err_both : {T E : Type 0} (r : Result T E) (P Q R : E → Type 0) → IfErr r P → IfErr r Q → ((x : E) → P x → Q x → R x) → IfErr r R
+if_err_both (Ok x) P Q R p q f = tt
+if_err_both (Err e) P Q R p q f = f e p q
+
+pub if_err_three : {T E : Type 0} (r : Result T E) (P Q R S : E → Type 0) → IfErr r P → IfErr r Q → IfErr r R → ((x : E) → P x → Q x → R x → S x) → IfErr r S
+if_err_three (Ok x) P Q R S p q r f = tt
+if_err_three (Err e) P Q R S p q r f = f e p q r
 
 -- a refused command changes nothing
 unchanged_desks : (number : Option ℕ) (command : Command) (signers : ℕ) (refusal : Refusal) (before after : DeskStates) → CommandedAt number command signers (Verdict refusal) before after → after ≡ before

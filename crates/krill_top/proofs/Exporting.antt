@@ -26,7 +26,8 @@ use Rattle.krill_top.specs.InstanceState.{InstanceState, OutletState, outlet_sta
 use Rattle.krill_top.specs.Exports.{Exports, ExportsOrStops, stop_of}
 use Rattle.krill_top.specs.inner.Instances.{InstanceValue, IsInState, Arrives, Moves}
 use Rattle.krill_top.proofs.Standing.{go_on_same}
-use Rattle.krill_top.proofs.Vouching.{keeps_same, vouch_same}
+use Rattle.krill_top.proofs.PressStanding.{press_kept, grow_same}
+use Rattle.krill_top.proofs.Vouching.{keeps_same}
 
 -- ---- what was shown last
 
@@ -129,15 +130,18 @@ module _ {D O : Type 0} (disk_of : DiskGhosts D) (outlet_of : OutletGhosts O) wh
         after = after;
         same_site = refl;
         same_session = refl;
+        same_found = refl;
         step = step;
         stands = record {
           desks = stands.desks;
           left = stands.left;
-          stands = stands.stands;
+          stands = λ vouched all. stands.stands vouched (record { calls = all.calls; found = all.found });
+          in_doubt = λ vouched all. stands.in_doubt vouched (record { calls = all.calls; found = all.found });
           serial = stands.serial;
           files = record { kept = stands.files.kept; set = stands.files.set };
           site = stands.site;
           session = stands.session;
+          journal = record { limit = stands.journal.limit; records = stands.journal.records; are = stands.journal.are; shut = stands.journal.shut; doubt = stands.journal.doubt };
           exported = refl;
           outlet = refl;
           shows = shows;
@@ -150,8 +154,10 @@ module _ {D O : Type 0} (disk_of : DiskGhosts D) (outlet_of : OutletGhosts O) wh
           name_signers = stands.name_signers;
         };
         disks = go_on_same disk_of old.desks before.desk_states stands.desks;
+        press = press_kept disk_of old.journal.disk before after refl;
+        grown = grow_same before after refl;
         kept = keeps_same before.signers;
-        vouch = vouch_same before;
+        vouch = λ tell vouched has all. record { calls = all.calls; found = all.found };
         coherent = coherent_then;
       }
 

@@ -1,6 +1,7 @@
 pub mod InTurn
 pub mod Standing
 pub mod Vouching
+pub mod PressStanding
 pub mod Moving
 pub mod Commanding
 pub mod Lists
@@ -11,9 +12,13 @@ pub mod Publishing
 pub mod Exporting
 pub mod Closing
 pub mod Telling
-pub mod FirstInstanceState
+pub mod Writing
+pub mod PressFound
 pub mod Reading
 pub mod Answering
+pub mod PressServed
 pub mod Sessions
 pub mod Served
+pub mod StartedInstance
+pub mod PressOpening
 pub mod Removed

@@ -5,6 +5,7 @@ use Rattle.outlet_api.specs.declared.outlet.Outlet.{Ghosts as OutletGhosts}
 use Rattle.krill_top.specs.InstanceState.{InstanceState, TimedInstanceState, at_clock}
 use Rattle.krill_top.specs.inner.Instances.{InstanceValue, TimedInstance, IsInState, Arrives, Moves, MovesTimed}
 use Rattle.krill_top.proofs.Standing.{go_on_same, go_on_then}
+use Rattle.krill_top.proofs.PressStanding.{press_kept, press_then, grow_same, grow_then}
 use Rattle.krill_top.proofs.Vouching.{keeps_same, keeps_then, vouch_same, vouch_then}
 
 module _ {D O : Type 0} (disk_of : DiskGhosts D) (outlet_of : OutletGhosts O) where
@@ -15,9 +16,12 @@ module _ {D O : Type 0} (disk_of : DiskGhosts D) (outlet_of : OutletGhosts O) wh
     after = before;
     same_site = refl;
     same_session = refl;
+    same_found = refl;
     step = step;
     stands = stands;
     disks = go_on_same disk_of instance.desks before.desk_states stands.desks;
+    press = press_kept disk_of instance.journal.disk before before refl;
+    grown = grow_same before before refl;
     kept = keeps_same before.signers;
     vouch = vouch_same before;
     coherent = λ is. is;
@@ -33,9 +37,12 @@ module _ {D O : Type 0} (disk_of : DiskGhosts D) (outlet_of : OutletGhosts O) wh
     after = is.after;
     same_site = is.same_site;
     same_session = is.same_session;
+    same_found = is.same_found;
     step = so is.after is.step;
     stands = is.stands;
     disks = is.disks;
+    press = is.press;
+    grown = is.grown;
     kept = is.kept;
     vouch = is.vouch;
     coherent = is.coherent;
@@ -48,9 +55,12 @@ module _ {D O : Type 0} (disk_of : DiskGhosts D) (outlet_of : OutletGhosts O) wh
     after = rest.after;
     same_site = rest.same_site ∙ first.same_site;
     same_session = rest.same_session ∙ first.same_session;
+    same_found = rest.same_found ∙ first.same_found;
     step = so rest.after rest.step;
     stands = rest.stands;
     disks = go_on_then disk_of old.desks mid.desks new.desks before.desk_states first.after.desk_states rest.after.desk_states first.disks rest.disks;
+    press = press_then disk_of old.journal.disk mid.journal.disk new.journal.disk before first.after rest.after first.press rest.press;
+    grown = grow_then before first.after rest.after first.grown rest.grown;
     kept = keeps_then before.signers first.after.signers rest.after.signers first.kept rest.kept;
     vouch = vouch_then before first.after rest.after first.kept rest.kept first.vouch rest.vouch;
     coherent = λ is. rest.coherent (first.coherent is);

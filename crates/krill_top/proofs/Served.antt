@@ -1,7 +1,8 @@
 -- A run over all desks, from what opening found, what the session did, and what closing leaves.
-use Rattle.std.proofs.Common.{◌≡◌, ℕ, zero, suc, ◌+◌, ◌≤◌, List, [], ◌∷◌, length, map, refl, sym, ◌∙◌, ap, subst, arith}
+use Rattle.std.proofs.Common.{◌≡◌, ℕ, zero, suc, ◌+◌, ◌≤◌, List, [], ◌∷◌, map, refl, sym, ◌∙◌, ap, subst, arith}
 use Rattle.std.specs.Prelude.{Bool, Option, None, Some, Result, IfSome, slice_get, ⊤}
 use Rattle.std.specs.Option.{option_map}
+use Rattle.std.proofs.lemmas.Option.{IfSome_then}
 use Rattle.host_calls.specs.Rise.{HasRisen}
 use Rattle.disk_api.specs.declared.disk.Disk.{Ghosts as DiskGhosts}
 use Rattle.line_loop.specs.declared.traits.Source.{Ghosts as SourceGhosts}
@@ -17,23 +18,29 @@ use Rattle.krill_top.specs.declared.serving.SessionEnds.{SessionEnds}
 use Rattle.krill_top.specs.declared.running.RunEnd.{RunEnd}
 use Rattle.krill_top.specs.DeskStates.{DeskStates, DeskState}
 use Rattle.signer_api.specs.State.{SignerState}
-use Rattle.krill_top.specs.declared.faults.OpenFault.{OpenFault}
-use Rattle.krill_top.specs.DeskStates.{names_in}
-use Rattle.krill_top.specs.InstanceState.{InstanceState, outlet_state, first_state}
+use Rattle.krill_top.specs.declared.ends.Ends.{Ends}
+use Rattle.krill_top.specs.declared.starting.Started.{Started}
+use Rattle.key_ids.specs.Uris.{Bases}
+use Rattle.gate_journal.specs.View.{IsSafe as IsSafeJournal}
+use Rattle.krill_top.specs.InstanceState.{InstanceState, outlet_state}
+use Rattle.krill_top.specs.inner.Started.{IsStarted, IsStartedIn}
+use Rattle.krill_top.proofs.PressStanding.{press_kept, press_then, grow_then}
+use Rattle.krill_top.proofs.PressServed.{RecordsLaw, press_served}
 use Rattle.krill_top.specs.Session.{session_of}
 use Rattle.krill_top.specs.Exports.{Repeats}
 use Rattle.outlet_api.specs.declared.outlet.Outlet.{Ghosts as OutletGhosts}
 use Rattle.outlet_api.specs.declared.exports.ExportFault.{ExportFault}
 use Rattle.krill_top.specs.DesksInStates.{IsIn, InAt, AreIn, all_stored, DeskGoesOn, DeskGoesOnAt, DesksGoOn}
-use Rattle.krill_top.specs.inner.Instances.{InstanceValue, TimedInstance, IsInState, Moves}
+use Rattle.krill_top.specs.inner.Instances.{InstanceValue, TimedInstance, Moves}
 use Rattle.krill_top.specs.Statuses.{run_status, end_fault}
 use Rattle.krill_top.specs.inner.Opened.{IsOpened, IsClosed, AreOpened, AreClosed}
 use Rattle.krill_top.specs.Sessions.{Served}
-use Rattle.krill_top.specs.Run.{IsNext, IsServed, IsServedAt, IsSignersCause, IsClosedAgain, ServesOne, signers_needed, streams_of}
+use Rattle.krill_top.specs.Run.{IsNext, IsServed, IsServedAt, AreServed, ServesOne, Tells, TellsOne, streams_of}
+use Rattle.krill_top.specs.Summaries.{summary_line}
 use Rattle.krill_top.proofs.Standing.{go_on_same, go_on_then}
 use Rattle.krill_top.proofs.Vouching.{vouch_then}
 use Rattle.krill_top.proofs.Exporting.{NewestLaw, exported_shown}
-use Rattle.krill_top.proofs.Closing.{well_exported}
+use Rattle.krill_top.proofs.Closing.{well_exported, started_shown, coherent_begun}
 use Rattle.krill_top.proofs.InTurn.{opened_stood_for, closed_left}
 
 module _ {D : Type 0} (disk_of : DiskGhosts D) where
@@ -148,24 +155,25 @@ module _ {D : Type 0} (disk_of : DiskGhosts D) where
   )
 
   -- desks that were opened and closed again
-  pub closed_again : (fault : OpenFault) (signers : ℕ) (disks : List D) (desks : List (View D)) (news : List D) → AreOpened disk_of 0 disks desks → AreClosed disk_of desks news
-      → ((desk_states : DeskStates) → AreIn desks desk_states → IsSignersCause fault signers desk_states) → IsClosedAgain disk_of fault signers disks news
+  pub desks_closed_again : (disks : List D) (desks : List (View D)) (news : List D) (opened : AreOpened disk_of 0 disks desks) → AreClosed disk_of desks news
+      → (found : DeskStates) × AreIn desks found × AreServed disk_of disks news found found
   unfolding opened_seen
-  closed_again fault signers disks desks news opened closed cause =
-      let desk_states = opened_seen disks desks opened in
-      record {
-        found = desk_states.0;
-        disks = λ n. served_at n (slice_get disks n) (slice_get desks n) (slice_get desks n) (slice_get news n) (slice_get desk_states.0 n) (slice_get desk_states.0 n)
-            (opened_at 0 disks desks opened n n (omega arith)) (go_on_same disk_of desks desk_states.0 desk_states.1 n) (desk_states.1 n) (closed_at desks news closed n);
-        cause = cause desk_states.0 desk_states.1;
-      }
+  desks_closed_again disks desks news opened closed =
+      let desk_states = opened_seen disks desks opened in (
+        desk_states.0,
+        desk_states.1,
+        λ n. served_at n (slice_get disks n) (slice_get desks n) (slice_get desks n) (slice_get news n) (slice_get desk_states.0 n) (slice_get desk_states.0 n)
+            (opened_at 0 disks desks opened n n (omega arith)) (go_on_same disk_of desks desk_states.0 desk_states.1 n) (desk_states.1 n) (closed_at desks news closed n),
+      )
 
--- what a run began with, what it hands back, and how it went
+-- what a run hands back, and how it went
 pub record IsRun {D G S K O C : Type 0} (disk_of : DiskGhosts D) (state_of : G → SignerState) (outlet_of : OutletGhosts O) (source_of : SourceGhosts S) (sink_of : SinkGhosts K)
     (before after : SessionEnds S K C) (end : SessionEnd) (closing : Result Bool (ExportFault O)) (run : RunEnd D G S K O C) (closed : InstanceValue D O) : Type 0 where
-  pub desks : AreClosed disk_of closed.desks run.desks.items
-  pub signers : map state_of run.signers.items ≡ closed.press.ring
-  pub outlet : run.outlet ≡ closed.outlet
+  pub desks : AreClosed disk_of closed.desks run.ends.desks.items
+  pub press : run.ends.press ≡ closed.journal.disk
+  pub safe : IsSafeJournal disk_of closed.journal
+  pub signers : map state_of run.ends.signers.items ≡ closed.press.ring
+  pub outlet : run.ends.outlet ≡ closed.outlet
   pub sessions : run.sessions.items ≡ after ∷ []
   pub status : run.status ≡ run_status (end_fault end closing)
   pub fault : run.fault ≡ end_fault end closing
@@ -179,46 +187,57 @@ module _ {D G S K O C : Type 0} (disk_of : DiskGhosts D) (state_of : G → Signe
   abbrev pub timed_by : SessionEnds S K C → InstanceValue D O → TimedInstance D O
   timed_by ends instance = record { instance = instance; clock = clock_of.readings ends.clock }
 
-  pub serves : NewestLaw → (random : List ℕ) (disks : List D) (signers : List G) (outlet : O) (before after : SessionEnds S K C) (end : SessionEnd) (closing : Result Bool (ExportFault O))
-      (run : RunEnd D G S K O C) (instance served closed : InstanceValue D O)
-      → AreOpened disk_of 0 disks instance.desks
-      → ((desk_states : DeskStates) → AreIn instance.desks desk_states → IsInState outlet_of instance (first_state (session_of random) desk_states (map state_of signers) (outlet_state outlet_of outlet)))
-      → ((desk_states : DeskStates) → AreIn instance.desks desk_states → signers_needed (names_in desk_states) ≤ length (map state_of signers))
-      → Served disk_of outlet_of source_of sink_of (streams_of before) (streams_of after) (timed_by before instance) (timed_by after served) end
+  pub serves : NewestLaw → RecordsLaw → (site : Bases) (random : List ℕ) (ends : Ends D G O) (before after : SessionEnds S K C) (end : SessionEnd) (closing : Result Bool (ExportFault O))
+      (run : RunEnd D G S K O C) (started : Started D G O) (served closed : InstanceValue D O)
+      → IsStarted disk_of state_of outlet_of site (session_of random) ends started
+      → Served disk_of outlet_of source_of sink_of (streams_of before) (streams_of after) (timed_by before started.instance) (timed_by after served) end
       → Moves disk_of outlet_of (Repeats closing) served closed
       → IsRun disk_of state_of outlet_of source_of sink_of before after end closing run closed
-      → ServesOne disk_of state_of outlet_of source_of sink_of clock_of random disks signers outlet before run
+      → ServesOne disk_of state_of outlet_of source_of sink_of clock_of site random ends before run
   unfolding opened_seen
-  serves law random disks signers outlet before after end closing run instance served closed opened stands there session repeats is =
-      let desk_states = opened_seen disk_of disks instance.desks opened in
-      let begun : InstanceState = first_state (session_of random) desk_states.0 (map state_of signers) (outlet_state outlet_of outlet) in
-      let done = session begun (stands desk_states.0 desk_states.1) in
+  serves law records site random ends before after end closing run started served closed begins session repeats is =
+      let disks = ends.desks.items in
+      let instance : InstanceValue D O = started.instance in
+      let found = opened_seen disk_of disks instance.desks begins.desks in
+      let at : IsStartedIn disk_of state_of outlet_of site (session_of random) ends started found.0 = begins.each found.0 found.1 in
+      let begun : InstanceState = at.begun in
+      let done = session begun at.stands in
       let last = repeats done.after done.stands in
-      let disks_on : DesksGoOn disk_of instance.desks closed.desks desk_states.0 last.after.desk_states =
-      go_on_then disk_of instance.desks served.desks closed.desks desk_states.0 done.after.desk_states last.after.desk_states done.disks last.disks in
+      let disks_on : DesksGoOn disk_of instance.desks closed.desks begun.desk_states last.after.desk_states =
+      go_on_then disk_of instance.desks served.desks closed.desks begun.desk_states done.after.desk_states last.after.desk_states done.disks last.disks in
       record {
         after = after;
         end = end;
         closing = closing;
+        opened = at.opened;
         begun = begun;
         served = done.after;
         ended = last.after;
+        summary = started.summary;
         handed_back = is.sessions;
         status = is.status;
         fault = is.fault;
+        opens = at.opens;
         session = done.step;
         repeats = last.step;
-        disks = λ n. served_at disk_of n (slice_get disks n) (slice_get instance.desks n) (slice_get closed.desks n) (slice_get run.desks.items n) (slice_get desk_states.0 n) (slice_get last.after.desk_states n)
-            (opened_at disk_of 0 disks instance.desks opened n n (omega arith)) (disks_on n) (last.stands.desks n) (closed_at disk_of closed.desks run.desks.items is.desks n);
-        begins = refl;
+        disks = subst (λ (b : DeskStates). AreServed disk_of disks run.ends.desks.items b last.after.desk_states) (sym at.same)
+            (λ n. served_at disk_of n (slice_get disks n) (slice_get instance.desks n) (slice_get closed.desks n) (slice_get run.ends.desks.items n) (slice_get found.0 n) (slice_get last.after.desk_states n)
+            (opened_at disk_of 0 disks instance.desks begins.desks n n (omega arith))
+            (subst (λ (b : DeskStates). DesksGoOn disk_of instance.desks closed.desks b last.after.desk_states) at.same disks_on n)
+            (last.stands.desks n) (closed_at disk_of closed.desks run.ends.desks.items is.desks n));
+        press = press_served disk_of outlet_of records (session_of random) ends.press instance.journal.disk run.ends.press closed begun last.after at.press
+            (press_then disk_of instance.journal.disk served.journal.disk closed.journal.disk begun done.after last.after done.press last.press) last.stands is.safe is.press;
         same_site = last.same_site ∙ done.same_site;
         same_session = last.same_session ∙ done.same_session;
+        same_found = last.same_found ∙ done.same_found;
+        grown = grow_then begun done.after last.after done.grown last.grown;
         steps = λ vouched all. (last.stands.stands vouched all).steps;
+        doubt = λ vouched all. IfSome_then last.after.in_doubt (last.stands.in_doubt vouched all) (λ edition is. is.1.steps);
         vouch = vouch_then begun done.after last.after done.kept last.kept done.vouch last.vouch;
         signers_ended = is.signers ∙ last.stands.ring;
-        signers_there = there desk_states.0 desk_states.1;
         outlet_ended = ap (outlet_state outlet_of) is.outlet ∙ last.stands.outlet;
-        coherent = λ was. last.coherent (done.coherent was);
+        coherent = λ was. last.coherent (done.coherent (at.coherent was));
+        coherent_then = λ some. last.coherent (done.coherent (coherent_begun outlet_of instance at.opened begun at.stands at.opens.just.exported at.opens.exported some));
         shown = λ exported. exported_shown disk_of outlet_of law closed last.after last.stands exported;
         well = λ zero. exported_shown disk_of outlet_of law closed last.after last.stands
             (well_exported end closing done.after last.after last.step (sym is.status ∙ zero));
@@ -226,4 +245,45 @@ module _ {D G S K O C : Type 0} (disk_of : DiskGhosts D) (state_of : G → Signe
         sink_fault = is.sink_fault;
         source_later = is.source_later;
         sink_later = is.sink_later;
+      }
+
+  -- what closing leaves of a run that told
+  pub record IsTold (before after : SessionEnds S K C) (run : RunEnd D G S K O C) (line : List ℕ) (closed : InstanceValue D O) : Type 0 where
+    pub desks : AreClosed disk_of closed.desks run.ends.desks.items
+    pub press : run.ends.press ≡ closed.journal.disk
+    pub safe : IsSafeJournal disk_of closed.journal
+    pub signers : map state_of run.ends.signers.items ≡ closed.press.ring
+    pub outlet : run.ends.outlet ≡ closed.outlet
+    pub sessions : run.sessions.items ≡ after ∷ []
+    pub status : run.status ≡ run_status run.fault
+    pub source : after.source ≡ before.source
+    pub clock : after.clock ≡ before.clock
+    pub tells : Tells sink_of line run.fault before.sink after.sink
+
+  pub tells_one : RecordsLaw → (site : Bases) (random : List ℕ) (ends : Ends D G O) (before after : SessionEnds S K C) (run : RunEnd D G S K O C) (started : Started D G O)
+      → IsStarted disk_of state_of outlet_of site (session_of random) ends started → IsTold before after run (summary_line started.summary) started.instance
+      → TellsOne disk_of state_of outlet_of sink_of site random ends before run
+  tells_one records site random ends before after run started begins is =
+      let disks = ends.desks.items in
+      let instance : InstanceValue D O = started.instance in
+      let found = desks_closed_again disk_of disks instance.desks run.ends.desks.items begins.desks is.desks in
+      let at : IsStartedIn disk_of state_of outlet_of site (session_of random) ends started found.0 = begins.each found.0 found.1 in
+      record {
+        after = after;
+        opened = at.opened;
+        begun = at.begun;
+        summary = started.summary;
+        handed_back = is.sessions;
+        status = is.status;
+        same_source = is.source;
+        same_clock = is.clock;
+        opens = at.opens;
+        tells = is.tells;
+        disks = subst (λ (b : DeskStates). AreServed disk_of disks run.ends.desks.items b b) (sym at.same) found.2;
+        press = press_served disk_of outlet_of records (session_of random) ends.press instance.journal.disk run.ends.press instance at.begun at.begun at.press
+            (press_kept disk_of instance.journal.disk at.begun at.begun refl) at.stands is.safe is.press;
+        signers_ended = is.signers ∙ at.stands.ring;
+        outlet_ended = ap (outlet_state outlet_of) is.outlet ∙ at.stands.outlet;
+        coherent = at.coherent;
+        shown = started_shown outlet_of instance at.opened at.begun at.stands at.opens.just.exported at.opens.exported;
       }

@@ -31,13 +31,13 @@ is_same m n same = grind (arith, nat_tests)
 is_other : (m n : ℕ) → m ≢ n → (m == n) ≡ false
 is_other m n other = grind (arith, nat_tests)
 
-skipped : (group : Gathered) (rest : List Gathered) (desk : ℕ) → group.desk ≢ desk → gathering.commands_of (group ∷ rest) desk ≡ gathering.commands_of rest desk
+pub skipped : (group : Gathered) (rest : List Gathered) (desk : ℕ) → group.desk ≢ desk → gathering.commands_of (group ∷ rest) desk ≡ gathering.commands_of rest desk
 skipped group rest desk other = rw (is_other group.desk desk other) refl
 
-counted : (group : Gathered) (rest : List Gathered) (desk : ℕ) → group.desk ≡ desk → gathering.commands_of (group ∷ rest) desk ≡ group.commands ++ gathering.commands_of rest desk
+pub counted : (group : Gathered) (rest : List Gathered) (desk : ℕ) → group.desk ≡ desk → gathering.commands_of (group ∷ rest) desk ≡ group.commands ++ gathering.commands_of rest desk
 counted group rest desk same = rw (is_same group.desk desk same) refl
 
-past_end : {X : Type 0} (xs : List X) (k : ℕ) (d : X) → length xs ≤ k → get_or xs k d ≡ d
+pub past_end : {X : Type 0} (xs : List X) (k : ℕ) (d : X) → length xs ≤ k → get_or xs k d ≡ d
 past_end [] k d far = refl
 past_end (x ∷ xs) zero d far = absurd (omega (arith, far))
 past_end (x ∷ xs) (suc k) d far = past_end xs k d (omega (arith, far))
@@ -161,7 +161,7 @@ module _ {D : Type 0} where
     pub one_each : length desks ≡ length cut
     pub within : (desk : ℕ) → cut_at cut desk ≤ length (get_or (lists_of desk_states) desk [])
 
-  there_is : (desks : List (View D)) (k : ℕ) → k < length desks → (desk : View D) × (slice_get desks k ≡ Some desk)
+  pub there_is : (desks : List (View D)) (k : ℕ) → k < length desks → (desk : View D) × (slice_get desks k ≡ Some desk)
   there_is [] k inside = absurd (omega (arith, inside))
   there_is (d ∷ desks) zero inside = (d, refl)
   there_is (d ∷ desks) (suc k) inside = there_is desks k (omega (arith, inside))

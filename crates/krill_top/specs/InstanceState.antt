@@ -1,6 +1,6 @@
--- What replies rest on: each desk's commands, what was published of them and exported, the signers, the
--- outlet, and the clock.
-use Rattle.std.specs.Prelude.{◌≡◌, ℕ, Bool, ◌==◌, ◌||◌, true, false, List, [], Option, All, IfSome, map, codes}
+-- What replies rest on: each desk's commands, what was published of them and exported, the press's
+-- journal, the signers, the outlet, and the clock.
+use Rattle.std.specs.Prelude.{◌≡◌, ℕ, Bool, ◌==◌, ◌||◌, true, false, List, [], Option, None, All, IfSome, map}
 use Rattle.authority_book.specs.declared.commands.Command.{Command}
 use Rattle.key_ids.specs.Uris.{Bases}
 use Rattle.signer_api.specs.State.{SignerState}
@@ -8,7 +8,7 @@ use Rattle.signer_ring.specs.Ring.{AllTell, Vouched as VouchedBy}
 use Rattle.signer_ring.specs.Calls.{Call}
 use Rattle.rp_rules.specs.Certificates.{Vouched}
 use Rattle.editions.specs.Edition.{Edition}
-use Rattle.editions.specs.Step.{Premises}
+use Rattle.editions.specs.Step.{Premises, AreSteps}
 use Rattle.editions.specs.VouchedCalls.{IsVouchedBy}
 use Rattle.editions.specs.Edition.{state_after}
 use Rattle.outlet_api.specs.Calls.{Files}
@@ -18,6 +18,8 @@ use Rattle.press_core.specs.declared.last_export.LastExport.{LastExport}
 use Rattle.press_core.specs.declared.last_export.LastExport.TheVariants.{NoExport, Failed, Done}
 use Rattle.press_core.specs.Files.{repository_at}
 use Rattle.press_core.specs.Exports.{IsCoherent, ShowsEdition}
+use Rattle.press_core.specs.JournalRecords.{store_for}
+use Rattle.press_records.specs.Store.{Store}
 use Rattle.krill_top.specs.DeskStates.{DeskStates}
 
 -- What stands at each path of the outlet, where it tells, and how often it has failed.
@@ -31,14 +33,24 @@ outlet_state outlet_of outlet = record {
   faults = outlet_of.fault_count outlet;
 }
 
--- The bases of the repository, and the session of its RRDP files; the desks; the editions that stand,
--- the first first, the calls by which the signers made these, and how the last export of this run
--- ended; the signers, and the outlet.
+-- What opening found: the accepted commands of each desk, and the editions, the first first.
+pub record Found : Type 0 where
+  pub lists : List (List Command)
+  pub editions : List Edition
+
+-- The bases of the repository, and the session of its RRDP files; the desks; what opening found; the
+-- editions that stand, the first first, the one in doubt where a fault of its disk shut the press's
+-- journal, and the records of that journal, where its disk tells; the calls by which the signers made
+-- the editions of this run, with the one in doubt, and how the last export of this run ended; the
+-- signers, and the outlet.
 pub record InstanceState : Type 0 where
   pub site : Bases
   pub session : List ℕ
   pub desk_states : DeskStates
+  pub found : Found
   pub editions : List Edition
+  pub in_doubt : Option Edition
+  pub records : Option (List (List ℕ))
   pub calls : List Call
   pub exported : LastExport
   pub signers : List SignerState
@@ -55,25 +67,17 @@ at_clock clock state = record { state = state; clock = clock }
 abbrev pub lists_of : DeskStates → List (List Command)
 lists_of desk_states = map (λ desk. desk.commands) desk_states
 
--- The bases of a repository of which nothing else is said.
-abbrev pub default_bases : Bases
-default_bases = record {
-  rsync = codes "rsync://rpki.example/repo/";
-  rrdp = codes "https://rpki.example/rrdp/";
-}
+-- The store of the press's journal.
+abbrev pub store_in : InstanceState → Store
+store_in state = store_for state.session state.site
 
--- The state over these desks, signers and outlet before the first edition.
-abbrev pub first_state : List ℕ → DeskStates → List SignerState → OutletState → InstanceState
-first_state session desk_states signers outlet = record {
-  site = default_bases;
-  session = session;
-  desk_states = desk_states;
-  editions = [];
-  calls = [];
-  exported = NoExport;
-  signers = signers;
-  outlet = outlet;
-}
+-- Whatever was found stands, and nothing was made or exported in this run.
+pub record IsJustOpened (state : InstanceState) : Type 0 where
+  pub lists : state.found.lists ≡ lists_of state.desk_states
+  pub editions : state.found.editions ≡ state.editions
+  pub settled : state.in_doubt ≡ None
+  pub calls : state.calls ≡ []
+  pub exported : state.exported ≡ NoExport
 
 -- Over what editions are made: the accepted commands of each desk, the repository's bases, and these
 -- signatures being vouched.
@@ -84,10 +88,21 @@ premises_of vouched state = record {
   vouched = vouched;
 }
 
--- The signatures that were made for the editions are vouched. No other signature has to be, so a list
--- of just these is enough.
-abbrev pub AreVouchedIn : Vouched → InstanceState → Type 0
-AreVouchedIn vouched state = All (IsVouchedBy vouched) state.calls
+-- The editions that opening found are steps, each behind those before it, over the commands that it
+-- found. So they are in a new store, which has none, and in one that earlier runs left.
+abbrev pub AreFoundSteps : Vouched → InstanceState → Type 0
+AreFoundSteps vouched state = AreSteps (record {
+  lists = state.found.lists;
+  site = state.site;
+  vouched = vouched;
+}) state.found.editions
+
+-- The signatures that were made for the editions of this run and for the one in doubt are vouched, and
+-- those that opening found are steps by what is. No other signature has to be, so a list of just these
+-- is enough.
+pub record AreVouchedIn (vouched : Vouched) (state : InstanceState) : Type 0 where
+  pub calls : All (IsVouchedBy vouched) state.calls
+  pub found : AreFoundSteps vouched state
 
 -- Each signature that one of the signers vouches for is vouched.
 abbrev pub HasAllOf : Vouched → List SignerState → Type 0

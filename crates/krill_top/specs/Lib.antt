@@ -12,5 +12,7 @@ pub mod Sessions
 pub mod Words
 pub mod Statuses
 pub mod RunDisks
+pub mod PressDisk
+pub mod Summaries
 pub mod Run
 pub mod inner

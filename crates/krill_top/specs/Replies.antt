@@ -15,20 +15,21 @@ use Rattle.json_api.specs.Line.{ReadsLine}
 use Rattle.json_api.specs.Reply.{accepted_spelling, published_spelling, serial_spelling}
 use Rattle.editions.specs.Edition.{state_after}
 use Rattle.editions.specs.declared.published_state.PublishedNumbers.{PublishedNumbers}
-use Rattle.press_core.specs.declared.fault.PressFault.{PressFault}
 use Rattle.press_core.specs.declared.fault.PressFault.TheVariants as press
 use Rattle.line_loop.specs.Readings.{IsReading}
 use Rattle.outlet_api.specs.declared.outlet.OutletStop.{OutletStop}
 use Rattle.outlet_api.specs.declared.outlet.OutletStop.TheVariants as stop
 use Rattle.krill_top.specs.InstanceState.{InstanceState, TimedInstanceState}
+use Rattle.krill_top.specs.DeskStates.{press_device}
 use Rattle.krill_top.specs.declared.command_fault.CommandFault.{CommandFault}
 use Rattle.krill_top.specs.declared.command_fault.CommandFault.TheVariants as faults
 use Rattle.krill_top.specs.Outcomes.{Outcome, Commanded, fault_outcome}
-use Rattle.krill_top.specs.Outcomes.Outcome.{Accepted, NoSuchAuthority, Shut, Verdict, JournalFull, DiskFault, Memory}
+use Rattle.krill_top.specs.Outcomes.Outcome.{Accepted, NoSuchAuthority, Shut as DeskShut, Verdict, JournalFull as DeskFull, DiskFault as DeskFault, Memory as DeskMemory}
 use Rattle.krill_top.specs.Reads.{list_reply, history_reply}
 use Rattle.krill_top.specs.Sheets.{IsShowText, IsRoasText}
-use Rattle.krill_top.specs.Publishing.{Outcome as Publication, ComesTo, has_changed}
-use Rattle.krill_top.specs.Publishing.Outcome.{Published as Exported, Unexported, Repeated, Refused as Unmade}
+use Rattle.krill_top.specs.Publishing.{Outcome as Publication, Unmade, ComesTo, has_changed}
+use Rattle.krill_top.specs.Publishing.Unmade.{ByPress, Shut, JournalFull, DiskFault}
+use Rattle.krill_top.specs.Publishing.Outcome.{Published as Exported, Unexported, Repeated, Refused as NotMade}
 
 -- Space, tab and carriage return.
 abbrev pub is_blank_byte : ℕ → Bool
@@ -54,16 +55,16 @@ IsTold told before text changed after = IsToldSo (λ it. it ≡ told) before tex
 abbrev pub outcome_text : List ℕ → Outcome → List ℕ
 outcome_text name (Accepted count) = accepted_spelling name count
 outcome_text name NoSuchAuthority = refused_spelling (refused.NoSuchAuthority name)
-outcome_text name Shut = refused_spelling refused.Shut
+outcome_text name DeskShut = refused_spelling refused.Shut
 outcome_text name (Verdict refusal) = verdict_spelling refusal
-outcome_text name (JournalFull held needed) = refused_spelling (refused.JournalFull held needed)
-outcome_text name (DiskFault device) = refused_spelling (refused.DiskFault device)
-outcome_text name Memory = refused_spelling refused.Memory
+outcome_text name (DeskFull held needed) = refused_spelling (refused.JournalFull held needed)
+outcome_text name (DeskFault device) = refused_spelling (refused.DiskFault device)
+outcome_text name DeskMemory = refused_spelling refused.Memory
 
 -- Whether it changed a desk: the command was accepted, or is in doubt.
 abbrev pub is_change : Outcome → Bool
 is_change (Accepted count) = true
-is_change (DiskFault device) = true
+is_change (DeskFault device) = true
 is_change other = false
 
 -- A command to the authority of that name comes to this, with the signers that there are. It changes
@@ -94,13 +95,16 @@ published_in_reply published = record {
   origins = published.origins;
 }
 
-abbrev pub refused_of : PressFault → Refused
-refused_of (press.ClockRange now met) = refused.ClockRange now
-refused_of (press.SerialEnd value met) = refused.SerialEnd value
-refused_of (press.Nothing serial met) = refused.Nothing serial
-refused_of (press.SignerFault signer met) = refused.SignerFault signer
-refused_of (press.KeyClash id met) = refused.KeyClash id
-refused_of press.Memory = refused.Memory
+abbrev pub unmade_as : Unmade → Refused
+unmade_as (ByPress (press.ClockRange now met)) = refused.ClockRange now
+unmade_as (ByPress (press.SerialEnd value met)) = refused.SerialEnd value
+unmade_as (ByPress (press.Nothing serial met)) = refused.Nothing serial
+unmade_as (ByPress (press.SignerFault signer met)) = refused.SignerFault signer
+unmade_as (ByPress (press.KeyClash id met)) = refused.KeyClash id
+unmade_as (ByPress press.Memory) = refused.Memory
+unmade_as Shut = refused.Shut
+unmade_as (JournalFull held needed) = refused.JournalFull held needed
+unmade_as DiskFault = refused.DiskFault press_device
 
 -- Why an edition isn't exported. Want of memory is told without its serial.
 abbrev pub unexported_as : ℕ → OutletStop → Refused
@@ -112,8 +116,8 @@ publish_text (Exported published) =
     published_spelling (published_in_reply published)
 publish_text (Unexported serial stopped) =
     refused_spelling (unexported_as serial stopped)
-publish_text (Repeated fault) = refused_spelling (refused_of fault)
-publish_text (Unmade serial fault) = refused_spelling (refused_of fault)
+publish_text (Repeated unmade) = refused_spelling (unmade_as unmade)
+publish_text (NotMade serial unmade) = refused_spelling (unmade_as unmade)
 
 -- The clock is read once, and a publication gets the text of what it comes to at that time.
 pub record PublishText (before : TimedInstanceState) (text : List ℕ)

@@ -1,5 +1,5 @@
 -- What a whole run leaves.
-use Rattle.std.specs.Prelude.{◌≡◌, ◌⊎◌, ℕ, ◌≤◌, ◌<◌, ◌+◌, max, Bool, true, Result, List, [], ◌∷◌, ◌++◌, Option, None, Some, IfSome, length, map, slice_get, ⊤}
+use Rattle.std.specs.Prelude.{◌≡◌, ◌≢◌, ◌⊎◌, ℕ, ◌≤◌, ◌<◌, ◌+◌, ◌==◌, nat_lt, max, Bool, true, not, if◌then◌else◌, Result, Ok, String, Vec, List, [], ◌∷◌, ◌++◌, Option, None, Some, IfSome, All, length, map, slice_get, ⊤}
 use Rattle.std.specs.Option.{option_map}
 use Rattle.gate_journal.specs.Format.{opened}
 use Rattle.host_calls.specs.Rise.{HasRisen}
@@ -17,12 +17,35 @@ use Rattle.signer_api.specs.State.{SignerState}
 use Rattle.rp_rules.specs.Certificates.{Vouched}
 use Rattle.editions.specs.Step.{AreSteps}
 use Rattle.krill_top.specs.declared.faults.OpenFault.{OpenFault}
-use Rattle.krill_top.specs.declared.faults.OpenFault.TheVariants.{WrongCount, Memory}
+use Rattle.krill_top.specs.declared.faults.OpenFault.TheVariants.{WrongCount}
 use Rattle.krill_top.specs.declared.faults.RunFault.{RunFault}
+use Rattle.krill_top.specs.declared.faults.RunFault.TheVariants as faults
+use Rattle.krill_top.specs.declared.ends.Ends.{Ends}
+use Rattle.krill_top.specs.declared.summary.Summary.{Summary}
+use Rattle.krill_top.specs.declared.words.Doing.{Doing}
+use Rattle.krill_top.specs.declared.words.Doing.TheVariants.{Run, Audit}
+use Rattle.krill_top.specs.Words.{AskedValue, asked_of, bases_of}
+use Rattle.key_ids.specs.Base.{IsBase, rsync_scheme, https_scheme}
+use Rattle.key_ids.specs.declared.site.SiteFault.TheVariants as site
+use Rattle.std.specs.declared.alloc.Global.{Global}
+use Rattle.krill_top.specs.Summaries.{summary_line, summary_of, no_edition}
+use Rattle.krill_top.specs.PressDisk.{Given, IsPressServed, AreAsked, IsNotLoaded, IsStopped}
+use Rattle.key_ids.specs.Uris.{Bases}
+use Rattle.std.specs.Io.KnownBytes.{Appends}
+use Rattle.signer_ring.specs.Ring.{AllTell, Vouched as VouchedBy}
+use Rattle.entitle.specs.Owed.{AreOwed}
+use Rattle.rp_rules.specs.Certificates.{WalkContext}
+use Rattle.rp_rules.specs.Sound.{IsAuditOf}
+use Rattle.rp_rules.specs.Yield.{AuditedValue}
+use Rattle.editions.specs.Edition.{Edition, state_after}
+use Rattle.editions.specs.PublishedState.{PublishedStateValue}
+use Rattle.press_core.specs.Stands.{IsLeftBy}
+use Rattle.press_core.specs.Agreement.{owed_yield, AreSameOrigins, first_mismatch}
+use Rattle.press_core.specs.Loading.{anchor_of}
 use Rattle.krill_top.specs.declared.serving.SessionEnds.{SessionEnds}
 use Rattle.krill_top.specs.declared.running.RunEnd.{RunEnd}
-use Rattle.krill_top.specs.DeskStates.{DeskStates, DeskState, names_in}
-use Rattle.krill_top.specs.InstanceState.{InstanceState, at_clock, outlet_state, first_state, premises_of}
+use Rattle.krill_top.specs.DeskStates.{DeskStates, DeskState, most_desks, names_in}
+use Rattle.krill_top.specs.InstanceState.{InstanceState, OutletState, at_clock, outlet_state, lists_of, premises_of, IsJustOpened}
 use Rattle.krill_top.specs.InstanceState.{is_exported, AreVouchedIn, VouchForCalls, IsCoherentIn, ShowsLastIn}
 use Rattle.krill_top.specs.Exports.{Repeats}
 use Rattle.krill_top.specs.Session.{session_of}
@@ -33,15 +56,52 @@ use Rattle.krill_top.specs.Sessions.{Streams, Converses}
 use Rattle.krill_top.specs.RunDisks.{RecoveredTo, IsSafe, IsOpeningRefused}
 use Rattle.krill_top.specs.Statuses.{fault_status, run_status, end_fault, opening_fault}
 
+-- ---- words, bases and numbers
+
+-- The devices as they are handed in.
+abbrev pub ends_of : {D G O : Type 0} → Vec D Global → D → Vec G Global → O → Ends D G O
+ends_of desks press signers outlet = record {
+  desks = desks;
+  press = press;
+  signers = signers;
+  outlet = outlet;
+}
+
+-- Both are bases of a repository.
+abbrev pub AreBases : Bases → Type 0
+AreBases bases = IsBase rsync_scheme bases.rsync × IsBase https_scheme bases.rrdp
+
+-- Why these are not the bases of a repository, or there was no memory for them.
+abbrev pub AreRefusedBases : Bases → RunFault → Type 0
+AreRefusedBases bases (faults.Base site.BadRsync) = ¬ IsBase rsync_scheme bases.rsync
+AreRefusedBases bases (faults.Base site.BadRrdp) =
+    IsBase rsync_scheme bases.rsync × (¬ IsBase https_scheme bases.rrdp)
+AreRefusedBases bases faults.Memory = AreBases bases
+AreRefusedBases bases other = ⊥
+
+-- Why the words ask for nothing that is done.
+abbrev pub IsUnwanted : List (String Global) → RunFault → Type 0
+IsUnwanted words faults.Words = asked_of words ≡ None
+IsUnwanted words fault = (asked : AskedValue) × (asked_of words ≡ Some asked)
+    × AreRefusedBases (bases_of asked) fault
+
+-- What is wrong in number, before any device is called: sessions, disks or signers, asked in this order.
+abbrev pub wrong_count : ℕ → ℕ → ℕ → RunFault
+wrong_count what needed found = faults.Refused (WrongCount what needed found)
+
+abbrev pub miscounted : ℕ → ℕ → ℕ → Option RunFault
+miscounted sessions disks signers = if not (sessions == 1) then Some (wrong_count 2 1 sessions)
+    else if not (disks == most_desks) then Some (wrong_count 0 most_desks disks)
+    else if signers == 0 then Some (wrong_count 1 1 0)
+    else if nat_lt 8 signers then Some (wrong_count 1 8 signers) else None
+
 -- A run that was refused at once: nothing was read or written, and no device was called.
-pub record IsRefusedRun {D G S K O C : Type 0} (desks : List D) (signers : List G) (outlet : O)
+pub record IsRefusedRun {D G S K O C : Type 0} (ends : Ends D G O)
     (sessions : List (SessionEnds S K C)) (fault : RunFault)
     (run : RunEnd D G S K O C) : Type 0 where
   pub status_is : run.status ≡ fault_status fault
   pub fault_is : run.fault ≡ Some fault
-  pub desks_untouched : run.desks.items ≡ desks
-  pub signers_untouched : run.signers.items ≡ signers
-  pub outlet_untouched : run.outlet ≡ outlet
+  pub devices_untouched : run.ends ≡ ends
   pub untouched : run.sessions.items ≡ sessions
 
 -- The command in doubt would be the next one of its desk.
@@ -86,72 +146,175 @@ abbrev pub signers_needed : List NameRow → ℕ
 signers_needed [] = 0
 signers_needed (row ∷ rows) = max (row.signer + 1) (signers_needed rows)
 
--- The names use a signer that isn't there, or memory was wanting.
+-- The names use a signer that isn't there.
 abbrev pub IsSignersCause : OpenFault → ℕ → DeskStates → Type 0
-IsSignersCause fault signers desk_states = (fault ≡ Memory)
-    ⊎ ((signers < signers_needed (names_in desk_states))
-    × (fault ≡ WrongCount 1 (signers_needed (names_in desk_states)) signers))
+IsSignersCause fault signers found = (signers < signers_needed (names_in found))
+    × (fault ≡ WrongCount 1 (signers_needed (names_in found)) signers)
+
+-- ---- a run that was refused at opening
+
+-- What the devices hold, as opening is given them.
+abbrev pub given_with : {G O : Type 0} → (G → SignerState) → OutletGhosts O → Bases → List ℕ
+    → DeskStates → List G → O → Given
+given_with state_of outlet_of site session found signers outlet = record {
+  site = site;
+  session = session;
+  found = found;
+  signers = map state_of signers;
+  outlet = outlet_state outlet_of outlet;
+}
+
+-- The press wasn't called, since the names use a signer that isn't there.
+pub record LacksNamed {D : Type 0} (given : Given) (fault : OpenFault) (old new : D)
+    (outlet : OutletState) : Type 0 where
+  pub lacks : IsSignersCause fault (length given.signers) given.found
+  pub press_untouched : new ≡ old
+  pub outlet_untouched : outlet ≡ given.outlet
+
+-- Nothing was loaded of its disk, and nothing put.
+pub record IsUnloaded {D : Type 0} (disk_of : DiskGhosts D) (given : Given) (fault : OpenFault)
+    (old new : D) (outlet : OutletState) : Type 0 where
+  pub there : signers_needed (names_in given.found) ≤ length given.signers
+  pub unloaded : IsNotLoaded disk_of given fault old new
+  pub outlet_untouched : outlet ≡ given.outlet
+
+-- Or what was loaded doesn't stand, or couldn't be exported.
+pub record IsLoadedInVain {D : Type 0} (disk_of : DiskGhosts D) (given : Given)
+    (fault : OpenFault) (old new : D) (signers : List SignerState) (outlet : OutletState)
+    : Type 0 where
+  pub there : signers_needed (names_in given.found) ≤ length given.signers
+  pub stopped : IsStopped disk_of given fault old new signers outlet
+
+abbrev pub IsBehind : {D : Type 0} → DiskGhosts D → Given → OpenFault → D → D
+    → List SignerState → OutletState → Type 0
+IsBehind disk_of given fault old new signers outlet = LacksNamed given fault old new outlet
+    ⊎ IsUnloaded disk_of given fault old new outlet
+    ⊎ IsLoadedInVain disk_of given fault old new signers outlet
 
 -- The desks were all opened, and closed again: each holds the commands that it held.
-pub record IsClosedAgain {D : Type 0} (disk_of : DiskGhosts D) (fault : OpenFault) (signers : ℕ) (desks news : List D) : Type 0 where
+pub record IsClosedAgain {D G O : Type 0} (disk_of : DiskGhosts D) (state_of : G → SignerState)
+    (outlet_of : OutletGhosts O) (site : Bases) (session : List ℕ) (fault : OpenFault)
+    (old new : Ends D G O) : Type 0 where
   pub found : DeskStates
-  pub disks : AreServed disk_of desks news found found
-  pub cause : IsSignersCause fault signers found
+  pub desks : AreServed disk_of old.desks.items new.desks.items found found
+  pub asked : AreAsked fault (map state_of old.signers.items) (map state_of new.signers.items)
+  pub behind : IsBehind disk_of
+      (given_with state_of outlet_of site session found old.signers.items old.outlet)
+      fault old.press new.press (map state_of new.signers.items) (outlet_state outlet_of new.outlet)
+
+-- A desk wasn't opened: nothing else was called.
+pub record IsDeskRefused {D G O : Type 0} (disk_of : DiskGhosts D) (state_of : G → SignerState)
+    (fault : OpenFault) (old new : Ends D G O) : Type 0 where
+  pub desks : IsOpeningRefused disk_of fault old.desks.items new.desks.items
+  pub press_untouched : new.press ≡ old.press
+  pub outlet_untouched : new.outlet ≡ old.outlet
+  pub same_signers : map state_of new.signers.items ≡ map state_of old.signers.items
 
 -- A run over which nothing was opened: no source was read, and no sink was given anything. No signer
--- was called, and nothing was put.
-pub record IsRefusedAtOpening {D G S K O C : Type 0} (disk_of : DiskGhosts D) (state_of : G → SignerState) (desks : List D) (signers : List G)
-    (outlet : O) (sessions : List (SessionEnds S K C)) (run : RunEnd D G S K O C) : Type 0 where
+-- made or signed anything.
+pub record IsRefusedAtOpening {D G S K O C : Type 0} (disk_of : DiskGhosts D)
+    (state_of : G → SignerState) (outlet_of : OutletGhosts O) (site : Bases) (session : List ℕ)
+    (ends : Ends D G O) (sessions : List (SessionEnds S K C)) (run : RunEnd D G S K O C)
+    : Type 0 where
   pub fault : OpenFault
   pub status_is : run.status ≡ fault_status (opening_fault fault)
   pub fault_is : run.fault ≡ Some (opening_fault fault)
-  pub refused : IsOpeningRefused disk_of fault desks run.desks.items ⊎ IsClosedAgain disk_of fault (length signers) desks run.desks.items
-  pub same_signers : map state_of run.signers.items ≡ map state_of signers
-  pub outlet_untouched : run.outlet ≡ outlet
+  pub refused : IsDeskRefused disk_of state_of fault ends run.ends
+      ⊎ IsClosedAgain disk_of state_of outlet_of site session fault ends run.ends
   pub untouched : run.sessions.items ≡ sessions
+
+-- ---- what opening finds
+
+-- Whatever the disks held: where there is an edition, the last set is sound at its moment to whoever
+-- goes by what the signers vouch for, it yields just what is owed at its cut over the commands that were
+-- found, and each live key agrees with its publication point.
+pub record IsFoundSound (begun : InstanceState) (audited : AuditedValue) : Type 0 where
+  pub published_state : PublishedStateValue
+  pub left : IsLeftBy (lists_of begun.desk_states) begun.editions published_state
+  pub context : WalkContext
+  pub bases : context.bases ≡ begun.site
+  pub moment : context.moment ≡ published_state.moment
+  pub anchor : anchor_of published_state.rows ≡ Some context.anchor
+  pub vouched : (key digest signature : List ℕ) → context.vouched key digest signature ≡ true
+      → AllTell begun.signers → VouchedBy begun.signers key digest signature
+  pub audit : IsAuditOf context published_state.set audited
+  pub owes : AreOwed published_state.configs published_state.owed
+  pub origins : AreSameOrigins
+      (owed_yield begun.site published_state.configs published_state.owed) audited.origins
+  pub rows : first_mismatch published_state.rows audited.points ≡ None
+
+-- What is told of it: nothing of a store without an edition.
+abbrev pub IsSummary : InstanceState → Summary → Type 0
+IsSummary begun told = ((begun.editions ≡ []) × (told ≡ no_edition))
+    ⊎ ((audited : AuditedValue) × IsFoundSound begun audited
+    × (told ≡ summary_of (state_after begun.editions) audited))
+
+-- A run opened all: its desks hold what was found there, its press the editions, whatever they are; and
+-- where there is one, it was exported.
+pub record Opens {D G O : Type 0} (disk_of : DiskGhosts D) (state_of : G → SignerState)
+    (outlet_of : OutletGhosts O) (site : Bases) (old : Ends D G O) (opened begun : InstanceState)
+    (summary : Summary) : Type 0 where
+  pub just : IsJustOpened opened
+  pub signers : opened.signers ≡ map state_of old.signers.items
+  pub outlet : opened.outlet ≡ outlet_state outlet_of old.outlet
+  pub site_is : opened.site ≡ site
+  pub signers_there : signers_needed (names_in opened.desk_states) ≤ length opened.signers
+  pub keys_there : All (λ row. row.signer < length opened.signers)
+      (state_after opened.editions).rows
+  pub summary_is : IsSummary opened summary
+  pub exported : Repeats {O = O} (Ok (not (is_exported opened))) opened begun
 
 -- ---- a run that served its session
 
 abbrev pub streams_of : {S K C : Type 0} → SessionEnds S K C → Streams S K
 streams_of ends = record { source = ends.source; sink = ends.sink }
 
--- A run that opened its desks, served its session over them, exported the last edition again where it
--- wasn't exported, and hands all back. Each disk holds the commands that it held and the accepted ones
--- of its authority. Of these the editions were published; before the session there was none. Each
--- follows those before it where the signatures that were made for them are vouched, and where all
--- signers tell what they vouch for, these are among that. The session's clock was read for its
--- publications alone. A fault of the source or the sink comes only where it failed in this run.
+-- A run that opened all, served its session over it, exported the last edition again where it wasn't
+-- exported, and hands all back. Each desk's disk holds the commands that it held and the accepted ones of
+-- its authority, and the press's the editions that it held and those that were published of the commands.
+-- Each of these follows those before it where the signatures that were made for them are vouched and
+-- those that were found are steps; and where all signers tell what they vouch for, the signatures are among
+-- that. The session's clock was read for its publications alone. A fault of the source or the sink comes
+-- only where it failed in this run.
 pub record ServesOne {D G S K O C : Type 0} (disk_of : DiskGhosts D) (state_of : G → SignerState)
     (outlet_of : OutletGhosts O) (source_of : SourceGhosts S) (sink_of : SinkGhosts K)
-    (clock_of : ClockGhosts C) (random : List ℕ) (desks : List D) (signers : List G) (outlet : O)
+    (clock_of : ClockGhosts C) (site : Bases) (random : List ℕ) (ends : Ends D G O)
     (before : SessionEnds S K C) (run : RunEnd D G S K O C) : Type 0 where
   pub after : SessionEnds S K C
   pub end : SessionEnd
   pub closing : Result Bool (ExportFault O)
+  pub opened : InstanceState
   pub begun : InstanceState
   pub served : InstanceState
   pub ended : InstanceState
+  pub summary : Summary
   pub handed_back : run.sessions.items ≡ after ∷ []
   pub status : run.status ≡ run_status (end_fault end closing)
   pub fault : run.fault ≡ end_fault end closing
+  pub opens : Opens disk_of state_of outlet_of site ends opened begun summary
   pub session : Converses source_of sink_of (streams_of before) (streams_of after) end
       (at_clock (clock_of.readings before.clock) begun)
       (at_clock (clock_of.readings after.clock) served)
   pub repeats : Repeats closing served ended
-  pub disks : AreServed disk_of desks run.desks.items begun.desk_states ended.desk_states
-  pub begins : begun ≡ first_state (session_of random) begun.desk_states (map state_of signers)
-      (outlet_state outlet_of outlet)
+  pub disks : AreServed disk_of ends.desks.items run.ends.desks.items begun.desk_states ended.desk_states
+  pub press : IsPressServed disk_of (session_of random) ends.press run.ends.press begun ended
   pub same_site : ended.site ≡ begun.site
   pub same_session : ended.session ≡ begun.session
+  pub same_found : ended.found ≡ begun.found
+  pub grown : (made : List Edition) × (ended.editions ≡ begun.editions ++ made)
   pub steps : (vouched : Vouched) → AreVouchedIn vouched ended
       → AreSteps (premises_of vouched ended) ended.editions
+  -- with the one in doubt, too, behind which the next run may go on
+  pub doubt : (vouched : Vouched) → AreVouchedIn vouched ended → IfSome ended.in_doubt
+      (λ edition. AreSteps (premises_of vouched ended) (ended.editions ++ edition ∷ []))
   pub vouch : VouchForCalls begun ended
-  pub signers_ended : map state_of run.signers.items ≡ ended.signers
-  pub signers_there : signers_needed (names_in begun.desk_states) ≤ length begun.signers
-  pub outlet_ended : outlet_state outlet_of run.outlet ≡ ended.outlet
-  -- where no notification stood at first, each that stands is one of an edition of this run
-  pub coherent : IsCoherentIn begun → IsCoherentIn ended
-  -- and where the last edition is exported, it is that one's
+  pub signers_ended : map state_of run.ends.signers.items ≡ ended.signers
+  pub outlet_ended : outlet_state outlet_of run.ends.outlet ≡ ended.outlet
+  -- where the files were coherent at first they are so in the end; and in any case where opening
+  -- exported an edition
+  pub coherent : IsCoherentIn opened → IsCoherentIn ended
+  pub coherent_then : begun.editions ≢ [] → IsCoherentIn ended
+  -- and where the last edition is exported, the notification is its own
   pub shown : is_exported ended ≡ true → (ended.editions ≡ []) ⊎ ShowsLastIn ended
   -- as it is where the run ended well
   pub well : run.status ≡ 0 → (ended.editions ≡ []) ⊎ ShowsLastIn ended
@@ -159,3 +322,64 @@ pub record ServesOne {D G S K O C : Type 0} (disk_of : DiskGhosts D) (state_of :
   pub sink_fault : end ≡ SinkFault → HasRisen (sink_of.fault_count before.sink) (sink_of.fault_count after.sink)
   pub source_later : source_of.fault_count before.source ≤ source_of.fault_count after.source
   pub sink_later : sink_of.fault_count before.sink ≤ sink_of.fault_count after.sink
+
+-- ---- a run that tells
+
+-- The sink took the line, or a beginning of it where it failed or memory was wanting.
+abbrev pub Tells : {K : Type 0} → SinkGhosts K → List ℕ → Option RunFault → K → K → Type 0
+Tells sink_of line None old new = Appends (sink_of.taken old) (sink_of.taken new) line
+Tells sink_of line (Some fault) old new = (written cut_off : List ℕ)
+    × (line ≡ written ++ cut_off) × Appends (sink_of.taken old) (sink_of.taken new) written
+    × ((fault ≡ faults.Memory)
+    ⊎ ((fault ≡ faults.Device) × HasRisen (sink_of.fault_count old) (sink_of.fault_count new)))
+
+-- A run that opened all, gave the sink one line on the last edition, and hands all back. No source and
+-- no clock was read.
+pub record TellsOne {D G S K O C : Type 0} (disk_of : DiskGhosts D) (state_of : G → SignerState)
+    (outlet_of : OutletGhosts O) (sink_of : SinkGhosts K) (site : Bases) (random : List ℕ)
+    (ends : Ends D G O) (before : SessionEnds S K C) (run : RunEnd D G S K O C) : Type 0 where
+  pub after : SessionEnds S K C
+  pub opened : InstanceState
+  pub begun : InstanceState
+  pub summary : Summary
+  pub handed_back : run.sessions.items ≡ after ∷ []
+  pub status : run.status ≡ run_status run.fault
+  pub same_source : after.source ≡ before.source
+  pub same_clock : after.clock ≡ before.clock
+  pub opens : Opens disk_of state_of outlet_of site ends opened begun summary
+  pub tells : Tells sink_of (summary_line summary) run.fault before.sink after.sink
+  pub disks : AreServed disk_of ends.desks.items run.ends.desks.items begun.desk_states begun.desk_states
+  pub press : IsPressServed disk_of (session_of random) ends.press run.ends.press begun begun
+  pub signers_ended : map state_of run.ends.signers.items ≡ begun.signers
+  pub outlet_ended : outlet_state outlet_of run.ends.outlet ≡ begun.outlet
+  pub coherent : IsCoherentIn opened → IsCoherentIn begun
+  pub shown : (begun.editions ≡ []) ⊎ ShowsLastIn begun
+
+-- What is done where the words ask for it.
+abbrev pub Does : {D G S K O C : Type 0} → DiskGhosts D → (G → SignerState) → OutletGhosts O
+    → SourceGhosts S → SinkGhosts K → ClockGhosts C → Doing → Bases → List ℕ → Ends D G O
+    → SessionEnds S K C → RunEnd D G S K O C → Type 0
+Does disk_of state_of outlet_of source_of sink_of clock_of Run site random ends before run =
+    ServesOne disk_of state_of outlet_of source_of sink_of clock_of site random ends before run
+Does disk_of state_of outlet_of source_of sink_of clock_of Audit site random ends before run =
+    TellsOne disk_of state_of outlet_of sink_of site random ends before run
+
+-- A run by these words: what is wrong in number, or it was refused at opening, or did what they ask for.
+abbrev pub RunsBy : {D G S K O C : Type 0} → DiskGhosts D → (G → SignerState) → OutletGhosts O
+    → SourceGhosts S → SinkGhosts K → ClockGhosts C → AskedValue → List ℕ → Ends D G O
+    → List (SessionEnds S K C) → RunEnd D G S K O C → Option RunFault → Type 0
+RunsBy disk_of state_of outlet_of source_of sink_of clock_of asked random ends sessions run
+    (Some fault) = IsRefusedRun ends sessions fault run
+RunsBy {D} {G} {S} {K} {O} {C} disk_of state_of outlet_of source_of sink_of clock_of asked random ends
+    sessions run None =
+    IsRefusedAtOpening disk_of state_of outlet_of (bases_of asked) (session_of random) ends sessions run
+    ⊎ ((before : SessionEnds S K C) × (sessions ≡ before ∷ [])
+    × Does disk_of state_of outlet_of source_of sink_of clock_of asked.doing (bases_of asked) random
+    ends before run)
+
+abbrev pub RunsAs : {D G S K O C : Type 0} → DiskGhosts D → (G → SignerState) → OutletGhosts O
+    → SourceGhosts S → SinkGhosts K → ClockGhosts C → AskedValue → List ℕ → Ends D G O
+    → List (SessionEnds S K C) → RunEnd D G S K O C → Type 0
+RunsAs disk_of state_of outlet_of source_of sink_of clock_of asked random ends sessions run =
+    RunsBy disk_of state_of outlet_of source_of sink_of clock_of asked random ends sessions run
+    (miscounted (length sessions) (length ends.desks.items) (length ends.signers.items))

@@ -11,7 +11,7 @@ use Rattle.desk_core.specs.View.{journal_limit}
 use Rattle.desk_core.specs.Commands.{Records, IsFirstBad}
 use Rattle.desk_core.specs.Images.{RecoversTo, RecoversToKnown}
 use Rattle.krill_top.specs.declared.faults.OpenFault.{OpenFault}
-use Rattle.krill_top.specs.declared.faults.OpenFault.TheVariants.{WrongCount, Damaged, BadRecord, DiskFault, Memory}
+use Rattle.krill_top.specs.declared.faults.OpenFault.TheVariants.{Damaged, BadRecord, DiskFault, Memory}
 
 -- The disk, if it is known, recovers to the records of these commands of the desk.
 abbrev pub RecoveredTo : Option (List ℕ) → ℕ → List Command → Type 0
@@ -43,7 +43,6 @@ AreUntouchedDesks disk_of number (old ∷ olds) (new ∷ news) =
 
 -- Why a disk can't be opened as the desk of that number.
 abbrev pub IsCause : {D : Type 0} → DiskGhosts D → OpenFault → ℕ → D → D → Type 0
-IsCause disk_of (WrongCount what needed found) number old new = ⊥
 IsCause disk_of (Damaged device at) number old new = (device ≡ number)
     × (disk_of.content new ≡ disk_of.content old)
     × IfSome (disk_of.content old) (λ bytes. damaged_at journal_limit bytes ≡ Some at)
@@ -51,6 +50,7 @@ IsCause disk_of (BadRecord device at) number old new = (device ≡ number)
     × IfSome (disk_of.content old) (λ bytes. (damaged_at journal_limit bytes ≡ None) × IsFirstBad number (recovered bytes) at)
 IsCause disk_of (DiskFault device) number old new = (device ≡ number) × HasRisen (disk_of.fault_count old) (disk_of.fault_count new)
 IsCause disk_of Memory number old new = ⊤
+IsCause disk_of other number old new = ⊥
 
 -- A disk that wasn't opened recovers to the records that it recovered to, a longer file is as it was, and
 -- what a crash may leave recovers to them too, if it isn't what a crash might have left before.

@@ -6,3 +6,6 @@ pub mod Gathered
 pub mod Pressing
 pub mod Started
 pub mod Refusing
+pub mod Asking
+pub mod PressOpened
+pub mod Summing

@@ -10,7 +10,7 @@ ghost use Rattle.krill_top.specs.DeskStates.{DeskStates, most_desks, names_in, d
 ghost use Rattle.krill_top.specs.Reads.{list_lines, list_reply, IsShowReply, IsRoasReply, history_reply};
 ghost use Rattle.krill_top.specs.Outcomes.{Commanded, outcome_of};
 ghost use Rattle.krill_top.specs.DesksInStates.{AreIn, IsNamed, Leads};
-ghost use Rattle.krill_top.specs.inner.Gathered.{AreSince};
+ghost use Rattle.krill_top.specs.inner.Gathered.{AreSince, IsFirstOf};
 ghost use Rattle.krill_top.specs.Run as run;
 
 use crate::command_fault::CommandFault;
@@ -144,6 +144,29 @@ impl<D: Disk> Desks<D> {
             })?;
         }
         Ok(gathered)
+    }
+
+    /// How many commands the desk of that number holds.
+    pub fn held(&self, desk: usize) -> u64
+        requires { desk < most_desks }
+        ensures { IfSome (slice_get self.now desk) (λ d. result ≡ length d.records) }
+    {
+        self.desks[desk].len()
+    }
+
+    /// The first so many commands of the desk of that number.
+    pub fn first(&self, alloc: Global, desk: usize, count: u64) -> Result<Gathered, AllocError>
+        requires desk { desk < most_desks }
+        requires held { IfSome (slice_get self.now desk) (λ d. count ≤ length d.records) }
+        ensures { IfOk result (λ first. IfSome (slice_get self.now desk) (λ d. IsFirstOf desk d count first)) }
+    {
+        let mut commands = self.desks[desk].since(alloc, 0)?;
+        commands.truncate(count as usize);
+        Ok(Gathered {
+            desk: desk as u32,
+            from: 0,
+            commands: Items::new(commands),
+        })
     }
 
     /// The reply to `list`: all names of the tree, in their order.

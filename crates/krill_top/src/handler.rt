@@ -6,14 +6,16 @@ ghost use Rattle.json_api.specs.Reply.{accepted_spelling, published_spelling, se
 ghost use Rattle.json_api.specs.Refused.{verdict_spelling, fault_spelling, refused_spelling};
 ghost use Rattle.krill_top.specs.Replies as spec;
 ghost use Rattle.krill_top.specs.Exports.{stop_of};
-ghost use Rattle.krill_top.specs.Publishing.{outcome_of};
+ghost use Rattle.krill_top.specs.Publishing.{outcome_of, unmade_of, unprepared_by};
 ghost use Rattle.krill_top.specs.Replies.{is_blank_byte, IsBlank, memory_text, bad_line_text, published_in_reply, publish_text, unexported_as, serial_text, IsTold, CommandText, PublishText, SaidText, IsToldOr, IsFaultText, IsTextIn};
 ghost use Rattle.krill_top.specs.inner.Instances.{MovesTimed, MayText};
 ghost use Rattle.krill_top.specs.inner.Handlers.{timed};
 
 use crate::command_fault::CommandFault;
 use crate::instance::Instance;
+use crate::press_opening::PRESS_DEVICE;
 use crate::publication::Publication;
+use crate::publish_fault::PublishFault;
 use authority_book::{Command, Refusal};
 use disk_api::Disk;
 use json_api::{
@@ -23,7 +25,7 @@ use json_api::{
 use line_loop::{Clock, LINE_LIMIT, LineHandler};
 use names::Name;
 use outlet_api::{ExportFault, Outlet};
-use press_core::PressFault;
+use press_core::PrepareFault;
 use signer_api::Signer;
 use std::alloc::{AllocError, Global};
 
@@ -178,21 +180,34 @@ fn published_of(published: editions::PublishedNumbers) -> PublishedReply
 }
 
 // Why nothing is published, as a reply tells it.
-fn refused_of(fault: PressFault) -> Refused
-    ensures { result ≡ spec.refused_of fault }
+fn refused_of<D: Disk>(fault: PublishFault<D>) -> Refused
+    ensures { result ≡ spec.unmade_as (unmade_of fault) }
 {
     match fault {
-        PressFault::ClockRange { now, .. } => Refused::ClockRange { now },
-        PressFault::SerialEnd { value, .. } => Refused::SerialEnd { value },
-        PressFault::Nothing { serial, .. } => Refused::Nothing { serial },
-        PressFault::SignerFault { signer, .. } => Refused::SignerFault { signer },
-        PressFault::KeyClash { id, .. } => Refused::KeyClash { id },
-        PressFault::Memory => Refused::Memory,
+        PublishFault::Unprepared { fault } => unprepared_as(fault),
+        PublishFault::Uncommitted { .. } => Refused::DiskFault {
+            device: PRESS_DEVICE,
+        },
+    }
+}
+
+fn unprepared_as<D: Disk>(fault: PrepareFault<D>) -> Refused
+    ensures { result ≡ spec.unmade_as (unprepared_by fault) }
+{
+    match fault {
+        PrepareFault::Shut { .. } => Refused::Shut,
+        PrepareFault::ClockRange { now, .. } => Refused::ClockRange { now },
+        PrepareFault::SerialEnd { value, .. } => Refused::SerialEnd { value },
+        PrepareFault::Nothing { serial, .. } => Refused::Nothing { serial },
+        PrepareFault::SignerFault { signer, .. } => Refused::SignerFault { signer },
+        PrepareFault::KeyClash { id, .. } => Refused::KeyClash { id },
+        PrepareFault::JournalFull { held, needed, .. } => Refused::JournalFull { held, needed },
+        PrepareFault::Memory => Refused::Memory,
     }
 }
 
 // Appends the reply to a publication, in the room that is there.
-fn append_publication<O: Outlet>(out: &mut Vec<u8>, publication: Publication<O>)
+fn append_publication<D: Disk, O: Outlet>(out: &mut Vec<u8>, publication: Publication<D, O>)
     requires { vec_len out.old + REPLY_ROOM ≤ vec_capacity out.old }
     ensures { out.new.items ≡ out.old.items ++ publish_text (outcome_of publication) ++ 10 ∷ [] }
 {

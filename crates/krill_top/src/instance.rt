@@ -1,52 +1,45 @@
 //! The desks of a tree, and the press that publishes for it.
 
-ghost use Rattle.std.specs.Prelude.{◌≡◌, ◌≢◌, ◌≤◌, ◌<◌, false, true, length, IfOk, IfErr};
+ghost use Rattle.std.specs.Prelude.{◌≡◌, ◌≢◌, false, true, IfOk, IfErr};
 ghost use Rattle.editions.specs.Edition.{state_after};
-ghost use Rattle.krill_top.specs.DeskStates.{DeskStates, most_desks, names_in};
-ghost use Rattle.krill_top.specs.InstanceState.{InstanceState, outlet_state, default_bases, first_state, last_serial, is_of, is_exported_at, is_exported};
+ghost use Rattle.editions.specs.Sheets.{sheet_of};
+ghost use Rattle.krill_top.specs.InstanceState.{InstanceState, last_serial, is_of, is_exported_at, is_exported};
 ghost use Rattle.krill_top.specs.Reads.{list_reply, history_reply};
 ghost use Rattle.krill_top.specs.Sheets.{IsShowText, IsRoasText};
 ghost use Rattle.krill_top.specs.Outcomes.{outcome_of};
-ghost use Rattle.krill_top.specs.Publishing.{MakesOrNot, ComesTo, is_nothing};
+ghost use Rattle.krill_top.specs.Publishing.{MakesOrNot, ComesTo, unmade_of, is_nothing};
 ghost use Rattle.krill_top.specs.Publishing as publishing;
 ghost use Rattle.krill_top.specs.Exports.{ExportsOrStops, Repeats};
 ghost use Rattle.krill_top.specs.inner.Refusing.{ExportsMade, RefusesFor, refused_or_repeated};
 ghost use Rattle.krill_top.specs.Replies.{CommandedIn};
-ghost use Rattle.krill_top.specs.DesksInStates.{AreIn};
-ghost use Rattle.krill_top.specs.inner.Instances.{IsInState, Moves};
-ghost use Rattle.krill_top.specs.Run.{signers_needed};
+ghost use Rattle.gate_journal.specs.View.{IsSafe};
+ghost use Rattle.krill_top.specs.inner.Instances.{IsInState, IsPressIn, Moves, stored_in};
 
 use crate::command_fault::CommandFault;
 use crate::desks::Desks;
 use crate::pressing::{Pressed, press_all};
 use crate::publication::Publication;
+use crate::publish_fault::PublishFault;
 use authority_book::Command;
 use disk_api::Disk;
 use editions::{PublishedNumbers, gathered_commands_go_on};
-use key_ids::Site;
 use names::Name;
 use notice_board::Sheet;
 use outlet_api::{ExportFault, Outlet};
 use press_core::{
-    LastExport, Press, PressFault, PressRefused, first_published_state_stands, more_commands_stand,
-    more_editions_stay_shown, vouching_signers_vouch_for_editions,
+    LastExport, StoredPress, more_commands_stand, more_editions_stay_shown,
+    vouching_signers_vouch_for_editions,
 };
 use signer_api::Signer;
 use signer_ring::Ring;
 use std::alloc::{AllocError, Global};
 use std::marker::Model;
-use uuid::Uuid;
-
-/// The base of the published objects' URIs, and that of the files that tell of them.
-const RSYNC_BASE: &str = "rsync://rpki.example/repo/";
-
-const RRDP_BASE: &str = "https://rpki.example/rrdp/";
 
 /// The desks of a tree, and the press that publishes what they have accepted.
 #[derive(Drop)]
 pub struct Instance<D: Disk, G: Signer, O: Outlet> {
     desks: Desks<D>,
-    press: Press<G>,
+    press: StoredPress<D, G>,
     // What readers are shown of the last edition.
     sheet: Sheet,
     signers: u32,
@@ -60,7 +53,8 @@ impl<D: Disk, G: Signer, O: Outlet> Model for Instance<D, G, O> {
 
     ghost view = { λ instance. record {
       desks = instance.desks;
-      press = instance.press;
+      press = instance.press.press;
+      journal = instance.press.journal;
       sheet = instance.sheet;
       signers = instance.signers;
       outlet = instance.outlet;
@@ -68,29 +62,20 @@ impl<D: Disk, G: Signer, O: Outlet> Model for Instance<D, G, O> {
 
     ghost invariant = { λ instance. IsInstance O.Outlet (record {
       desks = instance.desks;
-      press = instance.press;
+      press = instance.press.press;
+      journal = instance.press.journal;
       sheet = instance.sheet;
       signers = instance.signers;
       outlet = instance.outlet;
     }) };
 }
 
-/// Desks, signers and an outlet for which there was no memory.
+/// Desks, a press and an outlet for which there was no memory.
 #[derive(Drop)]
 pub struct InstanceRefused<D: Disk, G: Signer, O: Outlet> {
     pub desks: Desks<D>,
-    pub ring: Ring<G>,
+    pub press: StoredPress<D, G>,
     pub outlet: O,
-}
-
-// The site, where nothing else is said.
-fn default_site(alloc: Global) -> Result<Site, AllocError>
-    ensures { IfOk result (λ site. site ≡ default_bases) }
-{
-    match Site::read(alloc, RSYNC_BASE, RRDP_BASE) {
-        Ok(site) => Ok(site),
-        Err(_) => Err(AllocError),
-    }
 }
 
 // Whether the edition of that serial, if there is one, is at the outlet.
@@ -111,8 +96,12 @@ fn is_of(last: LastExport, serial: u64) -> bool
 }
 
 // Where there was nothing to publish behind the edition of that serial, and it was or wasn't exported again.
-fn refused_or_repeated<O: Outlet>(repeated: bool, serial: u64, fault: PressFault) -> Publication<O>
-    ensures { publishing.outcome_of result ≡ refused_or_repeated repeated serial fault }
+fn refused_or_repeated<D: Disk, O: Outlet>(
+    repeated: bool,
+    serial: u64,
+    fault: PublishFault<D>,
+) -> Publication<D, O>
+    ensures { publishing.outcome_of result ≡ refused_or_repeated repeated serial (unmade_of fault) }
 {
     if repeated {
         Publication::Repeated { fault }
@@ -121,56 +110,32 @@ fn refused_or_repeated<O: Outlet>(repeated: bool, serial: u64, fault: PressFault
     }
 }
 
-// Whether there was nothing to publish.
-fn is_nothing(fault: &PressFault) -> bool
-    ensures { result ≡ is_nothing fault.now }
-{
-    matches!(fault, PressFault::Nothing { .. })
-}
-
 impl<D: Disk, G: Signer, O: Outlet> Instance<D, G, O> {
-    /// An instance over these desks that has published nothing yet. Its RRDP files are of that session.
+    /// An instance over these desks and this press, whose ring has so many signers. It exports to that outlet.
     pub fn open(
         alloc: Global,
         desks: Desks<D>,
-        ring: Ring<G>,
+        press: StoredPress<D, G>,
+        signers: u32,
         outlet: O,
-        session: Uuid,
     ) -> Result<Instance<D, G, O>, InstanceRefused<D, G, O>>
-        requires all { length desks ≡ most_desks }
-        requires stands { (desk_states : DeskStates) × AreIn desks desk_states × (signers_needed (names_in desk_states) ≤ length ring) }
-        ensures opened { IfOk result (λ instance. (desk_states : DeskStates)
-            → AreIn desks desk_states → signers_needed (names_in desk_states) ≤ length ring
-            → IsInState O.Outlet instance (first_state session desk_states ring (outlet_state O.Outlet outlet))) }
+        requires stands { (state : InstanceState) × IsPressIn O.Outlet desks press signers outlet state }
+        ensures opened { IfOk result (λ instance. (state : InstanceState)
+            → IsPressIn O.Outlet desks press signers outlet state → IsInState O.Outlet instance state) }
         ensures desks { IfOk result (λ instance. instance.desks ≡ desks) }
+        ensures press { IfOk result (λ instance. stored_in instance ≡ press) }
+        ensures sheet { IfOk result (λ instance. instance.sheet ≡ sheet_of press.press.at) }
+        ensures signers { IfOk result (λ instance. instance.signers ≡ signers) }
+        ensures outlet { IfOk result (λ instance. instance.outlet ≡ outlet) }
         ensures refused_desks { IfErr result (λ refused. refused.desks ≡ desks) }
-        ensures refused_ring { IfErr result (λ refused. refused.ring ≡ ring) }
+        ensures refused_press { IfErr result (λ refused. refused.press ≡ press) }
         ensures refused_outlet { IfErr result (λ refused. refused.outlet ≡ outlet) }
     {
-        first_published_state_stands();
-        let signers = ring.len();
-        let Ok(site) = default_site(alloc) else {
+        let pressed = press.press();
+        let Ok(sheet) = pressed.sheet(alloc) else {
             return Err(InstanceRefused {
                 desks,
-                ring,
-                outlet,
-            });
-        };
-        let press = match Press::new(alloc, site, session, ring) {
-            Ok(press) => press,
-            Err(PressRefused { ring, .. }) => {
-                return Err(InstanceRefused {
-                    desks,
-                    ring,
-                    outlet,
-                });
-            }
-        };
-        let Ok(sheet) = press.sheet(alloc) else {
-            let ring = press.close();
-            return Err(InstanceRefused {
-                desks,
-                ring,
+                press,
                 outlet,
             });
         };
@@ -183,13 +148,17 @@ impl<D: Disk, G: Signer, O: Outlet> Instance<D, G, O> {
         })
     }
 
-    /// The desks, with the commands that were accepted, the signers, and the outlet.
-    pub fn close(self) -> (Desks<D>, Ring<G>, O)
+    /// The desks, with the commands that were accepted, the press's disk, with the editions, the signers,
+    /// and the outlet.
+    pub fn close(self) -> (Desks<D>, D, Ring<G>, O)
         ensures desks { result.0 ≡ self.desks }
-        ensures ring { result.1 ≡ self.press.ring }
-        ensures outlet { result.2 ≡ self.outlet }
+        ensures press { result.1 ≡ self.journal.disk }
+        ensures safe { IsSafe D.Disk self.journal }
+        ensures ring { result.2 ≡ self.press.ring }
+        ensures outlet { result.3 ≡ self.outlet }
     {
-        (self.desks, self.press.close(), self.outlet)
+        let (disk, ring) = self.press.close();
+        (self.desks, disk, ring, self.outlet)
     }
 
     /// Gives a command to the authority of that name, and answers how many commands of that authority
@@ -211,8 +180,9 @@ impl<D: Disk, G: Signer, O: Outlet> Instance<D, G, O> {
     /// publication exports it again, even where that has nothing to publish.
     ///
     /// A refusal changes nothing but what the signers made and counted. Refused in the order of
-    /// [`Press::prepare`](press_core::Press::prepare).
-    pub fn publish(&mut self, alloc: Global, now: u64) -> Publication<O>
+    /// [`StoredPress::prepare`](press_core::StoredPress::prepare), and behind these for a fault of the press's disk:
+    /// then the edition is in doubt.
+    pub fn publish(&mut self, alloc: Global, now: u64) -> Publication<D, O>
         ensures { Moves D.Disk O.Outlet (λ b a. ComesTo now (publishing.outcome_of result) b a) self.old self.new }
     {
         match self.make_edition(alloc, now) {
@@ -222,7 +192,7 @@ impl<D: Disk, G: Signer, O: Outlet> Instance<D, G, O> {
     }
 
     // Makes the next edition of all that the desks have accepted. It isn't exported yet.
-    fn make_edition(&mut self, alloc: Global, now: u64) -> Result<PublishedNumbers, PressFault>
+    fn make_edition(&mut self, alloc: Global, now: u64) -> Result<PublishedNumbers, PublishFault<D>>
         ensures moves { Moves D.Disk O.Outlet (λ b a. MakesOrNot now result b a) self.old self.new }
         ensures serial { IfOk result (λ published. published.serial ≡ self.new.press.at.serial) }
         ensures some { IfOk result (λ published. self.new.press.at.serial ≢ 0) }
@@ -240,7 +210,7 @@ impl<D: Disk, G: Signer, O: Outlet> Instance<D, G, O> {
     }
 
     // Brings the edition that was made to the outlet.
-    fn export_made(&mut self, alloc: Global, published: PublishedNumbers) -> Publication<O>
+    fn export_made(&mut self, alloc: Global, published: PublishedNumbers) -> Publication<D, O>
         requires some { self.old.press.at.serial ≢ 0 }
         requires serial { published.serial ≡ self.old.press.at.serial }
         ensures { Moves D.Disk O.Outlet (ExportsMade published (publishing.outcome_of result)) self.old self.new }
@@ -255,21 +225,26 @@ impl<D: Disk, G: Signer, O: Outlet> Instance<D, G, O> {
     }
 
     // What comes of a publication that makes no edition, for this reason.
-    fn refuse(&mut self, alloc: Global, fault: PressFault) -> Publication<O>
-        ensures { Moves D.Disk O.Outlet (RefusesFor fault (publishing.outcome_of result)) self.old self.new }
+    fn refuse(&mut self, alloc: Global, fault: PublishFault<D>) -> Publication<D, O>
+        ensures { Moves D.Disk O.Outlet (RefusesFor (unmade_of fault) (publishing.outcome_of result)) self.old self.new }
     {
         let serial = self.serial();
-        if is_nothing(&fault) {
+        if fault.is_nothing() {
             return self.refuse_nothing(alloc, serial, fault);
         }
         Publication::Refused { serial, fault }
     }
 
     // There was nothing to publish behind the edition of that serial.
-    fn refuse_nothing(&mut self, alloc: Global, serial: u64, fault: PressFault) -> Publication<O>
-        requires nothing { is_nothing fault ≡ true }
+    fn refuse_nothing(
+        &mut self,
+        alloc: Global,
+        serial: u64,
+        fault: PublishFault<D>,
+    ) -> Publication<D, O>
+        requires nothing { is_nothing (unmade_of fault) ≡ true }
         requires serial { (state : InstanceState) → IsInState O.Outlet self.old state → serial ≡ last_serial state }
-        ensures { Moves D.Disk O.Outlet (RefusesFor fault (publishing.outcome_of result)) self.old self.new }
+        ensures { Moves D.Disk O.Outlet (RefusesFor (unmade_of fault) (publishing.outcome_of result)) self.old self.new }
     {
         match self.repeat_export(alloc) {
             Ok(repeated) => refused_or_repeated(repeated, serial, fault),
@@ -283,7 +258,8 @@ impl<D: Disk, G: Signer, O: Outlet> Instance<D, G, O> {
     /// Brings the last edition to the outlet again, where it couldn't be before, and answers whether that
     /// was so.
     pub fn repeat_export(&mut self, alloc: Global) -> Result<bool, ExportFault<O>>
-        ensures { Moves D.Disk O.Outlet (Repeats result) self.old self.new }
+        ensures moves { Moves D.Disk O.Outlet (Repeats result) self.old self.new }
+        ensures desks { self.new.desks ≡ self.old.desks }
     {
         if self.is_exported() {
             return Ok(false);
@@ -299,13 +275,15 @@ impl<D: Disk, G: Signer, O: Outlet> Instance<D, G, O> {
         ensures exported { (state : InstanceState) → IsInState O.Outlet self.now state → result ≡ is_exported state }
         ensures some { result ≡ false → self.now.press.at.serial ≢ 0 }
     {
-        is_exported_at(self.press.last_export(), self.press.serial())
+        let press = self.press.press();
+        is_exported_at(press.last_export(), press.serial())
     }
 
     // Brings the last edition to the outlet.
     fn export(&mut self, alloc: Global) -> Result<(), ExportFault<O>>
         requires { self.old.press.at.serial ≢ 0 }
-        ensures { Moves D.Disk O.Outlet (ExportsOrStops result) self.old self.new }
+        ensures moves { Moves D.Disk O.Outlet (ExportsOrStops result) self.old self.new }
+        ensures desks { self.new.desks ≡ self.old.desks }
     {
         more_editions_stay_shown();
         self.press.export_to(alloc, &mut self.outlet)

@@ -2,23 +2,30 @@
 //! does.
 #![tactic(auto)]
 
+mod bases;
 mod command_fault;
 mod desks;
+mod ends;
 mod faults;
 mod fronts;
 mod handler;
 mod instance;
 mod opening;
+mod press_opening;
 mod pressing;
 mod publication;
+mod publish_fault;
 mod reads;
 mod running;
 mod serving;
 mod session_id;
 mod starting;
+mod summary;
+mod words;
 
 pub use command_fault::CommandFault;
 pub use desks::{DESKS, Desks};
+pub use ends::Ends;
 pub use faults::{OpenFault, RunFault, fault_text};
 pub use handler::Handler;
 pub use instance::Instance;
@@ -27,5 +34,8 @@ pub use line_loop::{
     StreamSink, StreamSource, SystemClock,
 };
 pub use publication::Publication;
+pub use publish_fault::PublishFault;
 pub use running::{RunEnd, run_krill};
 pub use serving::{Session, SessionEnds};
+pub use summary::Summary;
+pub use words::{Asked, Doing, read_words};

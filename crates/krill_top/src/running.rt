@@ -1,28 +1,35 @@
 //! The top call.
 
-ghost use Rattle.std.specs.Prelude.{◌≡◌, ◌≢◌, ◌↔◌, ◌⊎◌, ◌<◌, ◌≤◌, [], ◌∷◌, ℕ, List, length, map, IsTrue};
-ghost use Rattle.krill_top.specs.Words.{AreRunWords};
-ghost use Rattle.krill_top.specs.Statuses.{run_status, fault_of, export_fault, graver, opening_fault};
-ghost use Rattle.signer_api.specs.State.{SignerState};
+ghost use Rattle.std.specs.Prelude.{◌≡◌, ◌≢◌, ◌⊎◌, ◌<◌, ◌≤◌, [], ◌∷◌, ℕ, List, Some, None, length, vec_capacity, IfOk, IfErr};
+ghost use Rattle.key_ids.specs.Base.{IsBase, rsync_scheme, https_scheme};
+ghost use Rattle.key_ids.specs.Uris.{Bases};
+ghost use Rattle.key_ids.specs.declared.site.SiteFault.TheVariants as site;
+ghost use Rattle.krill_top.specs.Words.{AskedValue, asked_of, bases_of};
+ghost use Rattle.krill_top.specs.Summaries.{summary_line};
+ghost use Rattle.krill_top.specs.Statuses.{run_status, fault_of, export_fault, graver, stop_fault, opening_fault};
 ghost use Rattle.krill_top.specs.Session.{session_of};
-ghost use Rattle.krill_top.specs.InstanceState.{OutletState, outlet_state};
 ghost use Rattle.krill_top.specs.DeskStates.{most_desks};
 ghost use Rattle.krill_top.specs.inner.Started.{IsStarted};
-ghost use Rattle.krill_top.specs.Run.{IsRefusedRun, IsRefusedAtOpening, ServesOne};
+ghost use Rattle.krill_top.specs.Run.{AreBases, IsUnwanted, ends_of, IsRefusedRun, IsRefusedAtOpening, ServesOne, TellsOne, Tells, Does, RunsAs, miscounted};
 ghost use Rattle.krill_top.specs.declared.faults.RunFault.TheVariants as faults;
 ghost use Rattle.krill_top.specs.declared.faults.OpenFault.TheVariants as opening;
 
+use crate::bases::read_bases;
 use crate::desks::DESKS;
+use crate::ends::Ends;
 use crate::faults::{OpenFault, RunFault};
 use crate::fronts::{put_in_front, take_first};
 use crate::handler::Handler;
 use crate::serving::{Session, SessionEnds};
 use crate::session_id::session_of;
-use crate::starting::{Devices, NotStarted, SIGNERS_WRONG, Started, start, stop};
+use crate::starting::{NotStarted, SIGNERS_WRONG, Started, start, stop};
+use crate::summary::{Summary, give_all};
+use crate::words::{Asked, Doing, read_words};
 use disk_api::Disk;
-use line_loop::{Clock, SessionEnd, Sink, Source};
+use key_ids::Site;
+use line_loop::{Clock, SessionEnd, Sink, SinkStop, Source};
 use outlet_api::{ExportFault, Outlet};
-use press_core::more_editions_stay_shown;
+use press_core::{edition_records_go_on, more_editions_stay_shown};
 use signer_api::Signer;
 use std::alloc::Global;
 
@@ -34,28 +41,21 @@ const SESSIONS_WRONG: u32 = 2;
 /// How many signers there are at most.
 const MOST_SIGNERS: usize = 8;
 
-/// What a run leaves: its status, why it isn't 0, and the desks' disks, the signers, the outlet and the
-/// sessions' ends as they stand.
+/// The base of the published objects' URIs, and that of the files that tell of them, where the words name no
+/// other.
+const RSYNC_BASE: &str = "rsync://rpki.example/repo/";
+
+const RRDP_BASE: &str = "https://rpki.example/rrdp/";
+
+/// What a run leaves: its status, why it isn't 0, the devices, and the sessions' ends, as they stand.
 #[derive(Drop)]
 pub struct RunEnd<D: Disk, G: Signer, S: Source, K: Sink, O: Outlet, C: Clock> {
     /// 0, or that of its fault.
     pub status: u8,
     /// None where the run ended well.
     pub fault: Option<RunFault>,
-    pub desks: Vec<D>,
-    pub signers: Vec<G>,
-    pub outlet: O,
+    pub ends: Ends<D, G, O>,
     pub sessions: Vec<SessionEnds<S, K, C>>,
-}
-
-/// Whether the words are the one command that there is.
-fn are_run_words(words: &[String]) -> bool
-    ensures { IsTrue result ↔ AreRunWords words.now }
-{
-    match words {
-        [word] => word.as_str() == "run",
-        _ => false,
-    }
 }
 
 /// Why a session ended otherwise than by the end of its source.
@@ -94,16 +94,26 @@ fn graver(session: Option<RunFault>, export: Option<RunFault>) -> Option<RunFaul
     }
 }
 
+// Why a line isn't given whole.
+fn stop_fault(stop: SinkStop) -> RunFault
+    ensures { result ≡ stop_fault stop }
+{
+    match stop {
+        SinkStop::Fault => RunFault::Device,
+        SinkStop::Memory => RunFault::Memory,
+    }
+}
+
 /// Why a run ended whose opening was refused.
 fn opening_fault(fault: OpenFault) -> RunFault
     ensures { result ≡ opening_fault fault }
 {
     match fault {
-        OpenFault::WrongCount { .. } | OpenFault::Damaged { .. } | OpenFault::BadRecord { .. } => {
-            RunFault::Refused { fault }
+        OpenFault::DiskFault { .. } | OpenFault::SignerFault { .. } | OpenFault::OutletFault => {
+            RunFault::Device
         }
-        OpenFault::DiskFault { .. } => RunFault::Device,
         OpenFault::Memory => RunFault::Memory,
+        fault => RunFault::Refused { fault },
     }
 }
 
@@ -114,16 +124,20 @@ fn serve_one<D: Disk, G: Signer, S: Source, K: Sink, O: Outlet, C: Clock>(
     started: Started<D, G, O>,
     sessions: Vec<SessionEnds<S, K, C>>,
 ) -> RunEnd<D, G, S, K, O, C>
-    requires started { (session : List ℕ) × (disks : List D) × (signers : List SignerState) × (outlet : OutletState)
-        × IsStarted D.Disk O.Outlet session disks signers outlet started }
+    requires empty { started.disks.items ≡ [] }
+    requires room { most_desks ≤ vec_capacity started.disks }
     requires session { length sessions.items ≡ 1 }
-    ensures { (random : List ℕ) (disks : List D) (signers : List G) (outlet : O) (before : SessionEnds S K C)
-        → IsStarted D.Disk O.Outlet (session_of random) disks (map G.state signers) (outlet_state O.Outlet outlet) started
-        → sessions.items ≡ before ∷ []
-        → ServesOne D.Disk G.state O.Outlet S.Source K.Sink C.Clock random disks signers outlet before result }
+    ensures { (bases : Bases) (random : List ℕ) (ends : Ends D G O) (before : SessionEnds S K C)
+        → IsStarted D.Disk G.state O.Outlet bases (session_of random) ends started → sessions.items ≡ before ∷ []
+        → ServesOne D.Disk G.state O.Outlet S.Source K.Sink C.Clock bases random ends before result }
 {
     more_editions_stay_shown();
-    let Started { instance, disks } = started;
+    edition_records_go_on();
+    let Started {
+        instance,
+        summary,
+        disks,
+    } = started;
     let mut sessions = sessions;
     let SessionEnds {
         mut source,
@@ -141,7 +155,55 @@ fn serve_one<D: Disk, G: Signer, S: Source, K: Sink, O: Outlet, C: Clock>(
     };
     put_in_front(&mut sessions, ends);
     let fault = graver(fault_of(ended), export_fault(&closing));
-    run_end(fault, stop(Started { instance, disks }), sessions)
+    let started = Started {
+        instance,
+        summary,
+        disks,
+    };
+    run_end(fault, stop(started), sessions)
+}
+
+// Tells the one session what was found of the last edition, and closes the instance.
+fn tell_one<D: Disk, G: Signer, S: Source, K: Sink, O: Outlet, C: Clock>(
+    alloc: Global,
+    started: Started<D, G, O>,
+    sessions: Vec<SessionEnds<S, K, C>>,
+) -> RunEnd<D, G, S, K, O, C>
+    requires empty { started.disks.items ≡ [] }
+    requires room { most_desks ≤ vec_capacity started.disks }
+    requires session { length sessions.items ≡ 1 }
+    ensures { (bases : Bases) (random : List ℕ) (ends : Ends D G O) (before : SessionEnds S K C)
+        → IsStarted D.Disk G.state O.Outlet bases (session_of random) ends started → sessions.items ≡ before ∷ []
+        → TellsOne D.Disk G.state O.Outlet K.Sink bases random ends before result }
+{
+    edition_records_go_on();
+    let mut sessions = sessions;
+    let SessionEnds {
+        source,
+        mut sink,
+        clock,
+    } = take_first(&mut sessions);
+    let fault = tell(alloc, &started.summary, &mut sink);
+    let ends = SessionEnds {
+        source,
+        sink,
+        clock,
+    };
+    put_in_front(&mut sessions, ends);
+    run_end(fault, stop(started), sessions)
+}
+
+// Why the summary's line couldn't be given whole, if it couldn't.
+fn tell<K: Sink>(alloc: Global, summary: &Summary, sink: &mut K) -> Option<RunFault>
+    ensures { Tells K.Sink (summary_line summary.now) result sink.old sink.new }
+{
+    let Ok(line) = summary.text(alloc) else {
+        return Some(RunFault::Memory);
+    };
+    match give_all(alloc, sink, line.as_bytes()) {
+        Ok(()) => None,
+        Err(stop) => Some(stop_fault(stop)),
+    }
 }
 
 /// The status of a run that ended so.
@@ -157,45 +219,43 @@ fn status_of(fault: &Option<RunFault>) -> u8
 // What a run leaves that ended so.
 fn run_end<D: Disk, G: Signer, S: Source, K: Sink, O: Outlet, C: Clock>(
     fault: Option<RunFault>,
-    devices: Devices<D, G, O>,
+    ends: Ends<D, G, O>,
     sessions: Vec<SessionEnds<S, K, C>>,
 ) -> RunEnd<D, G, S, K, O, C>
     ensures status { result.status ≡ run_status fault }
     ensures fault { result.fault ≡ fault }
-    ensures desks { result.desks.items ≡ devices.disks.items }
-    ensures signers { result.signers.items ≡ devices.signers.items }
-    ensures outlet { result.outlet ≡ devices.outlet }
+    ensures ends { result.ends ≡ ends }
     ensures sessions { result.sessions.items ≡ sessions.items }
 {
     RunEnd {
         status: status_of(&fault),
         fault,
-        desks: devices.disks,
-        signers: devices.signers,
-        outlet: devices.outlet,
+        ends,
         sessions,
     }
 }
 
-// Opens all, and serves the one session.
+// Opens all, and does what was asked for.
 fn run_one<D: Disk, G: Signer, S: Source, K: Sink, O: Outlet, C: Clock>(
     alloc: Global,
+    asked: Wanted,
     random: [u8; 32],
-    devices: Devices<D, G, O>,
+    ends: Ends<D, G, O>,
     sessions: Vec<SessionEnds<S, K, C>>,
 ) -> RunEnd<D, G, S, K, O, C>
-    requires desks { length devices.disks.items ≡ most_desks }
-    requires signers { length devices.signers.items ≤ 8 }
+    requires desks { length ends.desks.items ≡ most_desks }
+    requires signers { length ends.signers.items ≤ 8 }
     requires session { length sessions.items ≡ 1 }
     ensures { (before : SessionEnds S K C) → sessions.items ≡ before ∷ []
-        → IsRefusedAtOpening D.Disk G.state devices.disks.items devices.signers.items devices.outlet sessions.items result
-        ⊎ ServesOne D.Disk G.state O.Outlet S.Source K.Sink C.Clock random devices.disks.items devices.signers.items devices.outlet before result }
+        → IsRefusedAtOpening D.Disk G.state O.Outlet asked.site (session_of random) ends sessions.items result
+        ⊎ Does D.Disk G.state O.Outlet S.Source K.Sink C.Clock asked.doing asked.site random ends before result }
 {
-    match start(alloc, session_of(random), devices) {
-        Ok(started) => serve_one(alloc, started, sessions),
-        Err(NotStarted { devices, fault }) => {
-            run_end(Some(opening_fault(fault)), devices, sessions)
-        }
+    match start(alloc, session_of(random), &asked.site, ends) {
+        Ok(started) => match asked.doing {
+            Doing::Run => serve_one(alloc, started, sessions),
+            Doing::Audit => tell_one(alloc, started, sessions),
+        },
+        Err(NotStarted { ends, fault }) => run_end(Some(opening_fault(fault)), ends, sessions),
     }
 }
 
@@ -210,22 +270,10 @@ fn wrong_count(what: u32, needed: usize, found: usize) -> RunFault
     RunFault::Refused { fault }
 }
 
-// Why a run is refused before any device is called.
-fn refusal(words: &[String], disks: usize, signers: usize, sessions: usize) -> Option<RunFault>
-    ensures words { ¬ AreRunWords words.now → result ≡ Some faults.Words }
-    ensures sessions { AreRunWords words.now → sessions ≢ 1 → result ≡ Some (faults.Refused (opening.WrongCount 2 1 sessions)) }
-    ensures disks { AreRunWords words.now → sessions ≡ 1 → disks ≢ most_desks
-        → result ≡ Some (faults.Refused (opening.WrongCount 0 most_desks disks)) }
-    ensures none { AreRunWords words.now → sessions ≡ 1 → disks ≡ most_desks → signers ≡ 0
-        → result ≡ Some (faults.Refused (opening.WrongCount 1 1 signers)) }
-    ensures many { AreRunWords words.now → sessions ≡ 1 → disks ≡ most_desks → 8 < signers
-        → result ≡ Some (faults.Refused (opening.WrongCount 1 8 signers)) }
-    ensures others { result ≡ None → AreRunWords words.now × (sessions ≡ 1) × (disks ≡ most_desks) × (signers ≤ 8) }
-    ensures served { AreRunWords words.now → sessions ≡ 1 → disks ≡ most_desks → 0 < signers → signers ≤ 8 → result ≡ None }
+// Why as many are refused before any device is called.
+fn miscounted(disks: usize, signers: usize, sessions: usize) -> Option<RunFault>
+    ensures { result ≡ miscounted sessions disks signers }
 {
-    if !are_run_words(words) {
-        return Some(RunFault::Words);
-    }
     if sessions != 1 {
         return Some(wrong_count(SESSIONS_WRONG, 1, sessions));
     }
@@ -241,48 +289,75 @@ fn refusal(words: &[String], disks: usize, signers: usize, sessions: usize) -> O
     None
 }
 
-/// Does what the words name. `run` opens the 64 desks over their disks, in order, and the instance over
-/// them, the signers and the outlet, and serves the one session: each command goes to the desk of its
-/// authority, and what the desks have accepted is published and brought to the outlet. Where the last
-/// edition couldn't be, that is tried once more at the end. The session of its RRDP files is drawn from
-/// `random`.
+// What the words want done, and the bases of the repository.
+#[derive(Drop)]
+struct Wanted {
+    doing: Doing,
+    site: Site,
+}
+
+fn read_wanted(alloc: Global, words: &[String]) -> Result<Wanted, RunFault>
+    ensures wanted { IfOk result (λ wanted. (asked : AskedValue) × (asked_of words.now ≡ Some asked)
+        × (wanted.doing ≡ asked.doing) × (wanted.site ≡ bases_of asked)) }
+    ensures refused { IfErr result (IsUnwanted words.now) }
+{
+    let Some(Asked { doing, rsync, rrdp }) = read_words(words) else {
+        return Err(RunFault::Words);
+    };
+    let (rsync, rrdp) = (rsync.unwrap_or(RSYNC_BASE), rrdp.unwrap_or(RRDP_BASE));
+    match read_bases(alloc, rsync, rrdp) {
+        Ok(site) => Ok(Wanted { doing, site }),
+        Err(fault) => Err(fault),
+    }
+}
+
+/// Does what the words name. `run` opens the 64 desks over their disks, in order, behind them the press over
+/// its own, and the instance over all of these; audits what was published last, and exports it; and serves
+/// the one session: each command goes to the desk of its authority, and what the desks have accepted is
+/// published and brought to the outlet. Where the last edition couldn't be, that is tried once more at the
+/// end. `audit` opens all so, and gives the session's sink one line that tells of the last edition. The RRDP
+/// session of a new store is drawn from `random`.
 ///
-/// Where opening is refused no source is read, no sink is given anything, and nothing is put. All devices
-/// come back as they stand.
+/// Where opening is refused no source is read and no sink is given anything. All devices come back as they
+/// stand.
 ///
-/// Asked before anything is opened, in this order: the words (`Words`), that there is one session,
-/// 64 desks, and 1 to 8 signers (`WrongCount` with 2, 0 and 1).
+/// Asked before anything is opened, in this order: the words (`Words`), the bases (`Base`), that there is one
+/// session, 64 desks, and 1 to 8 signers (`WrongCount` with 2, 0 and 1).
 pub fn run_krill<D: Disk, G: Signer, S: Source, K: Sink, O: Outlet, C: Clock>(
     alloc: Global,
     words: &[String],
     random: [u8; 32],
     desks: Vec<D>,
+    press: D,
     signers: Vec<G>,
     outlet: O,
     sessions: Vec<SessionEnds<S, K, C>>,
 ) -> RunEnd<D, G, S, K, O, C>
-    ensures words { ¬ AreRunWords words.now → IsRefusedRun desks.items signers.items outlet sessions.items faults.Words result }
-    ensures sessions { AreRunWords words.now → length sessions.items ≢ 1
-        → IsRefusedRun desks.items signers.items outlet sessions.items (faults.Refused (opening.WrongCount 2 1 (length sessions.items))) result }
-    ensures desks { AreRunWords words.now → length sessions.items ≡ 1 → length desks.items ≢ most_desks
-        → IsRefusedRun desks.items signers.items outlet sessions.items (faults.Refused (opening.WrongCount 0 most_desks (length desks.items))) result }
-    ensures no_signer { AreRunWords words.now → length sessions.items ≡ 1 → length desks.items ≡ most_desks → signers.items ≡ []
-        → IsRefusedRun desks.items signers.items outlet sessions.items (faults.Refused (opening.WrongCount 1 1 0)) result }
-    ensures signers { AreRunWords words.now → length sessions.items ≡ 1 → length desks.items ≡ most_desks → 8 < length signers.items
-        → IsRefusedRun desks.items signers.items outlet sessions.items (faults.Refused (opening.WrongCount 1 8 (length signers.items))) result }
-    ensures served { AreRunWords words.now → length desks.items ≡ most_desks → 0 < length signers.items → length signers.items ≤ 8
-        → (before : SessionEnds S K C) → sessions.items ≡ before ∷ []
-        → IsRefusedAtOpening D.Disk G.state desks.items signers.items outlet sessions.items result
-        ⊎ ServesOne D.Disk G.state O.Outlet S.Source K.Sink C.Clock random desks.items signers.items outlet before result }
+    ensures words { asked_of words.now ≡ None
+        → IsRefusedRun (ends_of desks press signers outlet) sessions.items faults.Words result }
+    ensures rsync { (asked : AskedValue) → asked_of words.now ≡ Some asked → ¬ IsBase rsync_scheme (bases_of asked).rsync
+        → IsRefusedRun (ends_of desks press signers outlet) sessions.items (faults.Base site.BadRsync) result }
+    ensures rrdp { (asked : AskedValue) → asked_of words.now ≡ Some asked → IsBase rsync_scheme (bases_of asked).rsync
+        → ¬ IsBase https_scheme (bases_of asked).rrdp
+        → IsRefusedRun (ends_of desks press signers outlet) sessions.items (faults.Base site.BadRrdp) result }
+
+    // With words and bases: want of memory for these, or what is wrong in number, or what was asked for.
+    ensures asked { (asked : AskedValue) → asked_of words.now ≡ Some asked → AreBases (bases_of asked)
+        → IsRefusedRun (ends_of desks press signers outlet) sessions.items faults.Memory result
+        ⊎ RunsAs D.Disk G.state O.Outlet S.Source K.Sink C.Clock asked random (ends_of desks press signers outlet) sessions.items result }
 {
-    let refused = refusal(words, desks.len(), signers.len(), sessions.len());
-    let devices = Devices {
-        disks: desks,
+    let ends = Ends {
+        desks,
+        press,
         signers,
         outlet,
     };
-    match refused {
-        Some(fault) => run_end(Some(fault), devices, sessions),
-        None => run_one(alloc, random, devices, sessions),
+    let asked = match read_wanted(alloc, words) {
+        Ok(asked) => asked,
+        Err(fault) => return run_end(Some(fault), ends, sessions),
+    };
+    match miscounted(ends.desks.len(), ends.signers.len(), sessions.len()) {
+        Some(fault) => run_end(Some(fault), ends, sessions),
+        None => run_one(alloc, asked, random, ends, sessions),
     }
 }

@@ -1,7 +1,7 @@
 //! `krillc`: the daemon over standard input and output, and the files of a folder.
 //!
-//! The folder `krill-data` of the working directory has a file for each desk, `desk-00` to `desk-63`, the
-//! pipes of the signers, `signer-0.in` and `signer-0.out` to `signer-7.in` and `signer-7.out`, and `repo`,
+//! The folder `krill-data` of the working directory has a file for each desk, `desk-00` to `desk-63`, that of
+//! the press, `press`, the pipes of the signers, `signer-0.in` and `signer-0.out` to `signer-7.in` and `signer-7.out`, and `repo`,
 //! the folder of the files that are exported.
 #![tactic(auto)]
 
@@ -10,9 +10,10 @@ mod signers;
 mod waits;
 
 use clock::{ClockBehind, ClockFault, VARIABLE, seconds_behind};
-use disk_api::{DiskStop, FileDisk};
+use disk_api::{Disk, DiskStop, FileDisk};
 use krill_top::{
-    DESKS, RunFault, SessionEnds, StreamSink, StreamSource, SystemClock, fault_text, run_krill,
+    DESKS, Doing, RunEnd, RunFault, SessionEnds, StreamSink, StreamSource, SystemClock, fault_text,
+    read_words, run_krill,
 };
 use outlet_api::FolderOutlet;
 use signer_api::Signer;
@@ -29,6 +30,18 @@ use waits::{End, tell_waits};
 /// The folder of the desks' files, in the working directory.
 pub(crate) const FOLDER: &str = "krill-data";
 
+/// The press's file.
+const PRESS: &str = "krill-data/press";
+
+/// Where a journal stands that an audit makes, until it is open.
+const UNNAMED: &str = "krill-data/.audit";
+
+/// How many bytes a journal without records has at most.
+const EMPTY_JOURNAL: u64 = 17;
+
+/// A press that is shorter has no edition: it may lack even the record of its store, which opening writes.
+const SMALL_PRESS: u64 = 4096;
+
 /// The folder of the files that are exported.
 const REPOSITORY: &str = "krill-data/repo";
 
@@ -37,7 +50,8 @@ const STANDARD_STREAMS: i32 = 3;
 
 const HELP: &str = "krillc: a delegated RPKI certificate authority daemon
 
-usage: krillc run
+usage: krillc run [--rsync URI] [--rrdp URI]
+       krillc audit [--rsync URI] [--rrdp URI]
        krillc --help | --version
 
 run reads commands from standard input, one line of JSON each, and writes a line of reply to each on
@@ -47,10 +61,16 @@ announce a prefix:
     echo '{\"command\":\"roas update\",\"ca\":\"ta\",\"add\":[\"10.0.0.0/16-24 => 64496\"]}' | krillc run
 
 The line {\"command\":\"publish\"} publishes what was accepted, and puts the RRDP files, the trust anchor's
-certificate and its locator into krill-data/repo. The editions are not kept when the program ends: the
-next run begins a new session. Keys and signatures are those of the signers whose pipes stand in that folder, signer-0.in
-and signer-0.out to signer-7.in and signer-7.out; where there are none, they are a rehearsal's, which
-no relying party accepts, and standard error says so.
+certificate and its locator into krill-data/repo. Each edition is kept in krill-data/press before it is
+told, and the next run goes on from the last one, with its keys. Keys and signatures are those of the
+signers whose pipes stand in that folder, signer-0.in and signer-0.out to signer-7.in and signer-7.out;
+where there are none, they are a rehearsal's, which no relying party accepts, and standard error says so.
+
+Before it reads a line, run audits what was published last: by the rules of relying parties, against what the
+signers vouch for, and against the accepted commands. audit does so too, and then writes one line on it.
+
+--rsync URI and --rrdp URI are the bases of what is published, rsync://rpki.example/repo/ and
+https://rpki.example/rrdp/ where they aren't given. A store keeps those that it was made with.
 
 KRILL_CLOCK_BEHIND=SECONDS lets its clock run behind by so many, 0 to 3600, so that relying parties whose
 clock is behind find each new edition, too.
@@ -58,9 +78,9 @@ clock is behind find each new edition, too.
 statuses:
     0  standard input was read to its end, every line has its reply, and krill-data/repo has what was
        published last
-    2  the words are none of those above, or KRILL_CLOCK_BEHIND is no such number
-    3  the store is damaged or holds what is no accepted command, or it uses more signers than there
-       are: standard error says where, or how many
+    2  the words are none of those above, a base is none, or KRILL_CLOCK_BEHIND is no such number
+    3  the store is damaged, holds what is no accepted command or no edition, or what it published last
+       doesn't stand: standard error says where; or it has other bases, or uses more signers than there are
     4  a device failed: standard input or output failed or is closed, a file of the store or a pipe of a
        signer can't be opened, read or written at the start, signers are numbered with a gap, one gives
        no answer to `hello`, another krillc has the store, or what was published last couldn't be put
@@ -97,7 +117,8 @@ fn words_of(rt: &HostRuntime) -> Result<Vec<String>, ErrorKind> {
 fn asked_text(words: &[String]) -> Option<&'static str> {
     let asked = match words {
         [word] => word.as_str(),
-        [command, word] if command.as_str() == "run" => word.as_str(),
+        [command, word] if command.as_str() == "run" || command.as_str() == "audit" =>
+            word.as_str(),
         _ => return None,
     };
     match asked {
@@ -122,7 +143,7 @@ fn open_and_run<R: Threads + Wait + Sync>(
     handle: &R,
     words: &[String],
 ) -> ExitCode {
-    match open_store(rt) {
+    match open_store(rt, asks_for(words, Doing::Audit)) {
         Ok(store) => run_over(rt, handle, words, store),
         Err(stop) => refused(rt, fault_of(stop)),
     }
@@ -137,14 +158,21 @@ fn run_over<R: Threads + Wait + Sync>(
 ) -> ExitCode {
     let Store {
         folder: _locked,
-        desks,
+        mut disks,
         signers,
     } = store;
-    if !signers.is_empty() {
-        return run_watched(rt, handle, words, desks, &signers);
+    if asks_for(words, Doing::Run) {
+        match begins_anew(rt, &mut disks) {
+            Ok(false) => {}
+            Ok(true) => tell_new_anchor(rt),
+            Err(stop) => return refused(rt, fault_of(stop)),
+        }
     }
-    match rehearsal(rt, is_run(words)) {
-        Ok(signers) => run(rt, words, desks, signers),
+    if !signers.is_empty() {
+        return run_watched(rt, handle, words, disks, &signers);
+    }
+    match rehearsal(rt, asks_for(words, Doing::Run)) {
+        Ok(signers) => run(rt, words, disks, signers),
         Err(stop) => refused(rt, fault_of(stop)),
     }
 }
@@ -154,7 +182,7 @@ fn run_watched<R: Threads + Wait + Sync>(
     rt: &HostRuntime,
     handle: &R,
     words: &[String],
-    desks: Vec<FileDisk>,
+    disks: Disks,
     found: &[Pipes],
 ) -> ExitCode {
     let end = End::new();
@@ -163,7 +191,7 @@ fn run_watched<R: Threads + Wait + Sync>(
         || tell_waits(rt, handle, found, &end),
         || {
             let code = match open_signers(rt, found) {
-                Ok(signers) => run(rt, words, desks, signers),
+                Ok(signers) => run(rt, words, disks, signers),
                 Err(stop) => refused(rt, fault_of(stop)),
             };
             end.tell();
@@ -173,12 +201,37 @@ fn run_watched<R: Threads + Wait + Sync>(
     code
 }
 
-/// Whether the words are those of a run, and not of a faulty command line.
-fn is_run(words: &[String]) -> bool {
-    match words {
-        [word] => word.as_str() == "run",
-        _ => false,
+/// Whether the words ask for that. A faulty command line asks for nothing.
+fn asks_for(words: &[String], doing: Doing) -> bool {
+    match read_words(words) {
+        Some(asked) => asked.doing == doing,
+        None => false,
     }
+}
+
+/// Whether desks hold commands, and the press has no edition and no store yet.
+fn begins_anew(rt: &HostRuntime, disks: &mut Disks) -> Result<bool, DiskStop> {
+    if holds_records(rt, &mut disks.press)? {
+        return Ok(false);
+    }
+    for desk in disks.desks.iter_mut() {
+        if holds_records(rt, desk)? {
+            return Ok(true);
+        }
+    }
+    Ok(false)
+}
+
+/// Whether the journal in the file is longer than one without records.
+fn holds_records(rt: &HostRuntime, disk: &mut FileDisk) -> Result<bool, DiskStop> {
+    Ok(disk.len(rt.alloc())? > EMPTY_JOURNAL)
+}
+
+/// Says that relying parties need a new locator.
+fn tell_new_anchor(rt: &HostRuntime) {
+    let _told = eprintln!(rt;
+        "krillc: nothing that was published is kept in {FOLDER}/press: a new trust anchor begins, which relying parties need a new locator for"
+    );
 }
 
 fn fault_of(stop: DiskStop) -> RunFault {
@@ -188,33 +241,76 @@ fn fault_of(stop: DiskStop) -> RunFault {
     }
 }
 
-/// The files of the desks, the pipes of the signers, and their folder, which no other program can lock as long as it's
+/// The files of the desks, in their order, and that of the press.
+#[derive(Drop)]
+struct Disks {
+    desks: Vec<FileDisk>,
+    press: FileDisk,
+}
+
+/// The files of the store, the pipes of the signers, and their folder, which no other program can lock as long as it's
 /// open here.
 #[derive(Drop)]
 struct Store {
     folder: fs::File,
-    desks: Vec<FileDisk>,
+    disks: Disks,
     signers: Vec<Pipes>,
 }
 
-/// Makes the folder, locks it, opens the desks' files in it, none of them in the place of a standard stream that
-/// was closed, and finds the signers' pipes.
-fn open_store(rt: &HostRuntime) -> Result<Store, DiskStop> {
+/// Makes the folder, locks it, opens the desks' files and the press's in it, none of them in the place of a standard stream that
+/// was closed, and finds the signers' pipes. For an audit, which writes nothing that stays, a file in which opening would
+/// write something is a copy without a name.
+fn open_store(rt: &HostRuntime, is_audit: bool) -> Result<Store, DiskStop> {
     hold_closed_streams(rt).map_err(stop_of)?;
     let folder = make_folder_locked(rt).map_err(stop_of)?;
+    // One that an audit that was killed has left.
+    let _removed = fs::remove_file(rt, UNNAMED);
     let mut desks = Vec::with_capacity(rt.alloc(), DESKS)?;
     for number in 0..DESKS {
         let path = format!(in rt.alloc(); "{FOLDER}/desk-{number:02}")?;
-        desks.push(FileDisk::open_unnamed(rt, rt.alloc(), &path)?)?;
+        let is_copy = is_audit && is_below(rt, &path, EMPTY_JOURNAL)?;
+        desks.push(open_journal(rt, &path, is_copy)?)?;
     }
+    let is_copy = is_audit && is_below(rt, PRESS, SMALL_PRESS)?;
+    let press = open_journal(rt, PRESS, is_copy)?;
     // The names of all files at once.
     folder.sync_all().map_err(stop_of)?;
     let signers = find_signers(rt)?;
     Ok(Store {
         folder,
-        desks,
+        disks: Disks { desks, press },
         signers,
     })
+}
+
+/// Whether a file there has less than so many bytes, or none is there.
+fn is_below(rt: &HostRuntime, path: &str, len: u64) -> Result<bool, DiskStop> {
+    match fs::metadata(rt, path) {
+        Ok(found) => Ok(found.is_file() && found.len() < len),
+        Err(error) if error.kind() == ErrorKind::NotFound => Ok(true),
+        Err(error) => Err(stop_of(error)),
+    }
+}
+
+/// Opens the journal's file, or a copy of it that has no name and ends with the program.
+fn open_journal(rt: &HostRuntime, path: &str, is_copy: bool) -> Result<FileDisk, DiskStop> {
+    if !is_copy {
+        return FileDisk::open_unnamed(rt, rt.alloc(), path);
+    }
+    make_copy(rt, path).map_err(stop_of)?;
+    let copy = FileDisk::open_unnamed(rt, rt.alloc(), UNNAMED)?;
+    fs::remove_file(rt, UNNAMED).map_err(stop_of)?;
+    Ok(copy)
+}
+
+/// Makes a new file with what the one there has, if there is one. A link in its place isn't followed.
+fn make_copy(rt: &HostRuntime, path: &str) -> io::Result<()> {
+    let mut copy = fs::File::create_new(rt, UNNAMED)?;
+    match fs::read(rt, path) {
+        Ok(bytes) => copy.write_all(&bytes),
+        Err(error) if error.kind() == ErrorKind::NotFound => Ok(()),
+        Err(error) => Err(error),
+    }
 }
 
 pub(crate) fn stop_of(error: io::Error) -> DiskStop {
@@ -252,12 +348,7 @@ fn make_folder_locked(rt: &HostRuntime) -> Result<fs::File, io::Error> {
 }
 
 /// Runs over standard input and output, and tells why it ended otherwise than well.
-fn run<G: Signer>(
-    rt: &HostRuntime,
-    words: &[String],
-    desks: Vec<FileDisk>,
-    signers: Vec<G>,
-) -> ExitCode {
+fn run<G: Signer>(rt: &HostRuntime, words: &[String], disks: Disks, signers: Vec<G>) -> ExitCode {
     let behind = match seconds_behind(rt) {
         Ok(seconds) => seconds,
         Err(ClockFault::Value) => return refused_clock(rt),
@@ -275,9 +366,25 @@ fn run<G: Signer>(
         Ok(opened) => opened,
         Err(stop) => return refused(rt, fault_of(stop)),
     };
-    let end = run_krill(rt.alloc(), words, random, desks, signers, outlet, sessions);
-    match end.fault {
-        None => ExitCode::from(end.status),
+    let Disks { desks, press } = disks;
+    let end = run_krill(
+        rt.alloc(),
+        words,
+        random,
+        desks,
+        press,
+        signers,
+        outlet,
+        sessions,
+    );
+    let RunEnd {
+        status,
+        fault,
+        ends: _ends,
+        sessions: _sessions,
+    } = end;
+    match fault {
+        None => ExitCode::from(status),
         Some(fault) => refused(rt, fault),
     }
 }

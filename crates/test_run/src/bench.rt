@@ -3,14 +3,14 @@
 use anyhow::{Result, bail};
 use disk_api::{Disk, MemoryDisk};
 use krill_top::{
-    ListClock, MemorySink, MemorySource, RunEnd, RunFault, SessionEnds, fault_text, run_krill,
+    Ends, ListClock, MemorySink, MemorySource, RunEnd, RunFault, SessionEnds, fault_text, run_krill,
 };
 use outlet_api::MemoryOutlet;
 use sha2::{Digest, Sha256};
 use signer_api::{MemorySigner, Rehearsal, Signer};
 use std::alloc::Global;
 
-type Ends = SessionEnds<MemorySource, MemorySink, ListClock>;
+type Session = SessionEnds<MemorySource, MemorySink, ListClock>;
 
 type End<G> = RunEnd<MemoryDisk, G, MemorySource, MemorySink, MemoryOutlet, ListClock>;
 
@@ -19,6 +19,7 @@ type End<G> = RunEnd<MemoryDisk, G, MemorySource, MemorySink, MemoryOutlet, List
 pub struct Bench {
     words: Vec<String>,
     disks: Vec<MemoryDisk>,
+    press: MemoryDisk,
     rehearsals: Vec<Rehearsal>,
     memory_signers: Vec<MemorySigner>,
     outlet: MemoryOutlet,
@@ -39,6 +40,7 @@ impl Bench {
         let mut bench = Bench {
             words: Vec::new(alloc),
             disks: Vec::new(alloc),
+            press: MemoryDisk::new(alloc, Vec::new(alloc), Vec::new(alloc)),
             rehearsals: Vec::new(alloc),
             memory_signers: Vec::new(alloc),
             outlet: MemoryOutlet::new(alloc, Vec::new(alloc)),
@@ -75,6 +77,62 @@ impl Bench {
     pub fn add_disk(&mut self, alloc: Global, bytes: Vec<u8>, fails: Vec<u64>) -> Result<()> {
         self.disks.push(MemoryDisk::new(alloc, bytes, fails))?;
         Ok(())
+    }
+
+    /// A press's disk of these bytes, which fails at these of its calls.
+    pub fn set_press(&mut self, alloc: Global, bytes: Vec<u8>, fails: Vec<u64>) {
+        self.press = MemoryDisk::new(alloc, bytes, fails);
+    }
+
+    /// The press's disk takes so many calls, and fails from then on.
+    pub fn stop_press(&mut self, calls: u64) {
+        self.press.stop_after(calls);
+    }
+
+    /// A disk with an image that a crash may leave of the press's, in its place.
+    pub fn keep_press_image(&mut self, alloc: Global, pick: u64) -> Result<()> {
+        let image = self.press.image(alloc, pick)?;
+        self.set_press(alloc, image, Vec::new(alloc));
+        Ok(())
+    }
+
+    /// A press's disk with another byte so many bytes before the end, in its place.
+    pub fn flip_press(&mut self, alloc: Global, before_end: usize) -> Result<()> {
+        let mut bytes = self.press.bytes().to_vec(alloc)?;
+        let Some(at) = bytes.len().checked_sub(before_end) else {
+            bail!("no byte of the press's disk");
+        };
+        let Some(byte) = bytes.as_mut_slice().get_mut(at) else {
+            bail!("no byte of the press's disk");
+        };
+        *byte ^= 1;
+        self.set_press(alloc, bytes, Vec::new(alloc));
+        Ok(())
+    }
+
+    /// A press's disk with these bytes in the place of the last one, which closes its journal.
+    pub fn extend_press(&mut self, alloc: Global, more: &[u8]) -> Result<()> {
+        let mut bytes = self.press.bytes().to_vec(alloc)?;
+        if bytes.pop().is_none() {
+            bail!("no byte of the press's disk");
+        }
+        bytes.extend_from_slice(more)?;
+        self.set_press(alloc, bytes, Vec::new(alloc));
+        Ok(())
+    }
+
+    /// An empty disk in the place of the desk's of that number.
+    pub fn lose_desk(&mut self, alloc: Global, number: usize) -> Result<()> {
+        let Some(disk) = self.disks.as_mut_slice().get_mut(number) else {
+            bail!("no such disk");
+        };
+        *disk = MemoryDisk::new(alloc, Vec::new(alloc), Vec::new(alloc));
+        Ok(())
+    }
+
+    /// Takes all words away.
+    pub fn clear_words(&mut self) {
+        self.words.clear();
     }
 
     /// Takes all signers away.
@@ -154,7 +212,7 @@ impl Bench {
     }
 
     /// The ends of a session over the input.
-    fn session(&self, alloc: Global) -> Result<Ends> {
+    fn session(&self, alloc: Global) -> Result<Session> {
         if self.piece == 0 {
             bail!("pieces without a byte");
         }
@@ -169,7 +227,7 @@ impl Bench {
     }
 
     /// The sessions that are handed in.
-    fn all_sessions(&self, alloc: Global) -> Result<Vec<Ends>> {
+    fn all_sessions(&self, alloc: Global) -> Result<Vec<Session>> {
         let mut sessions = Vec::new(alloc);
         for _ in 0..self.sessions {
             sessions.push(self.session(alloc)?)?;
@@ -197,11 +255,14 @@ impl Bench {
         self.input.clear();
         let disks = std::mem::replace(&mut self.disks, Vec::new(alloc));
         let outlet = std::mem::replace(&mut self.outlet, MemoryOutlet::new(alloc, Vec::new(alloc)));
+        let empty = MemoryDisk::new(alloc, Vec::new(alloc), Vec::new(alloc));
+        let press = std::mem::replace(&mut self.press, empty);
         let end = run_krill(
             alloc,
             self.words.as_slice(),
             self.random,
             disks,
+            press,
             signers,
             outlet,
             sessions,
@@ -209,18 +270,23 @@ impl Bench {
         self.keep(alloc, end)
     }
 
-    // Tells the status and the fault's text, keeps the replies of all sessions, the disks and the outlet,
-    // and hands back the signers.
+    // Tells the status and the fault's text, keeps the replies of all sessions, the disks and the outlet, and
+    // hands back the signers.
     fn keep<G: Signer>(&mut self, alloc: Global, end: End<G>) -> Result<Vec<G>> {
         let RunEnd {
             status,
             fault,
-            desks,
-            signers,
-            outlet,
+            ends,
             sessions,
         } = end;
+        let Ends {
+            desks,
+            press,
+            signers,
+            outlet,
+        } = ends;
         self.disks = desks;
+        self.press = press;
         self.outlet = outlet;
         self.replies.clear();
         for ends in sessions.as_slice() {
@@ -270,6 +336,14 @@ impl Bench {
         };
         let hash = hex::encode(alloc, Sha256::digest(bytes))?;
         write!(self.told, "\t{} {hash}", bytes.len())?;
+        Ok(())
+    }
+
+    /// Tells how many bytes the press's disk has, their SHA-256, and how often it has failed.
+    pub fn tell_press(&mut self, alloc: Global) -> Result<()> {
+        let (bytes, faults) = (self.press.bytes(), self.press.faults());
+        let hash = hex::encode(alloc, Sha256::digest(bytes))?;
+        write!(self.told, "\t{} {hash} {faults}", bytes.len())?;
         Ok(())
     }
 

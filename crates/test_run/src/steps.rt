@@ -17,6 +17,33 @@ pub fn take(alloc: Global, bench: &mut Bench, step: &str) -> Result<()> {
         "failing" => bench.add_disk(alloc, Vec::new(alloc), numbers_of(alloc, text, ' ')?),
         "stop" => bench.stop_first(text.parse::<u64>()?),
         "image" => bench.keep_image(alloc, text.parse::<u64>()?),
+        _ => take_store_step(alloc, bench, word, text),
+    }
+}
+
+fn take_store_step(alloc: Global, bench: &mut Bench, word: &str, text: &str) -> Result<()> {
+    match word {
+        "reword" => {
+            bench.clear_words();
+            bench.add_word(alloc, text)
+        }
+        "lose" => bench.lose_desk(alloc, text.parse::<usize>()?),
+        "press" => {
+            bench.set_press(alloc, hex::decode(alloc, text)?, Vec::new(alloc));
+            Ok(())
+        }
+        "press-failing" => {
+            bench.set_press(alloc, Vec::new(alloc), numbers_of(alloc, text, ' ')?);
+            Ok(())
+        }
+        "press-stop" => {
+            bench.stop_press(text.parse::<u64>()?);
+            Ok(())
+        }
+        "press-image" => bench.keep_press_image(alloc, text.parse::<u64>()?),
+        "press-flip" => bench.flip_press(alloc, text.parse::<usize>()?),
+        "press-add" => bench.extend_press(alloc, &hex::decode(alloc, text)?),
+        "press-left" => bench.tell_press(alloc),
         _ => take_signer_step(alloc, bench, word, text),
     }
 }

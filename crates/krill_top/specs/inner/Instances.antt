@@ -1,5 +1,5 @@
 -- The instance as the program has it and as replies see it.
-use Rattle.std.specs.Prelude.{◌≡◌, ◌≢◌, ◌<◌, ℕ, Bool, List, [], Option, All, length}
+use Rattle.std.specs.Prelude.{◌≡◌, ◌≢◌, ◌↔◌, ◌<◌, ◌≤◌, ⊤, ◌∷◌, ◌++◌, ℕ, Bool, List, [], Option, None, Some, IfSome, All, length}
 use Rattle.disk_api.specs.declared.disk.Disk.{Ghosts as DiskGhosts}
 use Rattle.outlet_api.specs.declared.outlet.Outlet.{Ghosts as OutletGhosts}
 use Rattle.authority_book.specs.declared.rows.NameRow.{NameRow}
@@ -9,40 +9,78 @@ use Rattle.rp_rules.specs.Certificates.{Vouched}
 use Rattle.notice_board.specs.declared.sheets.Sheet.{Sheet}
 use Rattle.editions.specs.PublishedState.{IsConsistentState}
 use Rattle.editions.specs.Sheets.{sheet_of}
+use Rattle.press_core.specs.JournalRecords.{AreRecords, IsRecordOf, press_limit}
+use Rattle.press_core.specs.Next.{NextValue}
+use Rattle.press_core.specs.Follows.{edition_of}
 use Rattle.press_core.specs.Press.{PressValue}
+use Rattle.press_core.specs.Stored.{StoredValue}
+use Rattle.gate_journal.specs.View as journal
+use Rattle.editions.specs.Edition.{Edition}
+use Rattle.editions.specs.PublishedState.{PublishedStateValue}
 use Rattle.press_core.specs.Stands.{IsLeftBy, StandsFor}
 use Rattle.krill_top.specs.DeskStates.{most_desks, names_in}
 use Rattle.krill_top.specs.InstanceState.{InstanceState, TimedInstanceState, at_clock}
 use Rattle.krill_top.specs.InstanceState.{outlet_state, lists_of, premises_of, AreVouchedIn}
-use Rattle.krill_top.specs.InstanceState.{VouchForCalls, IsCoherentIn}
+use Rattle.krill_top.specs.InstanceState.{store_in, VouchForCalls, IsCoherentIn}
 use Rattle.press_core.specs.Files.{HasFilesOf}
 use Rattle.press_core.specs.Exports.{ShowsEdition, ShowsLast}
-use Rattle.krill_top.specs.DesksInStates.{AreIn, DesksGoOn}
+use Rattle.krill_top.specs.DesksInStates.{AreIn, DesksGoOn, RoseWithin}
 use Rattle.krill_top.specs.Replies.{IsReply, IsText}
 
--- The desks by their numbers, the press, what readers are shown of the last edition, how many signers
--- there are, and the outlet.
+-- The desks by their numbers, the press and its journal, what readers are shown of the last edition, how
+-- many signers there are, and the outlet.
 pub record InstanceValue (D O : Type 0) : Type 0 where
   pub desks : List (View D)
   pub press : PressValue
+  pub journal : journal.View D
   pub sheet : Sheet
   pub signers : ℕ
   pub outlet : O
 
+-- The press with its journal.
+abbrev pub stored_in : {D O : Type 0} → InstanceValue D O → StoredValue D
+stored_in instance = record { press = instance.press; journal = instance.journal }
+
+-- The bytes are the record of the edition, as it was prepared, over what stands.
+pub record IsDoubtOf (at : PublishedStateValue) (edition : Edition) (entry : List ℕ) : Type 0 where
+  pub prepared : NextValue
+  pub edition_is : edition ≡ edition_of prepared
+  pub recorded : IsRecordOf at prepared entry
+
+-- The journal of the press has the edition in doubt, if there is one.
+abbrev pub HasInDoubt : PublishedStateValue → Option Edition → Option (List ℕ) → Type 0
+HasInDoubt at None None = ⊤
+HasInDoubt at None (Some entry) = ⊥
+HasInDoubt at (Some edition) None = ⊥
+HasInDoubt at (Some edition) (Some entry) = IsDoubtOf at edition entry
+
+-- The journal of the press has the editions, where its disk tells, and takes more where none is in doubt.
+pub record IsJournalOf {D : Type 0} (press : StoredValue D) (state : InstanceState) : Type 0 where
+  pub limit : press.journal.limit ≡ press_limit
+  pub records : press.journal.records ≡ state.records
+  pub are : IfSome state.records (AreRecords (store_in state) state.editions)
+  pub shut : (press.journal.shut ≡ None) ↔ (state.in_doubt ≡ None)
+  pub doubt : HasInDoubt press.press.at state.in_doubt press.journal.doubt
+
 -- The instance is in this state: its desks are in their states, its press has what the editions
--- left, with their files, and stands for them whatever is vouched, if their signatures are; the
--- signers of all names and keys are there; and the outlet shows what was exported last, if that ended
--- Ok.
+-- left, with their files, and stands for them whatever is vouched, if their signatures are and the
+-- editions that were found are steps; its journal has the editions; the signers of all names and keys are
+-- there; and the outlet shows what was exported last, if that ended Ok.
 pub record IsInState {D O : Type 0} (outlet_of : OutletGhosts O) (instance : InstanceValue D O)
     (state : InstanceState) : Type 0 where
   pub desks : AreIn instance.desks state.desk_states
   pub left : IsLeftBy (lists_of state.desk_states) state.editions instance.press.at
   pub stands : (vouched : Vouched) → AreVouchedIn vouched state
       → StandsFor (premises_of vouched state) state.editions instance.press.at
+  -- and so does what the one in doubt would leave
+  pub in_doubt : (vouched : Vouched) → AreVouchedIn vouched state → IfSome state.in_doubt
+      (λ edition. (at : PublishedStateValue)
+      × StandsFor (premises_of vouched state) (state.editions ++ edition ∷ []) at)
   pub serial : instance.press.at.serial ≡ length state.editions
   pub files : HasFilesOf state.editions instance.press
   pub site : instance.press.site ≡ state.site
   pub session : instance.press.rrdp.session ≡ state.session
+  pub journal : IsJournalOf (stored_in instance) state
   pub exported : instance.press.last_export ≡ state.exported
   pub outlet : outlet_state outlet_of instance.outlet ≡ state.outlet
   pub shows : ShowsLast (ShowsEdition state.session state.site) state.editions state.exported
@@ -56,11 +94,35 @@ pub record IsInState {D O : Type 0} (outlet_of : OutletGhosts O) (instance : Ins
   pub name_signers : All (λ (name : NameRow). name.signer < length state.signers)
       (names_in state.desk_states)
 
+-- Such an instance could be made of these, with the sheet of what stands.
+abbrev pub IsPressIn : {D O : Type 0} → OutletGhosts O → List (View D) → StoredValue D → ℕ → O
+    → InstanceState → Type 0
+IsPressIn outlet_of desks press signers outlet state = IsInState outlet_of (record {
+  desks = desks;
+  press = press.press;
+  journal = press.journal;
+  sheet = sheet_of press.press.at;
+  signers = signers;
+  outlet = outlet;
+}) state
+
 -- It is in some state.
 pub record IsInstance {D O : Type 0} (outlet_of : OutletGhosts O) (instance : InstanceValue D O)
     : Type 0 where
   pub state : InstanceState
   pub stands : IsInState outlet_of instance state
+
+-- How the press's disk goes on: an edition is in doubt by a fault of it alone.
+pub record PressGoesOn {D : Type 0} (disk_of : DiskGhosts D) (old new : D)
+    (before after : InstanceState) : Type 0 where
+  pub cause : before.in_doubt ≡ None → ¬ (after.in_doubt ≡ None)
+      → RoseWithin (disk_of.fault_count old) (disk_of.fault_count new)
+  pub stays : ¬ (before.in_doubt ≡ None) → after.in_doubt ≡ before.in_doubt
+  pub later : disk_of.fault_count old ≤ disk_of.fault_count new
+
+-- Editions come behind those that stand.
+abbrev pub EditionsGrow : InstanceState → InstanceState → Type 0
+EditionsGrow before after = (made : List Edition) × (after.editions ≡ before.editions ++ made)
 
 -- From the instance in one state, P leads to a state in which the other instance is.
 pub record Arrives {D O : Type 0} (disk_of : DiskGhosts D) (outlet_of : OutletGhosts O)
@@ -69,9 +131,12 @@ pub record Arrives {D O : Type 0} (disk_of : DiskGhosts D) (outlet_of : OutletGh
   pub after : InstanceState
   pub same_site : after.site ≡ before.site
   pub same_session : after.session ≡ before.session
+  pub same_found : after.found ≡ before.found
   pub step : P before after
   pub stands : IsInState outlet_of new after
   pub disks : DesksGoOn disk_of old.desks new.desks before.desk_states after.desk_states
+  pub press : PressGoesOn disk_of old.journal.disk new.journal.disk before after
+  pub grown : EditionsGrow before after
   pub kept : Keeps before.signers after.signers
   pub vouch : VouchForCalls before after
   pub coherent : IsCoherentIn before → IsCoherentIn after

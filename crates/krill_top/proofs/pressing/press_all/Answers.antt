@@ -1,40 +1,18 @@
-use Rattle.std.proofs.Common.{ℕ, List, inr, sym, ◌∙◌, ap, subst}
+use Rattle.std.proofs.Common.{◌≡◌, ◌∙◌, sym, subst}
+use Rattle.std.specs.Prelude.{IfSome, IsSome}
 use Rattle.std.proofs.lemmas.Result.{err_from_is_err_and}
-use Rattle.press_core.specs.Press.{PressValue}
-use Rattle.press_core.specs.Files.{delta_of}
-use Rattle.krill_top.proofs.Pressed.{pressed_by}
-use Rattle.krill_top.specs.inner.Gathered.{AreSince}
+use Rattle.gate_journal.specs.View.{View as JournalView}
+use Rattle.krill_top.proofs.Pressed.{pressed_by, uncommitted_by, known_then}
 use Rattle.krill_top.proofs.pressing.press_all.Goals as goal
-
--- The signers made the edition, and memory ran out before readers could be shown it.
-pub returns-in_err-sheet-clause-refused : goal.returns-in_err-sheet-clause-refused
-returns-in_err-sheet-clause-refused g c =
-    let p = err_from_is_err_and c.from_residual-in_err-sheet.result c.from_residual-in_err-sheet.ensures.1 in
-    let is = c.in_ok-prepared.ensures.prepared.is_prepared in
-    rw (p.1, p.2) (record {
-      same = c.in_ok-prepared.ensures.kept;
-      kept = c.in_ok-prepared.ensures.signers;
-      held = c.in_ok-prepared.ensures.keys;
-      cause = inr (record {
-        groups = c.in_ok-gathered.gathered.items;
-        since = subst (λ (cut : List ℕ). AreSince 0 c.args.desks.now cut c.in_ok-gathered.gathered.items) c.cut.ensures c.in_ok-gathered.ensures;
-        met = inr (record { work = is.made.work; planned = is.made.planned; out = inr (is.made.made, is.made.is_made) });
-      });
-    })
-
-pub commit-published-requires-clause-delta : goal.commit-published-requires-clause-delta
-commit-published-requires-clause-delta g c =
-    c.in_ok-prepared.ensures.delta ∙ ap (λ (p : PressValue). delta_of p.rrdp.session c.in_ok-prepared.prepared.edition) (sym c.in_ok-prepared.ensures.kept)
 
 pub returns-clause-pressed : goal.returns-clause-pressed
 returns-clause-pressed g c =
-    let prepared = c.in_ok-prepared.prepared.edition in
-    let made = c.in_ok-prepared.ensures in
-    let committed = c.commit-published.ensures in
-    pressed_by c.args.now c.args.desks.now c.in_ok-gathered.gathered.items prepared c.commit-published.result c.in_ok-sheet.sheet
-    c.args.press.now c.prepare.new.self c.commit-published.new.self c.retire_keys.new.self
-    (subst (λ (cut : List ℕ). AreSince 0 c.args.desks.now cut c.in_ok-gathered.gathered.items) c.cut.ensures c.in_ok-gathered.ensures) made.prepared
-    (record { same = made.kept; kept = made.signers; held = made.keys })
+    let ready = c.in_ok-prepared.ensures.ready in
+    let committed = c.in_ok-published.ensures in
+    let new = c.commit.new.self in
+    let told = subst (λ (j : JournalView g.row.D.Denot). IfSome j.records (λ _. IsSome (g.D.Disk.content j.disk))) (sym ready.journal) c.in_ok-prepared.ensures.told in
+    pressed_by g.D.Disk c.args.now c.args.desks.now c.in_ok-prepared.field-0.prepared c.in_ok-published.published c.in_ok-prepared.field-0.sheet
+    c.args.press.now c.prepare_all.new.press new c.retire_keys.new.self ready
     (record {
       at = committed.at;
       ended = committed.ended;
@@ -43,7 +21,20 @@ returns-clause-pressed g c =
       files = committed.files;
       session = committed.session;
       last_export = committed.last_export;
-      told_is = committed.result;
+      told_is = committed.published;
+      records = committed.records;
+      known = known_then (g.D.Disk.content c.prepare_all.new.press.journal.disk) (g.D.Disk.content new.journal.disk) _ c.prepare_all.new.press.journal.records new.journal.records
+          committed.bytes told committed.safe.known;
+      is_open = committed.open.0;
+      settled = committed.open.1;
+      limit = committed.limit;
+      later = committed.later;
     })
-    (record { dropped = c.retire_keys.ensures.dropped; others = c.retire_keys.ensures.others; kept = c.retire_keys.ensures.kept })
-    c.in_ok-sheet.ensures
+    (record { dropped = c.retire_keys.ensures.dropped; others = c.retire_keys.ensures.others; kept = c.retire_keys.ensures.kept; journal = c.retire_keys.ensures.journal })
+
+pub returns-in_err-published-clause-refused : goal.returns-in_err-published-clause-refused
+returns-in_err-published-clause-refused g c =
+    let p = err_from_is_err_and c.from_residual-in_err-published.result c.from_residual-in_err-published.ensures.1 in
+    let failed = c.in_err-published.ensures in
+    rw (p.1, p.2) (uncommitted_by g.D.Disk c.args.now c.args.desks.now c.in_ok-prepared.field-0.prepared c.in_ok-prepared.field-0.sheet
+    c.args.press.now c.prepare_all.new.press c.commit.new.self _ c.in_ok-prepared.ensures.ready failed.refused failed.later failed.limit)

@@ -1,5 +1,5 @@
-use Rattle.std.proofs.Common.{sym, subst}
-use Rattle.press_core.specs.Press.{PressValue}
+use Rattle.std.proofs.Common.{sym, ap, subst}
+use Rattle.press_core.specs.Stored.{StoredValue}
 use Rattle.press_core.specs.Exports.{ended_by}
 use Rattle.krill_top.specs.InstanceState.{outlet_state}
 use Rattle.krill_top.specs.Exports.{ExportsOrStops}
@@ -10,21 +10,24 @@ use Rattle.krill_top.proofs.instance.Instance.export.Goals as goal
 
 pub invariant_of-self : goal.invariant_of-self
 invariant_of-self g c =
-    let old : InstanceValue g.row.D.Denot g.row.O.Denot = record { desks = c.self.inside.desks; press = c.self.inside.press; sheet = c.self.inside.sheet; signers = c.self.inside.signers; outlet = c.self.inside.outlet } in
+    let old : InstanceValue g.row.D.Denot g.row.O.Denot = record { desks = c.self.inside.desks; press = c.self.inside.press.press; journal = c.self.inside.press.journal; sheet = c.self.inside.sheet; signers = c.self.inside.signers; outlet = c.self.inside.outlet } in
     let outlet = c.export_to.new.outlet in
     let e = c.export_to.ensures in
     let is : IsExportOf c.export_to.result old.press (outlet_state g.O.Outlet old.outlet) (outlet_state g.O.Outlet outlet) = record { done = e.done; front = e.front; coherent = e.coherent; shown = e.shown; counts = e.counts; cause = e.cause } in
     let moves = exported_moves g.D.Disk g.O.Outlet c.more_editions_stay_shown.ensures.files old c.export_to.result outlet is in
-    subst (λ (p : PressValue). IsInstance g.O.Outlet (record old { press = p; outlet = outlet })) (sym e.kept)
+    subst (λ (s : StoredValue g.row.D.Denot). IsInstance g.O.Outlet (record old { press = s.press; journal = s.journal; outlet = outlet })) (λ i. record { press = sym e.kept i; journal = sym e.journal i })
     (instance_on g.O.Outlet g.D.Disk (ExportsOrStops c.export_to.result) old (record old { press = record old.press { last_export = ended_by c.export_to.result old.press.at.serial }; outlet = outlet }) moves c.self.invariant)
 
-pub returns : goal.returns
-returns g c =
+pub returns-clause-moves : goal.returns-clause-moves
+returns-clause-moves g c =
     let D : Type 0 = g.row.D.Denot in
-    let old : InstanceValue D g.row.O.Denot = record { desks = c.self.inside.desks; press = c.self.inside.press; sheet = c.self.inside.sheet; signers = c.self.inside.signers; outlet = c.self.inside.outlet } in
+    let old : InstanceValue D g.row.O.Denot = record { desks = c.self.inside.desks; press = c.self.inside.press.press; journal = c.self.inside.press.journal; sheet = c.self.inside.sheet; signers = c.self.inside.signers; outlet = c.self.inside.outlet } in
     let outlet = c.export_to.new.outlet in
     let e = c.export_to.ensures in
     let is : IsExportOf c.export_to.result old.press (outlet_state g.O.Outlet old.outlet) (outlet_state g.O.Outlet outlet) = record { done = e.done; front = e.front; coherent = e.coherent; shown = e.shown; counts = e.counts; cause = e.cause } in
     let moves = exported_moves g.D.Disk g.O.Outlet c.more_editions_stay_shown.ensures.files old c.export_to.result outlet is in
-    subst (λ (o : InstanceValue D g.row.O.Denot). Moves g.D.Disk g.O.Outlet (ExportsOrStops c.export_to.result) o (record old { press = c.export_to.new.self; outlet = outlet })) c.self.view_is
-    (subst (λ (p : PressValue). Moves g.D.Disk g.O.Outlet (ExportsOrStops c.export_to.result) old (record old { press = p; outlet = outlet })) (sym e.kept) moves)
+    subst (λ (o : InstanceValue D g.row.O.Denot). Moves g.D.Disk g.O.Outlet (ExportsOrStops c.export_to.result) o (record old { press = c.export_to.new.self.press; journal = c.export_to.new.self.journal; outlet = outlet })) c.self.view_is
+    (subst (λ (s : StoredValue D). Moves g.D.Disk g.O.Outlet (ExportsOrStops c.export_to.result) old (record old { press = s.press; journal = s.journal; outlet = outlet })) (λ i. record { press = sym e.kept i; journal = sym e.journal i }) moves)
+
+pub returns-clause-desks : goal.returns-clause-desks
+returns-clause-desks g c = ap (λ (o : InstanceValue g.row.D.Denot g.row.O.Denot). o.desks) c.self.view_is

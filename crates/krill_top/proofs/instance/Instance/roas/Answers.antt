@@ -6,4 +6,4 @@ use Rattle.krill_top.proofs.instance.Instance.roas.Goals as goal
 pub returns : goal.returns
 returns g c = if_ok_so c.roas.result _ _ c.roas.ensures (λ text is state stands.
     let s = subst (λ (o : InstanceValue g.row.D.Denot g.row.O.Denot). IsInState g.O.Outlet o state) (sym c.self.view_is) stands in
-    (c.self.inside.sheet, record { published_state = c.self.inside.press.at; left = s.left; kept = s.kept; is = s.sheet }, is state.desk_states s.desks))
+    (c.self.inside.sheet, record { published_state = c.self.inside.press.press.at; left = s.left; kept = s.kept; is = s.sheet }, is state.desk_states s.desks))

@@ -1,0 +1,78 @@
+-- The press's disk over a run, from what opening found to what closing leaves.
+use Rattle.std.proofs.Common.{◌≡◌, ℕ, List, [], ◌∷◌, ◌++◌, sym, subst, arith, inl, inr}
+use Rattle.std.proofs.lemmas.Bool.{false≢true}
+use Rattle.std.specs.Prelude.{Option, None, Some, IfSome, IsSome}
+use Rattle.disk_api.specs.declared.disk.Disk.{Ghosts as DiskGhosts}
+use Rattle.gate_journal.specs.View.{RecoversTo, RecoversToInDoubt, IsSafe as IsSafeJournal}
+use Rattle.authority_book.specs.declared.commands.Command.{Command}
+use Rattle.editions.specs.Edition.{Edition}
+use Rattle.editions.specs.PublishedState.{PublishedStateValue}
+use Rattle.press_records.specs.Store.{Store}
+use Rattle.press_core.specs.JournalRecords.{AreRecords, IsRecordOf, Finds, press_limit}
+use Rattle.press_core.specs.Next.{NextValue}
+use Rattle.press_core.specs.Follows.{edition_of}
+use Rattle.press_core.specs.Stands.{IsLeftBy}
+use Rattle.krill_top.specs.InstanceState.{InstanceState, lists_of, store_in}
+use Rattle.krill_top.specs.PressDisk.{Holds, HoldsIn, IsPressServed}
+use Rattle.krill_top.specs.inner.Instances.{InstanceValue, IsDoubtOf, HasInDoubt, IsInState, PressGoesOn}
+use Rattle.krill_top.specs.inner.Started.{IsPressFound}
+use Rattle.outlet_api.specs.declared.outlet.Outlet.{Ghosts as OutletGhosts}
+use Rattle.krill_top.proofs.PressFound.{some_so, some_both}
+
+-- one record more is that of one edition more
+abbrev pub RecordsLaw : Type 0
+RecordsLaw = (lists : List (List Command)) (before : List Edition) (at : PublishedStateValue) (prepared : NextValue)
+    (store : Store) (records : List (List ℕ)) (entry : List ℕ)
+    → IsLeftBy lists before at → AreRecords store before records → IsRecordOf at prepared entry
+    → AreRecords store (before ++ edition_of prepared ∷ []) (records ++ entry ∷ [])
+
+found_by : (store : Store) (editions : List Edition) (records : List (List ℕ)) (file : List ℕ) → RecoversTo press_limit records file → AreRecords store editions records → Finds store editions file
+found_by store editions records file whole are = record { records = records; whole = whole; are = are }
+
+one_more : RecordsLaw → (lists : List (List Command)) (store : Store) (editions : List Edition) (at : PublishedStateValue) (edition : Edition) (records : List (List ℕ)) (entry : List ℕ)
+    → IsLeftBy lists editions at → AreRecords store editions records → IsDoubtOf at edition entry → AreRecords store (editions ++ edition ∷ []) (records ++ entry ∷ [])
+one_more law lists store editions at edition records entry left are doubt =
+    subst (λ (e : Edition). AreRecords store (editions ++ e ∷ []) (records ++ entry ∷ [])) (sym doubt.edition_is)
+    (law lists editions at doubt.prepared store records entry left are doubt.recorded)
+
+-- what a file recovers to, where the records are known
+holds : RecordsLaw → (lists : List (List Command)) (store : Store) (editions : List Edition) (at : PublishedStateValue) (in_doubt : Option Edition) (known : Option (List (List ℕ))) (doubt : Option (List ℕ)) (file : List ℕ)
+    → IsLeftBy lists editions at → IsSome known → IfSome known (AreRecords store editions) → HasInDoubt at in_doubt doubt → RecoversToInDoubt press_limit known doubt file
+    → Holds store editions in_doubt file
+holds law lists store editions at in_doubt None doubt file left some are has recovers = absurd (false≢true some)
+holds law lists store editions at None (Some records) None file left some are has recovers = found_by store editions records file recovers are
+holds law lists store editions at None (Some records) (Some entry) file left some are has recovers = absurd has
+holds law lists store editions at (Some edition) (Some records) None file left some are has recovers = absurd has
+holds law lists store editions at (Some edition) (Some records) (Some entry) file left some are has (inl whole) = inl (found_by store editions records file whole are)
+holds law lists store editions at (Some edition) (Some records) (Some entry) file left some are has (inr whole) =
+    inr (found_by store (editions ++ edition ∷ []) (records ++ entry ∷ []) file whole (one_more law lists store editions at edition records entry left are has))
+
+module _ {D O : Type 0} (disk_of : DiskGhosts D) (outlet_of : OutletGhosts O) where
+  -- what a file is, in the state
+  holds_in : RecordsLaw → (instance : InstanceValue D O) (state : InstanceState) (file : List ℕ) → IsInState outlet_of instance state → IsSome instance.journal.records
+      → RecoversToInDoubt instance.journal.limit instance.journal.records instance.journal.doubt file → HoldsIn state file
+  holds_in law instance state file stands some recovers =
+      holds law (lists_of state.desk_states) (store_in state) state.editions instance.press.at state.in_doubt state.records instance.journal.doubt file stands.left
+      (subst IsSome stands.journal.records some) stands.journal.are stands.journal.doubt
+      (subst (λ (r : Option (List (List ℕ))). RecoversToInDoubt press_limit r instance.journal.doubt file) stands.journal.records
+      (subst (λ (n : ℕ). RecoversToInDoubt n instance.journal.records instance.journal.doubt file) stands.journal.limit recovers))
+
+  pub press_served : RecordsLaw → (session : List ℕ) (old mid back : D) (closed : InstanceValue D O) (begun ended : InstanceState) → IsPressFound disk_of session old mid begun
+      → PressGoesOn disk_of mid closed.journal.disk begun ended → IsInState outlet_of closed ended → IsSafeJournal disk_of closed.journal → back ≡ closed.journal.disk
+      → IsPressServed disk_of session old back begun ended
+  press_served law session old mid back closed begun ended first goes stands safe same =
+      subst (λ (d : D). IsPressServed disk_of session old d begun ended) (sym same) (record {
+        whole = first.whole;
+        found = first.found;
+        known = first.known;
+        records = first.records;
+        is_open = first.is_open;
+        left = some_both (disk_of.content closed.journal.disk) _ _ (HoldsIn ended) safe.known safe.bytes
+            (λ file some recovers. holds_in law closed ended file stands some recovers);
+        images = λ image may. some_so (disk_of.content closed.journal.disk) _ (λ file. HoldsIn ended image) safe.known
+            (λ file some. holds_in law closed ended image stands some (safe.images image may));
+        cause = λ shut.
+            let rose = goes.cause first.is_open shut in
+            record { from = rose.from; to = rose.to; begins = omega (arith, first.later, rose.begins); risen = rose.risen; ends = rose.ends };
+        later = omega (arith, first.later, goes.later);
+      })

@@ -1,0 +1,11 @@
+-- What the words ask for, as a plain value.
+use Rattle.std.specs.Option.{option_map}
+use Rattle.krill_top.specs.declared.words.Asked.{Asked}
+use Rattle.krill_top.specs.Words.{AskedValue}
+
+abbrev pub asked_value : Asked → AskedValue
+asked_value asked = record {
+  doing = asked.doing;
+  rsync = option_map (λ text. text.now) asked.rsync;
+  rrdp = option_map (λ text. text.now) asked.rrdp;
+}
