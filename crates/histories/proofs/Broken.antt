@@ -7,10 +7,11 @@ use Rattle.key_ids.specs.Uris.{Bases}
 use Rattle.pub_set.specs.declared.objects.Object.{Object}
 use Rattle.editions.specs.Edition.{Edition, cut_at}
 use Rattle.editions.specs.Step.{AreMore, BeginsWith}
+use Rattle.press_core.specs.JournalRecords.{press_limit}
 use Rattle.histories.specs.Devices.{Device, Signature, Store, are_vouched, opened, for_desk, lists_of, doubt_at, new_store}
 use Rattle.histories.specs.Events.{Happening, History, after, after_one, after_all, signing}
 use Rattle.histories.specs.Events.Event.{Commit, Publish, DeskFault, PressFault, Stop, Reopen}
-use Rattle.histories.specs.Legal.{CanBeWritten, MayBePublished, MayReopen, IsFound, IsAllowed, IsLegal, bytes_for, most_bytes}
+use Rattle.histories.specs.Legal.{CanBeWritten, MayBePublished, MayReopen, IsFound, IsAllowed, IsLegal, bytes_for, most_bytes, press_bytes_for}
 use Rattle.histories.specs.Acknowledged.{Acknowledged, acknowledging, acknowledging_all, acknowledged, commands_of, editions_of, signatures_of, ground_after}
 use Rattle.histories.specs.Found.{store_after, latest}
 use Rattle.histories.specs.Refused.{AreNoReopenings}
@@ -191,6 +192,17 @@ module _ (site : Bases) where
       ∙ list_there (store_after history).desks desk may.device may.there in
       let over : most_bytes < bytes_for (may.device.list ++ command ∷ []) =
       subst (λ (l : List Command). most_bytes < bytes_for (l ++ command ∷ [])) list past in
+      let fits = may.next.fits in
+      absurd (omega (arith, over, fits))
+
+  pub too_large_editions : (history : History) (signed : List Signature) (edition : Edition)
+      → press_limit < press_bytes_for site (editions_of history ++ edition ∷ [])
+      → IsLegal site (history ++ record { signed = signed; event = Publish edition } ∷ []) → ⊥
+  too_large_editions history signed edition past legal =
+      let may : MayBePublished site (signing (store_after history) signed) edition =
+      last history (record { signed = signed; event = Publish edition }) legal in
+      let over : press_limit < press_bytes_for site ((store_after history).press.list ++ edition ∷ []) =
+      subst (λ (es : List Edition). press_limit < press_bytes_for site (es ++ edition ∷ [])) (sym (editions_are history)) past in
       let fits = may.next.fits in
       absurd (omega (arith, over, fits))
 

@@ -1,5 +1,5 @@
 -- How a legal history may go on.
-use Rattle.std.proofs.Common.{◌≡◌, ℕ, ◌+◌, refl, sym, subst, ◌∙◌, inl, inr, true, false, List, [], ◌∷◌, ◌++◌, get_or, Some, None}
+use Rattle.std.proofs.Common.{◌≡◌, ◌≤◌, ℕ, ◌+◌, refl, sym, subst, ◌∙◌, inl, inr, true, false, List, [], ◌∷◌, ◌++◌, get_or, Some, None}
 use Rattle.std.specs.Prelude.{Bool, All, Option}
 use Rattle.authority_book.specs.declared.commands.Command.{Command}
 use Rattle.key_ids.specs.Uris.{Bases}
@@ -9,10 +9,11 @@ use Rattle.pub_set.specs.declared.steps.Change.TheVariants.{Put, Withdraw}
 use Rattle.editions.specs.Edition.{Edition}
 use Rattle.editions.specs.PlannedAndMade.{CanBeRead, IsPlannedAndMade}
 use Rattle.editions.specs.Step.{Premises, IsStep, AreSteps}
+use Rattle.press_core.specs.JournalRecords.{press_limit}
 use Rattle.histories.specs.Devices.{Device, Signature, Store, doubt_at, new_store}
 use Rattle.histories.specs.Events.{Happening, History, signing}
 use Rattle.histories.specs.Events.Event.{Reopen}
-use Rattle.histories.specs.Legal.{IsOfBytes, IsFound, AreFound, MayBePublished, IsAllowed, IsLegal, ground_of}
+use Rattle.histories.specs.Legal.{IsOfBytes, IsFound, AreFound, MayBePublished, IsAllowed, IsLegal, ground_of, press_bytes_for}
 use Rattle.histories.specs.Found.{store_after, AreFoundAfter, found_by, found_from, reopening_by}
 use Rattle.histories.proofs.Growing.{each_found, joins_legal}
 use Rattle.histories.proofs.Kept.{Stay, IsKept, kept_signing, kept_through, new_kept}
@@ -69,8 +70,9 @@ module _ (site : Bases) (history : History) (legal : IsLegal site history) where
     pub editions : Plan → (signed : List Signature) (clock : ℕ) (edition : Edition) (old new : List SignerState)
         → let store = signing (store_after history) signed in
         store.stopped ≡ false → store.press.shut ≡ false
-        → IsPlannedAndMade (ground_of site store) clock store.press.list edition old new → MayBePublished site store edition
-    editions plan signed clock edition old new running is_open planned =
+        → IsPlannedAndMade (ground_of site store) clock store.press.list edition old new
+        → press_bytes_for site (store.press.list ++ edition ∷ []) ≤ press_limit → MayBePublished site store edition
+    editions plan signed clock edition old new running is_open planned fits =
         let store : Store = signing (store_after history) signed in
         let ground = ground_of site store in
         let turns = (kept_signing stay site (store_after history) signed kept).press.turns in
@@ -83,5 +85,6 @@ module _ (site : Bases) (history : History) (legal : IsLegal site history) where
                 (λ k d within. of_bytes (get_or planned.made.made.changes k d) (readable k d within));
             clock = clock;
             step = plan ground clock store.press.list edition old new (steps_of ground store.press.list turns) planned;
+            fits = fits;
           };
         }

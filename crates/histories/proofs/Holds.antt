@@ -1,5 +1,5 @@
 -- What holds after a legal history.
-use Rattle.std.proofs.Common.{◌≡◌, ℕ, ◌+◌, ◌<◌, ◌≤◌, suc, refl, sym, subst, ◌∙◌, ap, arith, inl, inr, ⊎_elim, List, [], ◌∷◌, ◌++◌, length, take, drop, get_or, Some}
+use Rattle.std.proofs.Common.{◌≡◌, ◌≢◌, ℕ, ◌+◌, ◌<◌, ◌≤◌, suc, refl, sym, subst, ◌∙◌, ap, arith, inl, inr, ⊎_elim, List, [], ◌∷◌, ◌++◌, length, take, drop, get_or, Some}
 use Rattle.std.specs.Prelude.{Option, IfSome, slice_get}
 use Rattle.std.specs.List.{All}
 use Rattle.std.proofs.lemmas.List.{length-take-le, take_all, take-take, take-append-drop}
@@ -15,10 +15,11 @@ use Rattle.editions.specs.Held.{HaveOwnSerials}
 use Rattle.editions.specs.Published.{IsPublished, ManifestsRise}
 use Rattle.editions.specs.Step.{Premises, AreSteps, AreMore, configs_at}
 use Rattle.editions.specs.Names.{AreTree}
+use Rattle.press_core.specs.JournalRecords.{press_limit}
 use Rattle.histories.specs.Devices.{Device, Signature, Store, lists_of, doubt_at, new_store}
 use Rattle.histories.specs.Events.{Happening, History, after_all, signing}
 use Rattle.histories.specs.Events.Event.{Reopen}
-use Rattle.histories.specs.Legal.{IsNextCommand, FollowsTheOthers, InTurn, ground_of, IsFound, MayReopen, IsLegal, bytes_for, most_bytes}
+use Rattle.histories.specs.Legal.{IsNextCommand, FollowsTheOthers, InTurn, ground_of, IsFound, MayReopen, IsLegal, bytes_for, most_bytes, press_bytes_for}
 use Rattle.histories.specs.Acknowledged.{acknowledged, commands_of, editions_of, ground_after}
 use Rattle.histories.specs.Found.{store_after, latest, TakesIn, AreFoundAfter}
 use Rattle.histories.specs.Published.{HasEdition, set_of, applied}
@@ -93,6 +94,15 @@ within desk (c ∷ list) turns =
     let all : c ∷ list ≡ take (length list) (c ∷ list) ++ last.0 ∷ [] = sym whole ∙ taken_with (c ∷ list) (length list) last.0 last.1 in
     subst (λ (l : List Command). bytes_for l ≤ most_bytes) (sym all) (turns (length list) last.0 last.1).fits
 
+press_within : (ground : Premises) (list : List Edition) → InTurn (FollowsTheOthers ground) list → list ≢ []
+    → press_bytes_for ground.site list ≤ press_limit
+press_within ground [] turns some = absurd (some refl)
+press_within ground (e ∷ list) turns some =
+    let last = last_there e list in
+    let whole : take (length (e ∷ list)) (e ∷ list) ≡ e ∷ list = take_all (length (e ∷ list)) (e ∷ list) (omega arith) in
+    let all : e ∷ list ≡ take (length list) (e ∷ list) ++ last.0 ∷ [] = sym whole ∙ taken_with (e ∷ list) (length list) last.0 last.1 in
+    subst (λ (l : List Edition). press_bytes_for ground.site l ≤ press_limit) (sym all) (turns (length list) last.0 last.1).fits
+
 -- ---- a legal history
 
 module _ (stay : Stay) (site : Bases) (history : History) (legal : IsLegal site history) where
@@ -113,6 +123,9 @@ module _ (stay : Stay) (site : Bases) (history : History) (legal : IsLegal site 
 
   pub limits : (desk : ℕ) → bytes_for (commands_of history desk) ≤ most_bytes
   limits desk = within desk (commands_of history desk) (commands desk)
+
+  pub press_limits : editions_of history ≢ [] → press_bytes_for site (editions_of history) ≤ press_limit
+  press_limits some = press_within (ground_after site history) (editions_of history) turned some
 
   pub some_desk : 0 < length (acknowledged history).commands
   some_desk =

@@ -1,5 +1,5 @@
 -- What each event keeps: lists that came in turn, and a record in doubt that may come next.
-use Rattle.std.proofs.Common.{◌≡◌, ℕ, ◌+◌, zero, suc, refl, sym, subst, ◌∙◌, ap, arith, ⊎_elim, true, false, List, [], ◌∷◌, ◌++◌, length, map, replicate, Some, None}
+use Rattle.std.proofs.Common.{◌≡◌, ◌≤◌, ℕ, ◌+◌, zero, suc, refl, sym, subst, ◌∙◌, ap, arith, ⊎_elim, true, false, List, [], ◌∷◌, ◌++◌, length, map, replicate, Some, None}
 use Rattle.std.specs.Prelude.{Bool, Option, IfSome, slice_get, if◌then◌else◌, ◌||◌}
 use Rattle.std.specs.List.{list_any}
 use Rattle.std.proofs.lemmas.List.{length-replicate}
@@ -11,10 +11,11 @@ use Rattle.key_ids.specs.Uris.{Bases}
 use Rattle.rp_rules.specs.Certificates.{VouchesMore}
 use Rattle.editions.specs.Edition.{Edition}
 use Rattle.editions.specs.Step.{Premises, IsStep, IsMore, AreMore}
+use Rattle.press_core.specs.JournalRecords.{press_limit}
 use Rattle.histories.specs.Devices.{Device, Signature, Store, is_signature, are_vouched, opened, with_one, failed, stopped, changed_at, for_desk, stopped_from, lists_of, new_store}
 use Rattle.histories.specs.Events.{Event, History, after, after_one, after_all, signing}
 use Rattle.histories.specs.Events.Event.{Commit, Publish, DeskFault, PressFault, Stop, Reopen}
-use Rattle.histories.specs.Legal.{IsNextCommand, FollowsTheOthers, InTurn, ground_of, IsFound, AreFound, CanBeWritten, MayBePublished, IsAllowed, AreAllowed}
+use Rattle.histories.specs.Legal.{IsNextCommand, FollowsTheOthers, InTurn, press_bytes_for, ground_of, IsFound, AreFound, CanBeWritten, MayBePublished, IsAllowed, AreAllowed}
 use Rattle.histories.proofs.Lists.{same_one, weaker, one_more, turns_weaker, count_changed, at_changed}
 use Rattle.histories.proofs.Growing.{Begins, begins_same, more_same, more_changed, lists_stopped, lists_opened, all_found_more, count_found}
 
@@ -153,6 +154,7 @@ module _ (stay : Stay) (site : Bases) where
     held = next.held;
     clock = next.clock;
     step = stay less more next.clock before edition is_more next.step;
+    fits = subst (λ (site : Bases). press_bytes_for site (before ++ edition ∷ []) ≤ press_limit) (sym is_more.site) next.fits;
   }
 
   -- Over the desks of another store, which have no less.

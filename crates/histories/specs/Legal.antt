@@ -1,6 +1,6 @@
 -- Which histories are legal: each event is allowed after those before it.
 use Rattle.std.specs.Prelude.{◌≡◌, ◌⊎◌, ⊤, ℕ, ◌^◌, ◌≤◌, false, List, [], ◌∷◌, ◌++◌}
-use Rattle.std.specs.Prelude.{map, take, All}
+use Rattle.std.specs.Prelude.{map, take, replicate, All}
 use Rattle.std.specs.Prelude.{Option, Some, slice_get, IfSome}
 use Rattle.authority_book.specs.declared.commands.Command.{Command}
 use Rattle.authority_book.specs.Fold.{fold_of}
@@ -11,8 +11,13 @@ use Rattle.key_ids.specs.Uris.{Bases}
 use Rattle.pub_set.specs.declared.steps.Change.{Change}
 use Rattle.pub_set.specs.declared.steps.Change.TheVariants.{Put, Withdraw}
 use Rattle.der.specs.Grammar.{AreBytes}
+use Rattle.press_records.specs.Edition.{EditionValue, StandingValue, nothing_stands}
+use Rattle.press_records.specs.Edition.{after_edition, editions}
+use Rattle.press_records.specs.Store.{stores}
 use Rattle.editions.specs.Edition.{Edition}
 use Rattle.editions.specs.Step.{Premises, IsStep}
+use Rattle.press_core.specs.JournalRecords.{press_limit, store_for}
+use Rattle.press_core.specs.Records.{edition_value}
 use Rattle.histories.specs.Devices.{Device, Store, lists_of, for_desk, are_vouched, new_store}
 use Rattle.histories.specs.Events.{Event, History, signing, after_one}
 use Rattle.histories.specs.Events.Event.{Commit, Publish, DeskFault, PressFault, Stop, Reopen}
@@ -34,17 +39,35 @@ pub record IsNextCommand (desk : ℕ) (before : List Command) (command : Command
   pub accepted : IsAccepted (fold_of desk before) command
   pub fits : bytes_for (before ++ command ∷ []) ≤ most_bytes
 
+-- The first record of the press's journal, which says whose store it is. It is as long in whichever
+-- session, which has 16 bytes.
+abbrev pub store_record : Bases → List ℕ
+store_record site = stores.spelling (store_for (replicate 16 0) site)
+
+-- The records of editions, each over what the ones before it leave.
+abbrev pub records_over : StandingValue → List EditionValue → List (List ℕ)
+records_over before [] = []
+records_over before (edition ∷ later) =
+    (editions before).spelling edition ∷ records_over (after_edition before edition) later
+
+-- The bytes that the press's journal takes to hold these editions.
+abbrev pub press_bytes_for : Bases → List Edition → ℕ
+press_bytes_for site published =
+    held_by (store_record site ∷ records_over nothing_stands (map edition_value published))
+
 -- What is put is bytes.
 abbrev pub IsOfBytes : Change → Type 0
 IsOfBytes (Put uri bytes replaces) = AreBytes bytes
 IsOfBytes (Withdraw uri hash) = ⊤
 
--- The edition follows the others, at whichever clock. Its objects are bytes.
+-- The edition follows the others, at whichever clock, and the press's journal has room for its record
+-- behind theirs. Its objects are bytes.
 pub record FollowsTheOthers (ground : Premises) (before : List Edition) (edition : Edition)
     : Type 0 where
   pub held : All IsOfBytes edition.changes
   pub clock : ℕ
   pub step : IsStep ground clock before edition
+  pub fits : press_bytes_for ground.site (before ++ edition ∷ []) ≤ press_limit
 
 -- Each may come behind those before it.
 abbrev pub InTurn : {X : Type 0} → (List X → X → Type 0) → List X → Type 0

@@ -20,7 +20,8 @@ ghost use Rattle.editions.specs.Step.{AreMore, AreSteps, BeginsWith};
 ghost use Rattle.histories.specs.Devices.{Device, Signature, doubt_at, for_desk, new_store};
 ghost use Rattle.histories.specs.Events.{Event, History, signing};
 ghost use Rattle.histories.specs.Events.Event.{Commit, Publish, DeskFault, PressFault, Stop, Reopen};
-ghost use Rattle.histories.specs.Legal.{CanBeWritten, IsLegal, IsNextCommand, InTurn, MayBePublished, bytes_for, ground_of, most_bytes};
+ghost use Rattle.histories.specs.Legal.{CanBeWritten, IsLegal, IsNextCommand, InTurn, MayBePublished, bytes_for, ground_of, most_bytes, press_bytes_for};
+ghost use Rattle.press_core.specs.JournalRecords.{press_limit};
 ghost use Rattle.histories.specs.Acknowledged.{acknowledged, commands_of, editions_of, ground_after};
 ghost use Rattle.histories.specs.Found.{AreFoundAfter, TakesIn, latest, reopening_by, store_after};
 ghost use Rattle.histories.specs.Refused.{IsReopening, AreNoReopenings};
@@ -58,6 +59,9 @@ pub fn headline()
     // A desk's journal never passes its limit.
     ensures limits { (site : Bases) (history : History) (desk : ℕ) → IsLegal site history
         → bytes_for (commands_of history desk) ≤ most_bytes }
+    // Nor does the press's, with the record that says whose store it is and one of each edition.
+    ensures press_limits { (site : Bases) (history : History) → IsLegal site history
+        → editions_of history ≢ [] → press_bytes_for site (editions_of history) ≤ press_limit }
     // Each edition follows those before it, over the commands that were acknowledged.
     ensures steps { (site : Bases) (history : History) → IsLegal site history
         → AreSteps (ground_after site history) (editions_of history) }
@@ -220,6 +224,10 @@ pub fn histories_that_break_a_rule_are_refused()
     ensures too_many_bytes { (site : Bases) (history : History) (signed : List Signature) (desk : ℕ)
         (command : Command) → most_bytes < bytes_for (commands_of history desk ++ command ∷ [])
         → IsLegal site (history ++ record { signed = signed; event = Commit desk command } ∷ []) → ⊥ }
+    // An edition behind which the records take more bytes than the press's journal has room for.
+    ensures too_large_editions { (site : Bases) (history : History) (signed : List Signature) (edition : Edition)
+        → press_limit < press_bytes_for site (editions_of history ++ edition ∷ [])
+        → IsLegal site (history ++ record { signed = signed; event = Publish edition } ∷ []) → ⊥ }
 {}
 
 /// The text of a serial's snapshot is read as that of no other serial.
@@ -268,12 +276,13 @@ pub fn legal_histories_go_on()
         → IfSome edition (MayBePublished site store)
         → IsLegal site (history ++ record { signed = signed; event = Stop commands edition } ∷ []) }
     // An edition that is planned over those that stand, and made by signers that vouch for it, may be written, and so
-    // published, where nothing is stopped and the press's journal is open.
+    // published, where nothing is stopped, the press's journal is open, and it has room.
     ensures editions { (site : Bases) (history : History) (signed : List Signature) (clock : ℕ) (edition : Edition)
         (old new : List SignerState) → IsLegal site history
         → let store = signing (store_after history) signed in
         store.stopped ≡ false → store.press.shut ≡ false
         → IsPlannedAndMade (ground_of site store) clock store.press.list edition old new
+        → press_bytes_for site (store.press.list ++ edition ∷ []) ≤ press_limit
         → MayBePublished site store edition }
     ensures publications { (site : Bases) (history : History) (signed : List Signature) (edition : Edition)
         → IsLegal site history → MayBePublished site (signing (store_after history) signed) edition
@@ -288,8 +297,9 @@ pub fn some_histories_are_legal()
     ensures { (site : Bases) → IsLegal site worked }
 {}
 
-/// Some have an edition: wherever one may be the first, it may be followed by a commit, a write that fails, a stop within
-/// another, a reopening that finds it, and one more commit; and it may be in doubt itself, and then be found.
+/// Some have an edition: wherever one may be the first, for whose record the press's journal has room, it may be followed
+/// by a commit, a write that fails, a stop within another, a reopening that finds it, and one more commit; and it may be in
+/// doubt itself, and then be found.
 pub fn some_histories_with_editions_are_legal()
     ensures published { (site : Bases) (signed : List Signature) (edition : Edition)
         → MayBePublished site (signing new_store signed) edition → IsLegal site (with_edition signed edition) }

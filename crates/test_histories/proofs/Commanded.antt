@@ -1,5 +1,5 @@
 -- A command is given to a desk, and the history goes on.
-use Rattle.std.proofs.Common.{◌≡◌, ℕ, suc, ◌+◌, ◌≤◌, refl, sym, subst, ◌∙◌, ap, arith, false, true, List, [], ◌∷◌, ◌++◌, length, map, Some, None, append-nil}
+use Rattle.std.proofs.Common.{◌≡◌, ℕ, ◌+◌, ◌≤◌, refl, sym, subst, ◌∙◌, ap, arith, false, List, [], ◌∷◌, ◌++◌, length, map, Some, None, append-nil}
 use Rattle.std.specs.Prelude.{Option, IfSome, slice_get, slice_set}
 use Rattle.std.specs.List.{All}
 use Rattle.std.specs.Option.{option_map}
@@ -18,7 +18,7 @@ use Rattle.desk_core.specs.View.{View, journal_limit}
 use Rattle.desk_core.specs.Commands.{Records, HasCommands}
 use Rattle.desk_core.specs.Answers.{CanCommit, IsFaultAnswer, DeskRise, needed_for}
 use Rattle.editions.specs.Step.{BeginsWith}
-use Rattle.press_core.specs.Press.{PressValue}
+use Rattle.press_core.specs.Stored.{StoredValue}
 use Rattle.histories.specs.Devices.{Device, Signature, Store, with_one, failed, changed_at}
 use Rattle.histories.specs.Events.{Event, after, signing}
 use Rattle.histories.specs.Events.Event.{Commit, DeskFault}
@@ -31,6 +31,7 @@ use Rattle.test_histories.specs.Standing.{IsDesk, store_of, IsAt}
 use Rattle.editions.specs.laws.GrantedLaws.{granted_accepted}
 use Rattle.test_histories.proofs.More.{MoreStands, left_then, legal_then, told_then, same_begins}
 use Rattle.test_histories.proofs.Places.{HasJournal, desk_at, put_desk, changed_long, more_lists}
+use Rattle.test_histories.proofs.PressAt.{press_more}
 
 -- ---- the next command
 
@@ -138,16 +139,16 @@ module _ (number : ℕ) (old : View MemoryDisk) (device : Device Command) (is : 
 
 -- ---- the store
 
-module _ (law : MoreStands) (desks : List (View MemoryDisk)) (press : PressValue) (done : List Done) (at : IsAt desks press done)
+module _ (law : MoreStands) (desks : List (View MemoryDisk)) (press : StoredValue MemoryDisk) (done : List Done) (at : IsAt desks press done)
     (place : ℕ) (desk : View MemoryDisk) (here : slice_get desks place ≡ Some desk) where
   abbrev before : Store
-  before = store_of at.devices at.editions at.vouched
+  before = store_of at.devices at.device at.vouched
 
   pub journal : HasJournal desk at.devices place place
   journal = desk_at 0 desks at.devices place place desk at.stand here (omega arith)
 
   pub may_be_written : (command : Command) → journal.device.shut ≡ false → IsNextCommand place journal.device.list command
-      → CanBeWritten press.site (signing before []) place command
+      → CanBeWritten press.press.site (signing before []) place command
   may_be_written command is_open next = record {
     running = refl;
     device = journal.device;
@@ -157,26 +158,25 @@ module _ (law : MoreStands) (desks : List (View MemoryDisk)) (press : PressValue
   }
 
   changed : (change : Device Command → Device Command) → ((d : Device Command) → BeginsWith d.list (change d).list)
-      → (event : Event) (one : Done) → IsTold one (happens event ∷ []) → IsAllowed press.site (signing before []) event
-      → after (signing before []) event ≡ store_of (changed_at place change at.devices) at.editions (at.vouched ++ [])
+      → (event : Event) (one : Done) → IsTold one (happens event ∷ []) → IsAllowed press.press.site (signing before []) event
+      → after (signing before []) event ≡ store_of (changed_at place change at.devices) at.device (at.vouched ++ [])
       → (new : View MemoryDisk) → IsDesk place new (change journal.device) → IsAt (slice_set desks place new) press (done ++ one ∷ [])
   changed change grows event one told may leaves new stands =
       let devices = changed_at place change at.devices in
       record {
         history = at.history ++ happens event ∷ [];
         told = told_then done at.history one (happens event ∷ []) at.told told;
-        legal = legal_then press.site at.history before at.left at.legal (happens event) may;
+        legal = legal_then press.press.site at.history before at.left at.legal (happens event) may;
         devices = devices;
-        editions = at.editions;
+        device = at.device;
         vouched = at.vouched;
         left = left_then at.history before at.left (happens event)
-            ∙ (leaves ∙ ap (λ (v : List Signature). store_of devices at.editions v) (append-nil at.vouched));
+            ∙ (leaves ∙ ap (λ (v : List Signature). store_of devices at.device v) (append-nil at.vouched));
         stand = put_desk 0 desks at.devices place place change new journal.device at.stand journal.there stands (omega arith);
         all = changed_long place change at.devices ∙ at.all;
-        published = law (ground_of press.site before) (ground_of press.site (store_of devices at.editions at.vouched)) at.editions press.at
-            (record { lists = more_lists place change at.devices grows; site = refl; vouched = λ key digest signature is. is }) at.published;
-        live = at.live;
-        signers = at.signers;
+        is_press = press_more law press at.device (ground_of press.press.site before)
+            (ground_of press.press.site (store_of devices at.device at.vouched))
+            (record { lists = more_lists place change at.devices grows; site = refl; vouched = λ key digest signature is. is }) at.is_press;
       }
 
   pub accepted : (signers : ℕ) (new : View MemoryDisk) (command : Command) → CanCommit desk command signers

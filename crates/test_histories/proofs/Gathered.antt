@@ -1,13 +1,12 @@
 -- The commands of the desks behind the press's cut can be taken in by an edition.
-use Rattle.std.proofs.Common.{◌≡◌, ◌≢◌, ℕ, zero, suc, ◌+◌, ◌≤◌, ◌<◌, true, false, List, [], ◌∷◌, ◌++◌, length, take, drop, map, get_or, refl, sym, ◌∙◌, ap, subst, arith, inl, inr, append-nil}
-use Rattle.std.specs.Prelude.{◌==◌, Some, slice_get, All}
+use Rattle.std.proofs.Common.{◌≡◌, ◌≢◌, ℕ, zero, suc, ◌+◌, ◌≤◌, ◌<◌, true, false, List, [], ◌∷◌, ◌++◌, length, take, drop, get_or, refl, sym, ◌∙◌, ap, subst, arith, inl, inr, append-nil}
+use Rattle.std.specs.Prelude.{◌==◌, Some, slice_get}
 use Rattle.std.proofs.lemmas.Bool.{cases_lt}
 use Rattle.std.proofs.lemmas.Bool.Decides.{nat_tests}
 use Rattle.std.proofs.lemmas.Option.{none-some, same_Some}
 use Rattle.std.proofs.lemmas.List.{drop_all, length-map}
 use Rattle.disk_api.specs.declared.memory.MemoryDisk.{MemoryDisk}
 use Rattle.authority_book.specs.declared.commands.Command.{Command}
-use Rattle.authority_book.specs.declared.rows.NameRow.{NameRow}
 use Rattle.authority_book.specs.Settings.{Settings}
 use Rattle.authority_book.specs.Fold.{fold_of, after, after_all, empty_settings, AcceptedInTurn}
 use Rattle.cmd_codec.specs.Spelling.{spelling}
@@ -32,13 +31,13 @@ is_same m n same = grind (arith, nat_tests)
 is_other : (m n : ℕ) → m ≢ n → (m == n) ≡ false
 is_other m n other = grind (arith, nat_tests)
 
-skipped : (group : Gathered) (rest : List Gathered) (desk : ℕ) → group.desk ≢ desk → gathering.commands_of (group ∷ rest) desk ≡ gathering.commands_of rest desk
+pub skipped : (group : Gathered) (rest : List Gathered) (desk : ℕ) → group.desk ≢ desk → gathering.commands_of (group ∷ rest) desk ≡ gathering.commands_of rest desk
 skipped group rest desk other = rw (is_other group.desk desk other) refl
 
-counted : (group : Gathered) (rest : List Gathered) (desk : ℕ) → group.desk ≡ desk → gathering.commands_of (group ∷ rest) desk ≡ group.commands ++ gathering.commands_of rest desk
+pub counted : (group : Gathered) (rest : List Gathered) (desk : ℕ) → group.desk ≡ desk → gathering.commands_of (group ∷ rest) desk ≡ group.commands ++ gathering.commands_of rest desk
 counted group rest desk same = rw (is_same group.desk desk same) refl
 
-past_end : {X : Type 0} (xs : List X) (k : ℕ) (d : X) → length xs ≤ k → get_or xs k d ≡ d
+pub past_end : {X : Type 0} (xs : List X) (k : ℕ) (d : X) → length xs ≤ k → get_or xs k d ≡ d
 past_end [] k d far = refl
 past_end (x ∷ xs) zero d far = absurd (omega (arith, far))
 past_end (x ∷ xs) (suc k) d far = past_end xs k d (omega (arith, far))
@@ -48,7 +47,7 @@ within [] k x there = absurd (none-some x there)
 within (c ∷ xs) zero x there = omega arith
 within (c ∷ xs) (suc k) x there = let rest = within xs k x there in omega (arith, rest)
 
-there_is : {X : Type 0} (xs : List X) (k : ℕ) → k < length xs → (x : X) × (slice_get xs k ≡ Some x)
+pub there_is : {X : Type 0} (xs : List X) (k : ℕ) → k < length xs → (x : X) × (slice_get xs k ≡ Some x)
 there_is [] k inside = absurd (omega (arith, inside))
 there_is (x ∷ xs) zero inside = (x, refl)
 there_is (x ∷ xs) (suc k) inside = there_is xs k (omega (arith, inside))

@@ -1,6 +1,10 @@
 mod More
 mod Places
+mod Lengths
+mod PressAt
 mod Commanded
 mod Reopened
 mod Gathered
+mod Firsts
+mod PressOpening
 mod Published

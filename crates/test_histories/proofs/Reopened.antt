@@ -1,27 +1,24 @@
 -- Everything stops, and the store is opened again.
 use Rattle.std.proofs.Common.{◌≡◌, ℕ, suc, ◌+◌, refl, sym, subst, ◌∙◌, ap, arith, inl, inr, ⊎_elim, false, true, List, [], ◌∷◌, ◌++◌, length, map, replicate, Some, None, append-nil}
-use Rattle.std.specs.Prelude.{Bool, Option, IfSome, All, Vec, if◌then◌else◌, ◌<◌, slice_index_or}
+use Rattle.std.specs.Prelude.{Bool, Option, IfSome, Vec, if◌then◌else◌, ◌<◌, ◌≤◌, slice_index_or}
 use Rattle.std.specs.List.{remove}
 use Rattle.std.specs.declared.alloc.Global.{Global}
 use Rattle.std.specs.Option.{option_map}
 use Rattle.std.proofs.lemmas.Option.{none-some, same_Some}
-use Rattle.std.proofs.lemmas.List.{map-append}
-use Rattle.std.proofs.lemmas.List.Elements.{All-nil}
+use Rattle.std.proofs.lemmas.List.{length-append, map-append}
 use Rattle.disk_api.specs.declared.memory.MemoryDisk.{MemoryDisk}
 use Rattle.authority_book.specs.declared.commands.Command.{Command}
 use Rattle.cmd_codec.specs.Spelling.{spelling}
 use Rattle.gate_journal.specs.Format.{recovered}
-use Rattle.gate_journal.specs.View.{RecoversTo as Recovers}
+use Rattle.gate_journal.specs.View.{RecoversTo as Recovers, RecoversToInDoubt}
 use Rattle.desk_core.specs.View.{View, journal_limit}
 use Rattle.desk_core.specs.Commands.{Records, HasCommands}
 use Rattle.desk_core.specs.Images.{RecoversTo}
 use Rattle.key_ids.specs.Uris.{Bases}
-use Rattle.key_roll.specs.declared.rows.KeyRow.{KeyRow}
 use Rattle.editions.specs.Edition.{Edition}
-use Rattle.editions.specs.PublishedState.{PublishedStateValue, IsFirst, desks as most_desks}
-use Rattle.editions.specs.Step.{Premises, BeginsWith, AreMore}
-use Rattle.press_core.specs.Press.{PressValue}
+use Rattle.editions.specs.Step.{Premises, BeginsWith, AreMore, AreSteps, IsMore}
 use Rattle.press_core.specs.Stands.{StandsFor}
+use Rattle.press_core.specs.Stored.{StoredValue, store_of as owner_of}
 use Rattle.histories.specs.Devices.{Device, Signature, Store, opened, stopped_from, lists_of}
 use Rattle.histories.specs.Events.{Happening, after_one, signing}
 use Rattle.histories.specs.Events.Event.{Stop, Reopen}
@@ -31,9 +28,11 @@ use Rattle.histories.specs.Worked.{happens}
 use Rattle.test_histories.specs.declared.done.Done.{Done}
 use Rattle.test_histories.specs.declared.done.Done.TheVariants as told
 use Rattle.test_histories.specs.Told.{lists_of as lists_told, IsTold, IsReopening}
-use Rattle.test_histories.specs.Standing.{IsDesk, AreDesks, AreNew, IsOpenedAgain, AreOpenedAgain, store_of, IsAt}
+use Rattle.test_histories.specs.Opened.{IsPressOpened}
+use Rattle.test_histories.specs.Standing.{IsDesk, AreDesks, AreNew, IsOpenedAgain, AreOpenedAgain, MayStandFor, IsPress, store_of, IsAt}
 use Rattle.test_histories.proofs.More.{MoreStands, left_then, legal_then, told_then, same_begins, same_are_more, still_vouched}
-use Rattle.test_histories.proofs.Places.{desks_long, lists_opened, opened_long, lists_long, more_long, new_stand}
+use Rattle.test_histories.proofs.PressAt.{OneStore, FindsInDoubt, finds_doubt, found_by, found_steps, may_stand_more, press_opened}
+use Rattle.test_histories.proofs.Places.{lists_opened, opened_long, lists_long, more_long, new_stand}
 
 abbrev pub Determined : Type 0
 Determined = (number : ℕ) (records : List (List ℕ)) (one other : List Command)
@@ -62,6 +61,14 @@ again_more number (o ∷ olds) (n ∷ news) [] at old new list all is place = ab
 again_more number (o ∷ olds) (n ∷ news) (l ∷ lists) at old new list all is place =
     (all.0, again_more (suc number) olds news lists at old new list all.1 is (omega (arith, place)))
 
+-- All were opened again once as many were as there are.
+pub none_left : (olds before closing : List (View MemoryDisk)) (number count : ℕ) → olds ≡ before ++ closing → length before ≡ number → length olds ≡ count
+    → count ≤ number → before ≡ olds
+none_left olds before [] number count is so_many all out = sym (is ∙ append-nil before)
+none_left olds before (first ∷ closing) number count is so_many all out =
+    let sum = ap length is ∙ length-append before (first ∷ closing) in
+    absurd (omega (arith, sum, so_many, all, out))
+
 -- ---- a desk
 
 doubt_of : (doubt : Option Command) (payload : List ℕ) → option_map spelling doubt ≡ Some payload
@@ -69,7 +76,7 @@ doubt_of : (doubt : Option Command) (payload : List ℕ) → option_map spelling
 doubt_of None payload is = absurd (none-some payload is)
 doubt_of (Some command) payload is = (command, refl, same_Some (spelling command) payload is)
 
-kept_doubt : (shut : Bool) (doubt : Option Command) → (shut ≡ false → doubt ≡ None) → (if shut then doubt else None) ≡ doubt
+kept_doubt : {X : Type 0} (shut : Bool) (doubt : Option X) → (shut ≡ false → doubt ≡ None) → (if shut then doubt else None) ≡ doubt
 kept_doubt true doubt settled = refl
 kept_doubt false doubt settled = sym (settled refl)
 
@@ -107,17 +114,26 @@ module _ (law : Determined) (number : ℕ) (old new : View MemoryDisk) (device :
   found_behind : IsFound device.list (if device.shut then device.doubt else None) list
   found_behind = subst (λ (o : Option Command). IsFound device.list o list) (sym (kept_doubt device.shut device.doubt is.settled)) found_commands
 
-  stands_again : IsDesk number new (opened list)
-  stands_again = record {
-    number_is = again.number_is;
-    commands = again.commands;
-    opens = λ none. refl;
-    settled = λ is_open. refl;
-    doubted = again.settled;
-    next = tt;
-  }
+opened_desk : (number : ℕ) (old new : View MemoryDisk) (list : List Command) → IsOpenedAgain number old new list → IsDesk number new (opened list)
+opened_desk number old new list again = record {
+  number_is = again.number_is;
+  commands = again.commands;
+  opens = λ none. refl;
+  settled = λ is_open. refl;
+  doubted = again.settled;
+  next = tt;
+}
 
 -- ---- all of them
+
+pub stand_again : (number : ℕ) (olds news : List (View MemoryDisk)) (lists : List (List Command)) → AreOpenedAgain number olds news lists
+    → AreDesks number news (map opened lists)
+stand_again number [] [] [] again = tt
+stand_again number [] [] (l ∷ lists) again = absurd again
+stand_again number [] (n ∷ news) lists again = absurd again
+stand_again number (o ∷ olds) [] lists again = absurd again
+stand_again number (o ∷ olds) (n ∷ news) [] again = absurd again
+stand_again number (o ∷ olds) (n ∷ news) (l ∷ lists) again = (opened_desk number o n l again.0, stand_again (suc number) olds news lists again.1)
 
 module _ (law : Determined) where
   pub are_found : (number desk : ℕ) (olds news : List (View MemoryDisk)) (devices : List (Device Command)) (lists : List (List Command))
@@ -131,18 +147,6 @@ module _ (law : Determined) where
   are_found number desk (o ∷ olds) (n ∷ news) (d ∷ devices) [] all again = absurd again
   are_found number desk (o ∷ olds) (n ∷ news) (d ∷ devices) (l ∷ lists) all again =
       (found_behind law number o n d l all.0 again.0, are_found (suc number) (desk + 1) olds news devices lists all.1 again.1)
-
-  pub stand_again : (number : ℕ) (olds news : List (View MemoryDisk)) (devices : List (Device Command)) (lists : List (List Command))
-      → AreDesks number olds devices → AreOpenedAgain number olds news lists → AreDesks number news (map opened lists)
-  stand_again number [] [] [] [] all again = tt
-  stand_again number [] [] [] (l ∷ lists) all again = absurd again
-  stand_again number [] (n ∷ news) [] lists all again = absurd again
-  stand_again number [] news (d ∷ devices) lists all again = absurd all
-  stand_again number (o ∷ olds) news [] lists all again = absurd all
-  stand_again number (o ∷ olds) [] (d ∷ devices) lists all again = absurd again
-  stand_again number (o ∷ olds) (n ∷ news) (d ∷ devices) [] all again = absurd again
-  stand_again number (o ∷ olds) (n ∷ news) (d ∷ devices) (l ∷ lists) all again =
-      (stands_again law number o n d l all.0 again.0, stand_again (suc number) olds news devices lists all.1 again.1)
 
   pub more_again : (number : ℕ) (olds news : List (View MemoryDisk)) (devices : List (Device Command)) (lists : List (List Command))
       → AreDesks number olds devices → AreOpenedAgain number olds news lists → AreMore (lists_of devices) lists
@@ -158,10 +162,10 @@ module _ (law : Determined) where
 
 -- ---- the store
 
-module _ (law : Determined) (more_stands : MoreStands) (olds news : List (View MemoryDisk)) (press : PressValue) (done : List Done)
-    (at : IsAt olds press done) (lists : List (List Command)) (again : AreOpenedAgain 0 olds news lists) where
+module _ (law : Determined) (more_stands : MoreStands) (one_store : OneStore) (olds news : List (View MemoryDisk)) (press : StoredValue MemoryDisk)
+    (done : List Done) (at : IsAt olds press done) (lists : List (List Command)) (again : AreOpenedAgain 0 olds news lists) where
   abbrev before : Store
-  before = store_of at.devices at.editions at.vouched
+  before = store_of at.devices at.device at.vouched
 
   abbrev devices : List (Device Command)
   devices = map opened lists
@@ -169,67 +173,108 @@ module _ (law : Determined) (more_stands : MoreStands) (olds news : List (View M
   grown : AreMore (lists_of at.devices) lists
   grown = more_again law 0 olds news at.devices lists at.stand again
 
+  pub are_desks : AreDesks 0 news devices
+  are_desks = stand_again 0 olds news lists again
+
   -- with this edition in doubt, or none
-  module _ (signed : List Signature) (edition : Option Edition) (may : IfSome edition (MayBePublished press.site (signing before signed)))
-      (editions : List Edition) (found : IsFound at.editions edition editions) where
+  module _ (signed : List Signature) (edition : Option Edition) (may : IfSome edition (MayBePublished press.press.site (signing before signed))) where
     abbrev pub stop : Happening
     stop = record { signed = signed; event = Stop [] edition }
 
     abbrev stopped_store : Store
     stopped_store = after_one before stop
 
-    abbrev reopen : Happening
-    reopen = happens (Reopen lists editions)
-
     abbrev vouched : List Signature
     vouched = at.vouched ++ signed
+
+    abbrev ground : Premises
+    ground = ground_of press.press.site (signing before signed)
+
+    abbrev doubt : Option Edition
+    doubt = if at.device.shut then at.device.doubt else edition
 
     stop_left : store_after (at.history ++ stop ∷ []) ≡ stopped_store
     stop_left = left_then at.history before at.left stop
 
-    stop_legal : IsLegal press.site (at.history ++ stop ∷ [])
-    stop_legal = legal_then press.site at.history before at.left at.legal stop
+    stop_legal : IsLegal press.press.site (at.history ++ stop ∷ [])
+    stop_legal = legal_then press.press.site at.history before at.left at.legal stop
         (record { running = refl; desks = λ desk. tt; press = may })
 
-    pub opened_with : (one : Done) → IsTold one (stop ∷ []) → (new : PressValue) → new.site ≡ press.site
-        → StandsFor (ground_of press.site (signing before signed)) editions new.at
-        → All (λ row. row.signer < length new.ring) new.at.rows → length new.ring ≡ 2
-        → (serial : ℕ) (told_lists : Vec (Vec Command Global) Global) → lists_told told_lists ≡ lists → serial ≡ new.at.serial
-        → IsAt news new ((done ++ one ∷ []) ++ told.Found told_lists serial ∷ [])
-    opened_with one is_told new same_site stands live signers serial told_lists same is_serial =
-        let reopened : IsReopening lists serial (reopen ∷ []) =
-        record { editions = editions; is = refl; last = sym stands.left.serial ∙ sym is_serial } in
-        let legal = legal_then press.site (at.history ++ stop ∷ []) stopped_store stop_left stop_legal reopen
-        (record { desks = are_found law 0 0 olds news at.devices lists at.stand again; press = found }) in
-        record {
-          history = (at.history ++ stop ∷ []) ++ reopen ∷ [];
-          told = told_then (done ++ one ∷ []) (at.history ++ stop ∷ []) (told.Found told_lists serial) (reopen ∷ [])
-              (told_then done at.history one (stop ∷ []) at.told is_told)
-              (subst (λ (l : List (List Command)). IsReopening l serial (reopen ∷ [])) (sym same) reopened);
-          legal = subst (λ (site : Bases). IsLegal site ((at.history ++ stop ∷ []) ++ reopen ∷ [])) (sym same_site) legal;
-          devices = devices;
-          editions = editions;
-          vouched = vouched;
-          left = left_then (at.history ++ stop ∷ []) stopped_store stop_left reopen
-              ∙ ap (λ (v : List Signature). store_of devices editions v) (append-nil vouched);
-          stand = stand_again law 0 olds news at.devices lists at.stand again;
-          all = opened_long lists ∙ (more_long (lists_of at.devices) lists grown ∙ (lists_long at.devices ∙ at.all));
-          published = more_stands (ground_of press.site (signing before signed)) (ground_of new.site (store_of devices editions vouched)) editions new.at
-              (record {
-                lists = subst (AreMore (lists_of at.devices)) (sym (lists_opened lists)) grown;
-                site = same_site;
-                vouched = λ key digest signature is. is;
-              }) stands;
-          live = live;
-          signers = signers;
-        }
+    module _ (one : Done) (is_told : IsTold one (stop ∷ [])) (file : List ℕ) (editions : List Edition) (new : StoredValue MemoryDisk)
+        (finds : FindsInDoubt (owner_of press) at.device.list doubt file) (is_opened : IsPressOpened news file editions new)
+        (same_site : new.press.site ≡ press.press.site)
+        (next : IfSome doubt (λ e. MayStandFor ground (at.device.list ++ e ∷ []))) where
+      abbrev reopen : Happening
+      reopen = happens (Reopen lists editions)
 
-  pub found_again : (serial : ℕ) (told_lists : Vec (Vec Command Global) Global) → lists_told told_lists ≡ lists → serial ≡ press.at.serial
-      → IsAt news press ((done ++ told.Stopped ∷ []) ++ told.Found told_lists serial ∷ [])
-  found_again serial told_lists same is_serial =
-      let still = more_stands (ground_of press.site before) (ground_of press.site (signing before [])) at.editions press.at
-      (record { lists = same_are_more (lists_of at.devices); site = refl; vouched = still_vouched at.vouched [] }) at.published in
-      opened_with [] None tt at.editions (inl refl) told.Stopped refl press refl still at.live at.signers serial told_lists same is_serial
+      found : IsFound at.device.list doubt editions
+      found = found_by one_store (owner_of press) at.device.list editions doubt news file new finds is_opened
+
+      abbrev premises : Premises
+      premises = ground_of new.press.site (store_of devices (opened editions) vouched)
+
+      is_more : IsMore ground premises
+      is_more = record {
+        lists = subst (AreMore (lists_of at.devices)) (sym (lists_opened lists)) grown;
+        site = same_site;
+        vouched = λ key digest signature is. is;
+      }
+
+      was_more : IsMore (ground_of press.press.site before) ground
+      was_more = record {
+        lists = same_are_more (lists_of at.devices);
+        site = refl;
+        vouched = still_vouched at.vouched signed;
+      }
+
+      steps : AreSteps premises editions
+      steps = found_steps premises at.device.list editions doubt found
+          (more_stands ground premises at.device.list press.press.at is_more
+          (more_stands (ground_of press.press.site before) ground at.device.list press.press.at was_more at.is_press.stands)).steps
+          (may_stand_more more_stands ground premises at.device.list doubt is_more next)
+
+      stands : StandsFor premises editions new.press.at
+      stands = is_opened.stands premises devices are_desks refl steps
+
+      pub opened_with : (serial : ℕ) (told_lists : Vec (Vec Command Global) Global) → lists_told told_lists ≡ lists → serial ≡ new.press.at.serial
+          → IsAt news new ((done ++ one ∷ []) ++ told.Found told_lists serial ∷ [])
+      opened_with serial told_lists same is_serial =
+          let reopened : IsReopening lists serial (reopen ∷ []) =
+          record { editions = editions; is = refl; last = sym stands.left.serial ∙ sym is_serial } in
+          let legal = legal_then press.press.site (at.history ++ stop ∷ []) stopped_store stop_left stop_legal reopen
+          (record { desks = are_found law 0 0 olds news at.devices lists at.stand again; press = found }) in
+          record {
+            history = (at.history ++ stop ∷ []) ++ reopen ∷ [];
+            told = told_then (done ++ one ∷ []) (at.history ++ stop ∷ []) (told.Found told_lists serial) (reopen ∷ [])
+                (told_then done at.history one (stop ∷ []) at.told is_told)
+                (subst (λ (l : List (List Command)). IsReopening l serial (reopen ∷ [])) (sym same) reopened);
+            legal = subst (λ (site : Bases). IsLegal site ((at.history ++ stop ∷ []) ++ reopen ∷ [])) (sym same_site) legal;
+            devices = devices;
+            device = opened editions;
+            vouched = vouched;
+            left = left_then (at.history ++ stop ∷ []) stopped_store stop_left reopen
+                ∙ ap (λ (v : List Signature). store_of devices (opened editions) v) (append-nil vouched);
+            stand = are_desks;
+            all = opened_long lists ∙ (more_long (lists_of at.devices) lists grown ∙ (lists_long at.devices ∙ at.all));
+            is_press = press_opened premises news file editions new is_opened stands;
+          }
+
+  -- Nothing was being written.
+  pub found_again : (file : List ℕ) (editions : List Edition) (new : StoredValue MemoryDisk)
+      → RecoversToInDoubt press.journal.limit press.journal.records press.journal.doubt file → IsPressOpened news file editions new
+      → new.press.site ≡ press.press.site → (serial : ℕ) (told_lists : Vec (Vec Command Global) Global) → lists_told told_lists ≡ lists
+      → serial ≡ new.press.at.serial → IsAt news new ((done ++ told.Stopped ∷ []) ++ told.Found told_lists serial ∷ [])
+  found_again file editions new recovers is_opened same_site serial told_lists same is_serial =
+      let list = at.device.list in
+      let kept : (if at.device.shut then at.device.doubt else None) ≡ at.device.doubt = kept_doubt at.device.shut at.device.doubt at.is_press.settled in
+      let more : IsMore (ground_of press.press.site before) (ground_of press.press.site (signing before [])) =
+      record { lists = same_are_more (lists_of at.devices); site = refl; vouched = still_vouched at.vouched [] } in
+      let next = may_stand_more more_stands (ground_of press.press.site before) (ground_of press.press.site (signing before [])) list at.device.doubt more at.is_press.next in
+      let finds = finds_doubt press at.device (ground_of press.press.site before) file at.is_press recovers in
+      opened_with [] None tt told.Stopped refl file editions new
+      (subst (λ (o : Option Edition). FindsInDoubt (owner_of press) list o file) (sym kept) finds) is_opened same_site
+      (subst (λ (o : Option Edition). IfSome o (λ e. MayStandFor (ground_of press.press.site (signing before [])) (list ++ e ∷ []))) (sym kept) next)
+      serial told_lists same is_serial
 
 -- ---- a new store
 
@@ -254,23 +299,31 @@ new_desk number desk bytes none found commands has is_number settled =
       next = tt;
     }
 
-abbrev pub FirstStands : Type 0
-FirstStands = (premises : Premises) (state : PublishedStateValue) → IsFirst state → length premises.lists ≡ most_desks → StandsFor premises [] state
+no_steps : (ground : Premises) → AreSteps ground []
+no_steps _ place edition there = absurd (none-some edition there)
 
-pub new_at : (law : FirstStands) (desks : List (View MemoryDisk)) (press : PressValue) → AreNew 0 desks → length desks ≡ 64
-    → IsFirst press.at → length press.ring ≡ 2 → IsAt desks press []
-new_at law desks press new all first signers = record {
-  history = [];
-  told = refl;
-  legal = tt;
-  devices = replicate 64 (opened []);
-  editions = [];
-  vouched = [];
-  left = refl;
-  stand = subst (λ (n : ℕ). AreDesks 0 desks (replicate n (opened []))) all (new_stand 0 desks new);
-  all = refl;
-  published = law (ground_of press.site (store_of (replicate 64 (opened [])) [] [])) press.at first refl;
-  live = subst (λ (rows : List KeyRow). All (λ row. row.signer < length press.ring) rows) (sym first.rows)
-      (All-nil (λ (row : KeyRow). row.signer < length press.ring));
-  signers = signers;
-}
+pub new_at : (desks : List (View MemoryDisk)) (press : StoredValue MemoryDisk) (editions : List Edition) → AreNew 0 desks → length desks ≡ 64
+    → IsPressOpened desks [] editions press → IsAt desks press []
+new_at desks press editions new all is_opened =
+    let devices : List (Device Command) = replicate 64 (opened []) in
+    let stand : AreDesks 0 desks devices = subst (λ (n : ℕ). AreDesks 0 desks (replicate n (opened []))) all (new_stand 0 desks new) in
+    let none : editions ≡ [] = is_opened.found in
+    let premises : Premises = ground_of press.press.site (store_of devices (opened []) []) in
+    let steps : AreSteps premises editions = subst (λ (es : List Edition). AreSteps premises es) (sym none) (no_steps premises) in
+    record {
+      history = [];
+      told = refl;
+      legal = tt;
+      devices = devices;
+      device = opened [];
+      vouched = [];
+      left = refl;
+      stand = stand;
+      all = refl;
+      is_press = subst (λ (es : List Edition). IsPress press (opened es) premises) none
+          (press_opened premises desks [] editions press is_opened (is_opened.stands premises devices stand refl steps));
+    }
+
+-- The desks have the journals of some history.
+pub new_devices : (desks : List (View MemoryDisk)) → AreNew 0 desks → (devices : List (Device Command)) × AreDesks 0 desks devices
+new_devices desks new = (replicate (length desks) (opened []), new_stand 0 desks new)

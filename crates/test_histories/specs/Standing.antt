@@ -1,6 +1,6 @@
 -- The desks and the press as a history leaves them.
 use Rattle.std.specs.Prelude.{◌≡◌, ◌<◌, ⊤, ℕ, suc, false, List, [], ◌∷◌, ◌++◌, map, length, All}
-use Rattle.std.specs.Prelude.{Option, None, IfSome}
+use Rattle.std.specs.Prelude.{Option, None, Some, IfSome}
 use Rattle.std.specs.Option.{option_map}
 use Rattle.disk_api.specs.declared.memory.MemoryDisk.{MemoryDisk}
 use Rattle.authority_book.specs.declared.commands.Command.{Command}
@@ -8,8 +8,12 @@ use Rattle.cmd_codec.specs.Spelling.{spelling}
 use Rattle.desk_core.specs.View.{View}
 use Rattle.desk_core.specs.Commands.{Records, HasCommands}
 use Rattle.editions.specs.Edition.{Edition}
-use Rattle.press_core.specs.Press.{PressValue}
+use Rattle.editions.specs.PublishedState.{PublishedStateValue}
+use Rattle.editions.specs.Step.{Premises}
+use Rattle.press_records.specs.Store.{Store as Owner}
+use Rattle.press_core.specs.JournalRecords.{AreRecords, press_limit}
 use Rattle.press_core.specs.Stands.{StandsFor}
+use Rattle.press_core.specs.Stored.{StoredValue, IsStoreOf, store_of as owner_of}
 use Rattle.histories.specs.Devices.{Device, Signature, Store, opened}
 use Rattle.histories.specs.Events.{History}
 use Rattle.histories.specs.Legal.{IsLegal, IsFound, ground_of}
@@ -60,30 +64,58 @@ AreOpenedAgain number (old ∷ olds) (new ∷ news) [] = ⊥
 AreOpenedAgain number (old ∷ olds) (new ∷ news) (list ∷ lists) =
     IsOpenedAgain number old new list × AreOpenedAgain (suc number) olds news lists
 
+-- ---- the press
+
+-- The record in doubt is that of the edition in doubt, behind those of the others.
+abbrev pub IsInDoubt : Owner → List Edition → List (List ℕ) → Option Edition
+    → Option (List ℕ) → Type 0
+IsInDoubt owner editions records None doubt = doubt ≡ None
+IsInDoubt owner editions records (Some edition) doubt =
+    (entry : List ℕ) × (doubt ≡ Some entry)
+    × AreRecords owner (editions ++ edition ∷ []) (records ++ entry ∷ [])
+
+-- A press may stand for these editions.
+abbrev pub MayStandFor : Premises → List Edition → Type 0
+MayStandFor premises editions =
+    (state : PublishedStateValue) × StandsFor premises editions state
+
+-- The press has the journal of a history, and stands for its editions. The edition in doubt would be
+-- its next one.
+pub record IsPress (stored : StoredValue MemoryDisk) (device : Device Edition)
+    (premises : Premises) : Type 0 where
+  pub holds : IsStoreOf device.list stored
+  pub limit : stored.journal.limit ≡ press_limit
+  pub opens : stored.journal.shut ≡ None → device.shut ≡ false
+  pub settled : device.shut ≡ false → device.doubt ≡ None
+  pub doubted : IsInDoubt (owner_of stored) device.list holds.records device.doubt
+      stored.journal.doubt
+  pub stands : StandsFor premises device.list stored.press.at
+  pub next : IfSome device.doubt (λ edition. MayStandFor premises (device.list ++ edition ∷ []))
+  pub live : All (λ row. row.signer < length stored.press.ring) stored.press.at.rows
+  pub signers : length stored.press.ring ≡ 2
+
 -- ---- the store
 
--- A store where the press's journal is open, and nothing is stopped.
-abbrev pub store_of : List (Device Command) → List Edition → List Signature → Store
-store_of devices editions vouched = record {
+-- A store where nothing is stopped.
+abbrev pub store_of : List (Device Command) → Device Edition → List Signature → Store
+store_of devices press vouched = record {
   desks = devices;
-  press = opened editions;
+  press = press;
   vouched = vouched;
   stopped = false;
 }
 
 -- There is a legal history of which this is told, and the desks and the press are as it leaves them.
-pub record IsAt (desks : List (View MemoryDisk)) (press : PressValue) (done : List Done)
-    : Type 0 where
+pub record IsAt (desks : List (View MemoryDisk)) (press : StoredValue MemoryDisk)
+    (done : List Done) : Type 0 where
   pub history : History
   pub told : AreTold done history
-  pub legal : IsLegal press.site history
+  pub legal : IsLegal press.press.site history
   pub devices : List (Device Command)
-  pub editions : List Edition
+  pub device : Device Edition
   pub vouched : List Signature
-  pub left : store_after history ≡ store_of devices editions vouched
+  pub left : store_after history ≡ store_of devices device vouched
   pub stand : AreDesks 0 desks devices
   pub all : length devices ≡ 64
-  pub published : StandsFor (ground_of press.site (store_of devices editions vouched)) editions
-      press.at
-  pub live : All (λ row. row.signer < length press.ring) press.at.rows
-  pub signers : length press.ring ≡ 2
+  pub is_press : IsPress press device
+      (ground_of press.press.site (store_of devices device vouched))

@@ -1,12 +1,12 @@
 -- What is told of a history.
-use Rattle.std.specs.Prelude.{◌≡◌, ℕ, List, [], ◌∷◌, ◌++◌, map, None, Some, Vec}
+use Rattle.std.specs.Prelude.{◌≡◌, ℕ, List, [], ◌∷◌, ◌++◌, map, None, Vec}
 use Rattle.std.specs.declared.alloc.Global.{Global}
 use Rattle.authority_book.specs.declared.commands.Command.{Command}
 use Rattle.editions.specs.Edition.{Edition}
 use Rattle.editions.specs.declared.published_state.PublishedNumbers.{PublishedNumbers}
 use Rattle.histories.specs.Devices.{Signature}
-use Rattle.histories.specs.Events.{Event, Happening, History}
-use Rattle.histories.specs.Events.Event.{Commit, Publish, DeskFault, Stop, Reopen}
+use Rattle.histories.specs.Events.{History}
+use Rattle.histories.specs.Events.Event.{Commit, Publish, DeskFault, PressFault, Stop, Reopen}
 use Rattle.histories.specs.Found.{latest}
 use Rattle.histories.specs.Worked.{happens}
 use Rattle.test_histories.specs.declared.done.Done.{Done}
@@ -28,11 +28,11 @@ pub record IsPublication (published : PublishedNumbers) (happened : History) : T
   pub is : happened ≡ record { signed = signed; event = Publish edition } ∷ []
   pub numbered : IsNumbered published edition
 
--- Everything stops while the edition is written, for which these signatures were made.
-pub record IsStopPublishing (happened : History) : Type 0 where
+-- A call of the press's disk fails while the edition is written, for which these signatures were made.
+pub record IsFailedPublishing (happened : History) : Type 0 where
   pub signed : List Signature
   pub edition : Edition
-  pub is : happened ≡ record { signed = signed; event = Stop [] (Some edition) } ∷ []
+  pub is : happened ≡ record { signed = signed; event = PressFault edition } ∷ []
 
 -- The store is opened again, and these commands are found, and editions of which that is the last
 -- serial.
@@ -48,9 +48,9 @@ abbrev pub IsTold : Done → History → Type 0
 IsTold (told.Accepted desk command) happened = happened ≡ happens (Commit desk command) ∷ []
 IsTold (told.Failed desk command) happened = happened ≡ happens (DeskFault desk command) ∷ []
 IsTold (told.Published published) happened = IsPublication published happened
+IsTold told.FailedPublishing happened = IsFailedPublishing happened
 IsTold (told.Refused code) happened = happened ≡ []
 IsTold told.Stopped happened = happened ≡ happens (Stop [] None) ∷ []
-IsTold told.StoppedPublishing happened = IsStopPublishing happened
 IsTold (told.Found lists serial) happened = IsReopening (lists_of lists) serial happened
 
 -- A history, where all this is told of it, one after another.

@@ -1,12 +1,13 @@
 //! The desks of a store, over disks in memory.
 
-ghost use Rattle.std.specs.Prelude.{◌≡◌, List, None, IfOk, length};
+ghost use Rattle.std.specs.Prelude.{◌≡◌, List, None, IfOk, length, map};
 ghost use Rattle.authority_book.specs.declared.commands.Command.{Command};
 ghost use Rattle.disk_api.specs.Memory.{memory_bytes};
 ghost use Rattle.gate_journal.specs.Format.{recovered};
 ghost use Rattle.desk_core.specs.Commands.{HasCommands};
+ghost use Rattle.histories.specs.Devices.{opened};
 ghost use Rattle.test_histories.specs.Told.{lists_of};
-ghost use Rattle.test_histories.specs.Standing.{AreNew, AreOpenedAgain};
+ghost use Rattle.test_histories.specs.Standing.{AreDesks, AreNew, AreOpenedAgain};
 
 use crate::done::Limit;
 use anyhow::{Result, bail};
@@ -47,7 +48,9 @@ pub fn open_again(
     limit: &Option<Limit>,
 ) -> Result<OpenedAgain>
     requires { length desks.items ≡ 64 }
-    ensures { IfOk result (λ again. AreOpenedAgain 0 desks.items again.desks.items (lists_of again.lists)) }
+    ensures found { IfOk result (λ again. AreOpenedAgain 0 desks.items again.desks.items (lists_of again.lists)) }
+    ensures all { IfOk result (λ again. length again.desks.items ≡ 64) }
+    ensures stand { IfOk result (λ again. AreDesks 0 again.desks.items (map opened (lists_of again.lists))) }
 {
     let mut closing = desks;
     let mut opened = Vec::new(alloc);
@@ -67,15 +70,15 @@ pub fn open_again(
     })
 }
 
-// How many calls the disk of the desk of that number takes, if they are limited.
-fn calls_for(number: u32, limit: &Option<Limit>) -> Option<u64> {
+/// How many calls the disk of that number takes, if they are limited.
+pub fn calls_for(number: u32, limit: &Option<Limit>) -> Option<u64> {
     match limit {
-        Some(limit) if limit.desk == u64::from(number) => Some(limit.calls),
+        Some(limit) if limit.device == u64::from(number) => Some(limit.calls),
         _ => None,
     }
 }
 
-// The desk over these bytes, on a disk that takes so many calls, or any number of them.
+// The desk over a disk with these bytes.
 fn open(alloc: Global, number: u32, bytes: Vec<u8>, calls: Option<u64>) -> Result<Desk<MemoryDisk>>
     ensures found { IfOk result (λ desk. desk.records ≡ recovered bytes.items) }
     ensures commands { IfOk result (λ desk. (commands : List Command) × HasCommands desk commands) }
@@ -88,7 +91,8 @@ fn open(alloc: Global, number: u32, bytes: Vec<u8>, calls: Option<u64>) -> Resul
     }
 }
 
-fn disk_over(alloc: Global, bytes: Vec<u8>, calls: Option<u64>) -> MemoryDisk
+/// A disk with these bytes, which takes so many calls, or any number of them.
+pub fn disk_over(alloc: Global, bytes: Vec<u8>, calls: Option<u64>) -> MemoryDisk
     ensures { memory_bytes result ≡ bytes.items }
 {
     let mut disk = MemoryDisk::new(alloc, bytes, Vec::new(alloc));

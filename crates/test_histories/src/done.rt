@@ -8,33 +8,18 @@ use names::Name;
 #[derive(Drop)]
 pub enum Step {
     /// The command is given to the authority of that name.
-    Command {
-        authority: Name,
-        command: Command,
-    },
+    Command { authority: Name, command: Command },
     /// What the desks have accepted is published, at that clock in seconds since 1970.
-    Publish {
-        clock: u64,
-    },
-    /// Everything stops, the image of that pick is left of each desk's disk, and the desks are opened again over these.
-    Stop {
-        pick: u64,
-        limit: Option<Limit>,
-    },
-    /// So while what the desks have accepted is published, at that clock: the edition is made, and the press is found with it
-    /// or without it.
-    StopPublishing {
-        pick: u64,
-        clock: u64,
-        is_found: bool,
-    },
+    Publish { clock: u64 },
+    /// Everything stops, the image of that pick is left of each disk, and the desks and the press are opened again over these.
+    Stop { pick: u64, limit: Option<Limit> },
 }
 
 /// A disk takes only so many calls.
 #[derive(Drop)]
 pub struct Limit {
-    /// The number of its desk.
-    pub desk: u64,
+    /// The number of its desk, or the number of desks: the press comes behind them.
+    pub device: u64,
     pub calls: u64,
 }
 
@@ -55,14 +40,14 @@ pub enum Done {
     Published {
         published: PublishedNumbers,
     },
+    /// A call of the press's disk failed while an edition was written.
+    FailedPublishing,
     /// No edition was published, by the refusal of that code.
     Refused {
         code: u32,
     },
     /// Everything stopped.
     Stopped,
-    /// Everything stopped while an edition was written.
-    StoppedPublishing,
     /// The store was opened again. These commands of each desk were found, and that was the last serial.
     Found {
         lists: Vec<Vec<Command>>,

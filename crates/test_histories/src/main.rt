@@ -6,6 +6,7 @@
 
 mod desks;
 mod done;
+mod press;
 mod script;
 mod store;
 

@@ -20,7 +20,7 @@ pub fn answer(alloc: Global, steps: &str) -> Result<String> {
         "rsync://rpki.example/repo/",
         "https://rpki.example/rrdp/",
     )?;
-    let done = play(alloc, site, read.as_slice())?;
+    let done = play(alloc, &site, read.as_slice())?;
     let mut text = String::new(alloc);
     for one in done.as_slice() {
         tell(&mut text, one)?;
@@ -28,8 +28,7 @@ pub fn answer(alloc: Global, steps: &str) -> Result<String> {
     Ok(text)
 }
 
-// A step is a line with a command, `publish CLOCK`, `stop PICK`, `stop PICK DESK CALLS`, `stop PICK publish CLOCK found` or
-// `stop PICK publish CLOCK lost`.
+// A step is a line with a command, `publish CLOCK`, `stop PICK` or `stop PICK DEVICE CALLS`.
 fn step_of(alloc: Global, step: &str) -> Result<Step> {
     if step.starts_with("{") {
         return command_of(alloc, step);
@@ -43,25 +42,15 @@ fn step_of(alloc: Global, step: &str) -> Result<Step> {
             pick: number_of(pick)?,
             limit: None,
         }),
-        ["stop", pick, desk, calls] => Ok(Step::Stop {
+        ["stop", pick, device, calls] => Ok(Step::Stop {
             pick: number_of(pick)?,
             limit: Some(Limit {
-                desk: number_of(desk)?,
+                device: number_of(device)?,
                 calls: number_of(calls)?,
             }),
         }),
-        ["stop", pick, "publish", clock, "found"] => stop_publishing(pick, clock, true),
-        ["stop", pick, "publish", clock, "lost"] => stop_publishing(pick, clock, false),
         _ => bail!("no such step: {step}"),
     }
-}
-
-fn stop_publishing(pick: &str, clock: &str, is_found: bool) -> Result<Step> {
-    Ok(Step::StopPublishing {
-        pick: number_of(pick)?,
-        clock: number_of(clock)?,
-        is_found,
-    })
 }
 
 fn command_of(alloc: Global, line: &str) -> Result<Step> {
@@ -84,9 +73,9 @@ fn tell(text: &mut String, one: &Done) -> Result<()> {
             "\tserial {} at {}: {} objects, {} origins",
             published.serial, published.moment, published.objects, published.origins
         )?,
+        Done::FailedPublishing => write!(text, "\tedition failed")?,
         Done::Refused { code } => write!(text, "\trefused {code}")?,
         Done::Stopped => write!(text, "\tstopped")?,
-        Done::StoppedPublishing => write!(text, "\tstopped with an edition in doubt")?,
         Done::Found { lists, serial } => {
             let commands = commands_in(lists.as_slice());
             write!(text, "\tfound {commands}, serial {serial}")?;

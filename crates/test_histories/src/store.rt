@@ -1,21 +1,22 @@
-//! A store: the desks of a tree over disks in memory, and its press. What is done to it is a history.
-//!
-//! A press has no journal yet. It stays in memory over a stop, as one whose journal is found as it was.
+//! A store: the desks of a tree and its press, over disks in memory. What is done to it is a history.
 
-ghost use Rattle.std.specs.Prelude.{◌≡◌, ◌<◌, ◌≤◌, ◌++◌, ◌∷◌, [], ℕ, List, Some, All, IfOk, OnOk, IsTrue, length, get_or, slice_get, if◌then◌else◌};
-ghost use Rattle.disk_api.specs.declared.memory.MemoryDisk.{MemoryDisk};
+ghost use Rattle.std.specs.Prelude.{◌≡◌, ◌<◌, ◌≤◌, ◌++◌, ◌∷◌, [], ℕ, List, None, Some, All, IfOk, OnOk, IsTrue, length, get_or, slice_get};
+ghost use Rattle.authority_book.specs.declared.commands.Command.{Command};
 ghost use Rattle.desk_core.specs.View.{View};
-ghost use Rattle.editions.specs.PublishedState.{IsFirst};
-ghost use Rattle.press_core.specs.Next.{IsNext};
-ghost use Rattle.press_core.specs.Files.{delta_of};
+ghost use Rattle.disk_api.specs.declared.memory.MemoryDisk.{MemoryDisk};
+ghost use Rattle.press_core.specs.Stored.{CanCommit};
 ghost use Rattle.histories.specs.Events.{History};
 ghost use Rattle.histories.specs.Legal.{IsLegal};
-ghost use Rattle.test_histories.specs.Told.{AreTold};
+ghost use Rattle.test_histories.specs.Committed.{IsCommitted};
 ghost use Rattle.test_histories.specs.Gathered.{AreSince};
-ghost use Rattle.test_histories.specs.Standing.{IsAt};
+ghost use Rattle.test_histories.specs.declared.done.Done.TheVariants.{Found, Stopped};
+ghost use Rattle.test_histories.specs.Told.{AreTold, lists_of};
+ghost use Rattle.test_histories.specs.Standing.{AreOpenedAgain, IsAt};
+ghost use Rattle.test_histories.specs.Reopening.{IsPressAgain};
 
 use crate::desks::{DESKS, OpenedAgain, new_desks, open_again};
 use crate::done::{Done, Limit, Step};
+use crate::press::{SIGNERS, new_press, press_again};
 use anyhow::{Result, bail};
 use authority_book::{Command, NameRow};
 use desk_core::{Desk, DeskFault, commands_are_determined};
@@ -25,75 +26,58 @@ use items::Items;
 use key_ids::Site;
 use names::Name;
 use press_core::{
-    Prepared, Press, PressFault, PressRefused, first_published_state_stands, more_commands_stand,
+    CommitFault, PrepareFault, StoredPrepared, StoredPress, edition_records_go_on,
+    more_commands_stand, records_tell_one_store,
 };
 use signer_api::Rehearsal;
-use signer_ring::Ring;
 use std::alloc::{AllocError, Global};
-use uuid::Uuid;
-
-/// How many signers there are.
-const SIGNERS: u32 = 2;
 
 /// The desk of the trust anchor, which has the names of the tree.
 const ANCHOR: usize = 0;
 
-/// The session of the press's files.
-const SESSION: u128 = 1;
+/// The code of the refusal of a press whose journal is shut.
+const SHUT: u32 = 21;
 
 /// The desks in the order of their numbers, and the press.
 #[derive(Drop)]
 pub struct Store {
     desks: Vec<Desk<MemoryDisk>>,
-    press: Press<Rehearsal>,
+    press: StoredPress<MemoryDisk, Rehearsal>,
 }
 
 /// Takes the steps one after another over a new store of that site, and tells what was done: a legal history.
-pub fn play(alloc: Global, site: Site, steps: &[Step]) -> Result<Vec<Done>>
-    ensures { IfOk result (λ done. (history : History) × IsLegal site history × AreTold done.items history) }
+pub fn play(alloc: Global, site: &Site, steps: &[Step]) -> Result<Vec<Done>>
+    ensures { IfOk result (λ done. (history : History) × IsLegal site.now history × AreTold done.items history) }
 {
     let mut store = new_store(alloc, site)?;
     let mut done = Vec::new(alloc);
     for step in steps {
-        store = take(alloc, store, &mut done, step)?;
+        store = take(alloc, site, store, &mut done, step)?;
     }
     Ok(done)
 }
 
-fn new_store(alloc: Global, site: Site) -> Result<Store>
+fn new_store(alloc: Global, site: &Site) -> Result<Store>
     ensures at { IfOk result (λ store. IsAt store.desks.items store.press []) }
-    ensures site { IfOk result (λ store. store.press.site ≡ site) }
+    ensures site { IfOk result (λ store. store.press.press.site ≡ site.now) }
 {
-    first_published_state_stands();
     let desks = new_desks(alloc)?;
-    let press = new_press(alloc, site)?;
+    let press = new_press(alloc, site, desks.as_slice())?;
     Ok(Store { desks, press })
 }
 
-// A press with signers for rehearsals, which has published nothing.
-fn new_press(alloc: Global, site: Site) -> Result<Press<Rehearsal>>
-    ensures first { IfOk result (λ press. IsFirst press.at) }
-    ensures site { IfOk result (λ press. press.site ≡ site) }
-    ensures signers { IfOk result (λ press. length press.ring ≡ 2) }
-{
-    let mut signers = Vec::new(alloc);
-    signers.push(Rehearsal::new([0; 32]))?;
-    signers.push(Rehearsal::new([1; 32]))?;
-    let ring = Ring::new(signers);
-    if ring.len() != SIGNERS {
-        bail!("not as many signers");
-    }
-    match Press::new(alloc, site, Uuid::from_u128(SESSION), ring) {
-        Ok(press) => Ok(press),
-        Err(PressRefused { .. }) => bail!("memory is wanting"),
-    }
-}
-
 // Takes a step.
-fn take(alloc: Global, store: Store, done: &mut Vec<Done>, step: &Step) -> Result<Store>
-    requires { IsAt store.desks.items store.press done.old.items }
+fn take(
+    alloc: Global,
+    site: &Site,
+    store: Store,
+    done: &mut Vec<Done>,
+    step: &Step,
+) -> Result<Store>
+    requires at { IsAt store.desks.items store.press done.old.items }
+    requires site { store.press.press.site ≡ site.now }
     ensures at { IfOk result (λ new. IsAt new.desks.items new.press done.new.items) }
-    ensures site { IfOk result (λ new. new.press.site ≡ store.press.site) }
+    ensures site { IfOk result (λ new. new.press.press.site ≡ site.now) }
 {
     match step {
         Step::Command { authority, command } => {
@@ -106,12 +90,7 @@ fn take(alloc: Global, store: Store, done: &mut Vec<Done>, step: &Step) -> Resul
             publish(alloc, &mut store, done, *clock)?;
             Ok(store)
         }
-        Step::Stop { pick, limit } => stop(alloc, store, done, *pick, limit),
-        Step::StopPublishing {
-            pick,
-            clock,
-            is_found,
-        } => stop_publishing(alloc, store, done, *pick, *clock, *is_found),
+        Step::Stop { pick, limit } => stop(alloc, site, store, done, *pick, limit),
     }
 }
 
@@ -125,7 +104,7 @@ fn give(
 ) -> Result<()>
     requires { IsAt store.old.desks.items store.old.press done.old.items }
     ensures at { OnOk result (IsAt store.new.desks.items store.new.press done.new.items) }
-    ensures site { OnOk result (store.new.press.site ≡ store.old.press.site) }
+    ensures site { OnOk result (store.new.press.press.site ≡ store.old.press.press.site) }
 {
     more_commands_stand();
     let place = place_of(store.desks[ANCHOR].config().names(), authority)?;
@@ -178,18 +157,19 @@ fn note(done: &mut Vec<Done>, one: Done) -> Result<(), AllocError>
 fn publish(alloc: Global, store: &mut Store, done: &mut Vec<Done>, clock: u64) -> Result<()>
     requires { IsAt store.old.desks.items store.old.press done.old.items }
     ensures at { OnOk result (IsAt store.new.desks.items store.new.press done.new.items) }
-    ensures site { OnOk result (store.new.press.site ≡ store.old.press.site) }
+    ensures site { OnOk result (store.new.press.press.site ≡ store.old.press.press.site) }
 {
     more_commands_stand();
+    edition_records_go_on();
     if !are_signed(store.desks[ANCHOR].config().names()) {
         bail!("a name without a signer");
     }
     let gathered = gather(alloc, store)?;
+    let _sizes = store.press.press();
     match store.press.prepare(alloc, clock, gathered) {
         Ok(prepared) => {
-            let published = store.press.commit(prepared);
-            store.press.retire_keys();
-            Ok(note(done, Done::Published { published })?)
+            let one = commit(&mut store.press, prepared);
+            Ok(note(done, one)?)
         }
         Err(fault) => Ok(note(
             done,
@@ -203,12 +183,12 @@ fn publish(alloc: Global, store: &mut Store, done: &mut Vec<Done>, clock: u64) -
 // The commands of each desk that no edition took in yet.
 fn gather(alloc: Global, store: &Store) -> Result<Vec<Gathered>, AllocError>
     requires all { length store.now.desks.items ≡ 64 }
-    requires cut { length store.now.press.at.cut ≡ 64 }
+    requires cut { length store.now.press.press.at.cut ≡ 64 }
     requires within { (number : ℕ) (desk : View MemoryDisk) → slice_get store.now.desks.items number ≡ Some desk
-        → get_or store.now.press.at.cut number 0 ≤ length desk.records }
-    ensures { IfOk result (λ gathered. AreSince 0 store.now.desks.items store.now.press.at.cut gathered.items) }
+        → get_or store.now.press.press.at.cut number 0 ≤ length desk.records }
+    ensures { IfOk result (λ gathered. AreSince 0 store.now.desks.items store.now.press.press.at.cut gathered.items) }
 {
-    let cut = store.press.cut();
+    let cut = store.press.press().cut();
     let mut gathered = Vec::with_capacity(alloc, DESKS)?;
     for desk in 0..DESKS {
         let from = cut[desk];
@@ -230,90 +210,99 @@ fn are_signed(names: &[NameRow]) -> bool
 }
 
 // The code of a refusal, and 0 for want of memory.
-fn code_of(fault: &PressFault) -> u32 {
+fn code_of(fault: &PrepareFault<MemoryDisk>) -> u32 {
     match fault {
-        PressFault::ClockRange { met, .. } => met.code(),
-        PressFault::SerialEnd { met, .. } => met.code(),
-        PressFault::Nothing { met, .. } => met.code(),
-        PressFault::SignerFault { met, .. } => met.code(),
-        PressFault::KeyClash { met, .. } => met.code(),
-        PressFault::Memory => 0,
+        PrepareFault::Shut { .. } => SHUT,
+        PrepareFault::ClockRange { met, .. } => met.code(),
+        PrepareFault::SerialEnd { met, .. } => met.code(),
+        PrepareFault::Nothing { met, .. } => met.code(),
+        PrepareFault::SignerFault { met, .. } => met.code(),
+        PrepareFault::KeyClash { met, .. } => met.code(),
+        PrepareFault::JournalFull { met, .. } => met.code(),
+        PrepareFault::Memory => 0,
     }
 }
 
-// Everything stops: a crash leaves of each disk the image of that pick, over which its desk is opened again.
+// Everything stops: a crash leaves of each disk the image of that pick, over which its desk or the press is opened again.
 fn stop(
     alloc: Global,
+    site: &Site,
     store: Store,
     done: &mut Vec<Done>,
     pick: u64,
     limit: &Option<Limit>,
 ) -> Result<Store>
-    requires { IsAt store.desks.items store.press done.old.items }
+    requires at { IsAt store.desks.items store.press done.old.items }
+    requires site { store.press.press.site ≡ site.now }
     ensures at { IfOk result (λ new. IsAt new.desks.items new.press done.new.items) }
-    ensures site { IfOk result (λ new. new.press.site ≡ store.press.site) }
+    ensures site { IfOk result (λ new. new.press.press.site ≡ site.now) }
 {
     commands_are_determined();
     more_commands_stand();
-    let Store { desks, press } = store;
-    let serial = press.serial();
+    records_tell_one_store();
+    let Reopened { store, lists } = reopen(alloc, site, store, pick, limit)?;
+    let serial = store.press.press().serial();
+    note_reopening(done, lists, serial)?;
+    Ok(store)
+}
+
+// A store that was opened again, and the commands that each desk has.
+#[derive(Drop)]
+struct Reopened {
+    store: Store,
+    lists: Vec<Vec<Command>>,
+}
+
+// The store is opened again over what a crash leaves of each disk: the image of that pick.
+fn reopen(
+    alloc: Global,
+    site: &Site,
+    store: Store,
+    pick: u64,
+    limit: &Option<Limit>,
+) -> Result<Reopened>
+    requires all { length store.desks.items ≡ 64 }
+    requires signers { length store.press.press.ring ≡ 2 }
+    ensures desks { IfOk result (λ new.
+        AreOpenedAgain 0 store.desks.items new.store.desks.items (lists_of new.lists)) }
+    ensures press { IfOk result (λ new. IsPressAgain new.store.desks.items store.press new.store.press) }
+    ensures site { IfOk result (λ new. new.store.press.press.site ≡ site.now) }
+{
+    let Store {
+        desks,
+        press: closing,
+    } = store;
     let OpenedAgain { desks, lists } = open_again(alloc, desks, pick, limit)?;
+    let press = press_again(alloc, site, desks.as_slice(), closing, pick, limit)?;
+    Ok(Reopened {
+        store: Store { desks, press },
+        lists,
+    })
+}
+
+// It is noted that everything stopped, and what was found.
+fn note_reopening(
+    done: &mut Vec<Done>,
+    lists: Vec<Vec<Command>>,
+    serial: u64,
+) -> Result<(), AllocError>
+    ensures { OnOk result (done.new.items ≡ (done.old.items ++ Stopped ∷ []) ++ Found lists serial ∷ []) }
+{
     note(done, Done::Stopped)?;
     note(done, Done::Found { lists, serial })?;
-    Ok(Store { desks, press })
+    Ok(())
 }
 
-// Everything stops while an edition is written, in which the desks are found as by `stop`, and the press with it or without it.
-fn stop_publishing(
-    alloc: Global,
-    store: Store,
-    done: &mut Vec<Done>,
-    pick: u64,
-    clock: u64,
-    is_found: bool,
-) -> Result<Store>
-    requires { IsAt store.desks.items store.press done.old.items }
-    ensures at { IfOk result (λ new. IsAt new.desks.items new.press done.new.items) }
-    ensures site { IfOk result (λ new. new.press.site ≡ store.press.site) }
+// The edition that was prepared is written, and its keys end; or a call of the disk fails while it is written.
+fn commit(press: &mut StoredPress<MemoryDisk, Rehearsal>, prepared: StoredPrepared) -> Done
+    requires can { CanCommit press.old prepared }
+    ensures { IsCommitted press.old prepared result press.new }
 {
-    commands_are_determined();
-    more_commands_stand();
-    if !are_signed(store.desks[ANCHOR].config().names()) {
-        bail!("a name without a signer");
-    }
-    let gathered = gather(alloc, &store)?;
-    let Store { desks, mut press } = store;
-    match press.prepare(alloc, clock, gathered) {
-        Ok(prepared) => {
-            let OpenedAgain { desks, lists } = open_again(alloc, desks, pick, &None)?;
-            settle(&mut press, prepared, is_found);
-            let serial = press.serial();
-            note(done, Done::StoppedPublishing)?;
-            note(done, Done::Found { lists, serial })?;
-            Ok(Store { desks, press })
+    match press.commit(prepared) {
+        Ok(published) => {
+            press.retire_keys();
+            Done::Published { published }
         }
-        Err(fault) => {
-            note(
-                done,
-                Done::Refused {
-                    code: code_of(&fault),
-                },
-            )?;
-            Ok(Store { desks, press })
-        }
-    }
-}
-
-// The press is found with the edition that was prepared, or without it.
-fn settle(press: &mut Press<Rehearsal>, prepared: Prepared, is_found: bool)
-    requires next { IsNext press.old.site press.old.at prepared.edition }
-    requires delta { prepared.delta ≡ delta_of press.old.rrdp.session prepared.edition }
-    ensures at { press.new.at ≡ (if is_found then prepared.edition.next else press.old.at) }
-    ensures site { press.new.site ≡ press.old.site }
-    ensures signers { length press.new.ring ≡ length press.old.ring }
-{
-    if is_found {
-        press.commit(prepared);
-        press.retire_keys();
+        Err(CommitFault::DiskFault { .. }) => Done::FailedPublishing,
     }
 }

@@ -1,7 +1,7 @@
 use Rattle.origins.specs.laws.TextLaws.{text-ascii}
 use Rattle.histories.specs.Devices.{new_store}
 use Rattle.histories.proofs.Growing.{starts_legal}
-use Rattle.histories.proofs.Holds.{found, commands_stand, editions_stand, commands, limits, steps, number, published, cuts, deltas, manifests}
+use Rattle.histories.proofs.Holds.{found, commands_stand, editions_stand, commands, limits, press_limits, steps, number, published, cuts, deltas, manifests}
 use Rattle.histories.proofs.Shown.{snapshots, delta_texts}
 use Rattle.histories.proofs.Crls.{crls}
 use Rattle.histories.proofs.laws.headline.Goals as goal
@@ -23,6 +23,9 @@ returns-clause-commands c = λ site history desk legal. commands c.steps_stay_st
 
 pub returns-clause-limits : goal.returns-clause-limits
 returns-clause-limits c = λ site history desk legal. limits c.steps_stay_steps.ensures.one site history legal desk
+
+pub returns-clause-press_limits : goal.returns-clause-press_limits
+returns-clause-press_limits c = press_limits c.steps_stay_steps.ensures.one
 
 pub returns-clause-steps : goal.returns-clause-steps
 returns-clause-steps c = steps c.steps_stay_steps.ensures.one

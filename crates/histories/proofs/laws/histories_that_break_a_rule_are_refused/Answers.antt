@@ -1,6 +1,6 @@
 use Rattle.histories.specs.Events.Event.{Commit}
 use Rattle.histories.proofs.Ended.{stop_ends}
-use Rattle.histories.proofs.Broken.{lost_commands, two_commands_in_doubt, two_editions_in_doubt, commands_found_later, editions_found_later, doubted_cuts, strange_editions, shut_press, shut_desks, vouched_no_more, other_serials, too_many_bytes}
+use Rattle.histories.proofs.Broken.{lost_commands, two_commands_in_doubt, two_editions_in_doubt, commands_found_later, editions_found_later, doubted_cuts, strange_editions, shut_press, shut_desks, vouched_no_more, other_serials, too_many_bytes, too_large_editions}
 use Rattle.histories.proofs.laws.histories_that_break_a_rule_are_refused.Goals as goal
 
 pub returns-clause-lost_commands : goal.returns-clause-lost_commands
@@ -42,3 +42,6 @@ returns-clause-other_serials c = other_serials
 
 pub returns-clause-too_many_bytes : goal.returns-clause-too_many_bytes
 returns-clause-too_many_bytes c = too_many_bytes
+
+pub returns-clause-too_large_editions : goal.returns-clause-too_large_editions
+returns-clause-too_large_editions c = too_large_editions

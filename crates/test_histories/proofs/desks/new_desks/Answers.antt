@@ -1,7 +1,5 @@
-use Rattle.std.proofs.Common.{◌≡◌, ◌+◌, ◌++◌, ◌∷◌, [], ℕ, List, length, sym, subst, ◌∙◌, ap, arith, refl, rules}
+use Rattle.std.proofs.Common.{◌≡◌, ◌+◌, ◌∷◌, [], ℕ, length, sym, subst, ◌∙◌, ap, arith, rules}
 use Rattle.std.proofs.lemmas.List.{length-append}
-use Rattle.disk_api.specs.declared.memory.MemoryDisk.{MemoryDisk}
-use Rattle.desk_core.specs.View.{View}
 use Rattle.test_histories.specs.Standing.{AreNew}
 use Rattle.test_histories.proofs.Places.{new_more}
 use Rattle.test_histories.proofs.Reopened.{new_desk}

@@ -1,4 +1,4 @@
-use Rattle.std.proofs.Common.{◌≡◌, ◌+◌, ◌<◌, ◌++◌, ◌∷◌, [], ℕ, List, length, map, refl, sym, subst, ◌∙◌, ap, arith, append_assoc, vec_len, rules}
+use Rattle.std.proofs.Common.{◌≡◌, ◌+◌, ◌<◌, ◌++◌, ◌∷◌, [], ℕ, List, length, map, sym, subst, ◌∙◌, ap, arith, append_assoc, vec_len, rules}
 use Rattle.std.proofs.lemmas.List.{length-append, map-append}
 use Rattle.disk_api.specs.declared.memory.MemoryDisk.{MemoryDisk}
 use Rattle.authority_book.specs.declared.commands.Command.{Command}
@@ -6,7 +6,8 @@ use Rattle.desk_core.specs.View.{View}
 use Rattle.desk_core.specs.Commands.{HasCommands}
 use Rattle.test_histories.specs.Told.{lists_of}
 use Rattle.test_histories.specs.Standing.{AreOpenedAgain, IsOpenedAgain}
-use Rattle.test_histories.proofs.Reopened.{again_more, image_found, first_removed}
+use Rattle.test_histories.proofs.Lengths.{again_long}
+use Rattle.test_histories.proofs.Reopened.{again_more, image_found, first_removed, none_left, stand_again}
 use Rattle.test_histories.proofs.desks.open_again.Goals as goal
 
 pub remove-closed-requires : goal.remove-closed-requires
@@ -47,3 +48,16 @@ loop-number-preserved c =
           (sym (ap (λ v. map (λ w. w.items) v) c.in_ok-push.ensures.items ∙ map-append (λ w. w.items) c.loop-number.lists.items (list ∷ [])))
           (again_more 0 so_far.0 news (lists_of c.loop-number.lists) number old new list.items so_far.3 again (omega (arith, so_far.2)))),
     )
+
+pub returns-clause-found : goal.returns-clause-found
+returns-clause-found c =
+    let so_far = c.loop-number.invariant in
+    let whole = none_left c.args.desks.items so_far.0 c.loop-number.closing.items c.loop-number.number 64 so_far.1 so_far.2 c.requires c.loop-number-test.false in
+    subst (λ (olds : List (View MemoryDisk)). AreOpenedAgain 0 olds c.loop-number.opened.items (lists_of c.loop-number.lists)) whole so_far.3
+
+pub returns-clause-all : goal.returns-clause-all
+returns-clause-all c =
+    again_long 0 c.args.desks.items c.loop-number.opened.items (lists_of c.loop-number.lists) (returns-clause-found c) ∙ c.requires
+
+pub returns-clause-stand : goal.returns-clause-stand
+returns-clause-stand c = stand_again 0 c.args.desks.items c.loop-number.opened.items (lists_of c.loop-number.lists) (returns-clause-found c)
