@@ -1,5 +1,5 @@
 #!/bin/sh
-# Kills the built program within its exports, and forbids it what an export does (checks/exports). It is killed 30 times
+# Kills the built program within its publications, and forbids it what an export does (checks/exports). It is killed 30 times
 # at random moments and 30 times behind a call of the system, or as often as the first word says: exports.sh 1000. The
 # program is built where it is missing; skipped where there is no rt for that, or no Python. KRILLC=PROGRAM takes
 # another one.

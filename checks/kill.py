@@ -3,14 +3,15 @@
 Each turn sends lines without waiting and kills the program, after a random number of replies or after a random
 time. The next start is asked for its names and for the history of each: every authority has to have its
 acknowledged commands, in their order, and behind them at most one command in the whole tree whose reply nobody
-heard. The first turns have one authority, then there are more and more of them, up to 64. What was published is
-gone with a run: after some kills a start has to publish all that is there as its first edition. Then the files of
-two runs over the same lines are compared.
-Usage: kill.py PROGRAM"""
+heard. The first turns have one authority, then there are more and more of them, up to 64. The serial has to be the
+latest one that was acknowledged, or its successor where the reply to a publication wasn't heard; `audit` has to tell
+it, and each start audits what stands. After some kills a start has to publish what is there. Then the files of two runs over the same lines are
+compared.
+Usage: kill.py PROGRAM KILLS, KILLS being how many turns there are at least."""
 import json, os, random, subprocess, sys, tempfile, time
 
 KRILLC = os.path.abspath(sys.argv[1])
-TURNS, ALONE = 40, 10
+TURNS, ALONE = int(sys.argv[2]), 10
 MOST_NAMES = 64
 # So many turns lie between two starts that publish.
 PUBLISHED_EACH = 5
@@ -128,33 +129,70 @@ def is_same_or_one_more(known, found, unheard):
     return found == known or bool(unheard) and found == with_line(known, unheard[0])
 
 
-def publishes_first(folder):
-    """A start publishes what is there as its first edition, once."""
-    serial = {"command": "serial"}
-    before, published, again, after = ask(folder, [serial, PUBLISH, PUBLISH, serial])
-    if (before.get("serial"), published.get("serial"), published.get("reply")) != (0, 1, "published"):
-        sys.exit(f"checks/kill: {before} and {published} after a kill")
-    if again != {"code": 24, "detail": "1", "refused": "Nothing"} or after != {"reply": "serial", "serial": 1}:
-        sys.exit(f"checks/kill: {again} and {after} behind a publication")
+def nothing_behind(serial):
+    return {"code": 24, "detail": str(serial), "refused": "Nothing"}
+
+
+def serial_acknowledged(serial, replies):
+    """The latest serial, where each publication was the next one or had nothing to do."""
+    for reply in replies:
+        if reply.get("reply") == "published":
+            if reply["serial"] != serial + 1:
+                sys.exit(f"checks/kill: {reply} behind the serial {serial}")
+            serial += 1
+        elif reply.get("refused") == "Nothing" and reply != nothing_behind(serial):
+            sys.exit(f"checks/kill: {reply} behind the serial {serial}")
+    return serial
+
+
+def serial_audited(folder):
+    """The serial that an audit tells."""
+    done = subprocess.run([KRILLC, "audit"], cwd=folder, stdin=subprocess.DEVNULL, capture_output=True)
+    if done.returncode != 0:
+        sys.exit(f"checks/kill: an audit after a kill ended with status {done.returncode}: {done.stderr.decode()}")
+    return json.loads(done.stdout)["serial"]
+
+
+def serial_found(folder, serial, unheard):
+    """The serial after a kill: that which was acknowledged, or the next one where a publication wasn't heard."""
+    audited, found = serial_audited(folder), ask(folder, [{"command": "serial"}])[0]["serial"]
+    if audited != found:
+        sys.exit(f"checks/kill: an audit after a kill tells the serial {audited}, and the next run {found}")
+    if found != serial and (PUBLISH not in unheard or found != serial + 1):
+        sys.exit(f"checks/kill: the serial {found} after {serial} was acknowledged")
+    return found
+
+
+def publishes_next(folder, serial):
+    """A start publishes what is there, once."""
+    published, again, after = ask(folder, [PUBLISH, PUBLISH, {"command": "serial"}])
+    if published != nothing_behind(serial):
+        serial = serial_acknowledged(serial, [published])
+    if again != nothing_behind(serial) or after != {"reply": "serial", "serial": serial}:
+        sys.exit(f"checks/kill: {published}, {again} and {after} after a kill")
+    return serial
 
 
 def kills(folder):
-    histories, lines, cut, turn = {"ta": []}, Lines(), 0, 0
+    """Gives how many kills there were, and how many editions."""
+    histories, lines, cut, turn, serial = {"ta": []}, Lines(), 0, 0, 0
     # on a machine that is busy a turn gets less done, and it takes more of them until all authorities are there
     while turn < TURNS or len(histories) < MOST_NAMES and turn < 10 * TURNS:
         sent = lines.take(histories, turn)
         replies = killed_turn(folder, sent)
         known = acknowledged(histories, sent, replies)
+        serial = serial_found(folder, serial_acknowledged(serial, replies), sent[len(replies):])
         found = histories_found(folder)
         if list(found)[:len(known)] != list(known) or not is_same_or_one_more(known, found, sent[len(replies):]):
             sys.exit(f"checks/kill: turn {turn}: other histories than those of {len(replies)} replies")
         cut += len(replies) < len(sent)
         histories = found
         if turn % PUBLISHED_EACH == 0:
-            publishes_first(folder)
+            serial = publishes_next(folder, serial)
         turn += 1
     if len(histories) != MOST_NAMES or cut < TURNS / 4:
         sys.exit(f"checks/kill: {len(histories)} authorities, and {cut} turns cut short")
+    return turn, cut, serial
 
 
 def files_of(lines):
@@ -165,7 +203,8 @@ def files_of(lines):
             ask(folder, part)
         store = os.path.join(folder, "krill-data")
         files = {}
-        for name in sorted(os.listdir(store)):
+        # Each store of what was published has a session of its own.
+        for name in sorted(set(os.listdir(store)) - {"press"}):
             with open(os.path.join(store, name), "rb") as file:
                 files[name] = file.read()
         return files
@@ -173,13 +212,13 @@ def files_of(lines):
 
 def main():
     with tempfile.TemporaryDirectory(dir=".") as folder:
-        kills(folder)
+        turns, cut, serial = kills(folder)
     lines = [{"command": "add", "ca": "a1", "signer": 0}]
     lines += [update(("ta", "a1")[number % 2], number) for number in range(20)]
     lines += [dict(line, add=[], remove=line["add"]) for line in lines[1:7]]
     if files_of(lines) != files_of(lines):
         sys.exit("checks/kill: two runs over the same lines left different files")
-    print("checks/kill: ok")
+    print(f"checks/kill: ok, {turns} kills, {cut} of them before all was answered, {serial} editions")
 
 
 main()

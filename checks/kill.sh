@@ -1,12 +1,19 @@
 #!/bin/sh
-# Kills the built program and starts it again. It is built where it is missing; skipped where there is no rt for
-# that, or no Python.
+# Kills the built program and starts it again, 40 times or more, or as often as is said: kill.sh --kills 400. It is
+# built where it is missing; skipped where there is no rt for that, or no Python. KRILLC=PROGRAM takes another one.
 set -eu
 top=$(cd "$(dirname "$0")/.." && pwd)
+kills=40
+case $#:${1-} in
+0:) ;;
+2:--kills) kills=$2 ;;
+*) echo "usage: checks/kill.sh [--kills N]" >&2; exit 2 ;;
+esac
 command -v python3 >/dev/null || { echo "checks/kill: no python3, skipped"; exit 0; }
-krillc=$(sh "$top/checks/built" krillc --version)
+krillc=${KRILLC:-$(sh "$top/checks/built" krillc --version)}
 [ -n "$krillc" ] || { echo "checks/kill: krillc isn't built, skipped"; exit 0; }
+krillc=$(realpath "$krillc")
 scratch=$(mktemp -d)
 trap 'rm -rf "$scratch"' EXIT
 cd "$scratch"
-python3 "$top/checks/kill.py" "$krillc"
+python3 "$top/checks/kill.py" "$krillc" "$kills"

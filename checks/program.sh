@@ -33,7 +33,7 @@ expect() {
     fi
 }
 
-usage='krillc: usage: krillc run
+usage='krillc: usage: krillc run|audit [--rsync URI] [--rrdp URI]
 '
 : >input
 expect 0 'krillc 0.1.0
@@ -44,12 +44,14 @@ expect 2 '' "$usage" --version run
 expect 2 '' "$usage" -h
 expect 2 '' "$usage" run --help run
 "$krillc" --help >help
-grep -q '^usage: krillc run$' help || { echo "checks/program: --help shows no usage"; failed=1; }
+grep -q '^usage: krillc run \[--rsync URI\] \[--rrdp URI\]$' help || { echo "checks/program: --help shows no usage"; failed=1; }
 rm -r krill-data
 expect 0 "$(cat help)
 " '' --help
 expect 0 "$(cat help)
 " '' run --help
+expect 0 "$(cat help)
+" '' audit --help
 for status in 0 2 3 4 5 6; do
     grep -q "^    $status  " help || { echo "checks/program: --help doesn't list status $status"; failed=1; }
 done
@@ -75,6 +77,13 @@ expect 2 '' "$usage"
 expect 2 '' "$usage" runs
 expect 2 '' "$usage" run run
 expect 2 '' "$usage" run --
+expect 2 '' "$usage" run --rsync
+expect 2 '' "$usage" run --rsync= --rrdp https://rpki.example/rrdp/
+expect 2 '' "$usage" run --rrdp -https://rpki.example/rrdp/
+expect 2 '' "$usage" audit --rsync rsync://a.example/b/ --rsync=rsync://a.example/b/
+expect 2 '' "$usage" audit --rsync https://a.example/b/
+expect 2 '' "$usage" run --rrdp http://a.example/b/
+expect 2 '' "$usage" --rrdp https://a.example/b/ run
 # Its clock may be let run behind, by 0 to 3600 seconds.
 for KRILL_CLOCK_BEHIND in 3601 -1 soon ''; do
     export KRILL_CLOCK_BEHIND
@@ -84,6 +93,7 @@ done
 printf '{"command":"publish"}' >input
 began=$(date +%s)
 for KRILL_CLOCK_BEHIND in 0 3600; do
+    rm -rf krill-data
     "$krillc" run <input >output 2>error || failed=1
     moment=$(sed 's/^{"moment":\([0-9]*\),.*/\1/' output)
     ended=$(date +%s)
@@ -151,6 +161,9 @@ if [ "$got" != 0 ] || ! cmp -s told "$top/examples/publish-session.replies"; the
     failed=1
 fi
 
+# How many objects and origins were published last.
+objects=$(sed -n 's/.*"objects":\([0-9]*\),"origins":\([0-9]*\),.*/"objects":\1,"origins":\2/p' output)
+
 # The session that rolls a key, over three days of a clock that is told another time.
 if command -v cc >/dev/null; then
     sh "$top/examples/run-keyroll-session" "$krillc" >output 2>error || {
@@ -170,8 +183,45 @@ fi
     grep -q "/$snapshot\" hash=\"$(sha256sum <"$snapshot" | cut -d' ' -f1)\"" notification.xml
 ) || { echo "checks/program: published files: $(find krill-data/repo -type f)"; failed=1; }
 
-# Where they can't be put the edition stands: each publication tries again, and so does the end of the run.
+# What was published is found again, audited and exported: its files are those that stood. A store keeps its bases.
+cp -r krill-data/repo stood
 rm -r krill-data/repo
+: >input
+"$krillc" audit <input >told 2>error || { echo "checks/program: an audit: $(cat error)"; failed=1; }
+sed -n '1s/^{"moment":[0-9]*,\("objects":[0-9]*,"origins":[0-9]*\),"points":[0-9]*,"serial":1}$/\1/p' told >found
+[ "$(cat found)" = "$objects" ] || { echo "checks/program: an audit tells $(cat told) of $objects"; failed=1; }
+diff -r stood krill-data/repo || { echo "checks/program: other files after an audit"; failed=1; }
+printf '{"command":"%s"}\n' serial publish serial >input
+expect 0 '{"reply":"serial","serial":1}
+{"code":24,"detail":"1","refused":"Nothing"}
+{"reply":"serial","serial":1}
+' '' run --rsync rsync://rpki.example/repo/
+expect 3 '' 'krillc: opening refused: SiteDiffers kept rsync://rpki.example/repo/ given rsync://rpki.example/other/
+' run --rsync=rsync://rpki.example/other/
+cp krill-data/desk-00 whole
+: >krill-data/desk-00
+"$krillc" run <input >output 2>error && failed=1
+without_note
+grep -qx 'krillc: opening refused: CutPast desk 0 cut [0-9]* held 0' error || { echo "checks/program: a lost desk: $(cat error)"; failed=1; }
+cp whole krill-data/desk-00
+cp krill-data/press whole
+head -c "$(($(wc -c <whole) - 1))" whole >krill-data/press
+"$krillc" audit <input >output 2>error && failed=1
+without_note
+grep -qx 'krillc: opening refused: Damaged device 64 at [0-9]*' error || { echo "checks/program: a cut press: $(cat error)"; failed=1; }
+
+# Desks without what was published of them begin a new trust anchor, and standard error says so.
+rm krill-data/press
+: >input
+"$krillc" run <input >output 2>error || failed=1
+grep -q '^krillc: .* a new trust anchor begins' error || { echo "checks/program: a new anchor is silent: $(cat error)"; failed=1; }
+expect 0 '{"moment":0,"objects":0,"origins":0,"points":0,"serial":0}
+' '' audit
+
+# Where files can't be put the edition stands: each publication tries again, and so does the end of the run. A run
+# over what couldn't be put isn't begun.
+rm -r krill-data
+mkdir krill-data
 : >krill-data/repo
 printf '{"command":"%s"}\n' publish publish serial >input
 expect 4 '{"code":29,"detail":"1","refused":"OutletFault"}
@@ -179,7 +229,12 @@ expect 4 '{"code":29,"detail":"1","refused":"OutletFault"}
 {"reply":"serial","serial":1}
 ' 'krillc: device failed
 ' run
-rm krill-data/repo
+expect 4 '' 'krillc: device failed
+' run
+rm -r krill-data
+cp "$top/examples/publish-session.jsonl" input
+"$krillc" run <input >output 2>error || failed=1
+rm krill-data/press
 
 # A signer whose pipes stand, and one that has only one of them.
 printf '%s\n' '{"command":"publish"}' >input

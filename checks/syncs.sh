@@ -1,7 +1,7 @@
 #!/bin/sh
 # Looks at the calls that the built program makes on the anchor's file: each write of a commit is synced before the
 # next call and before the reply, also where a signal interrupts the syncs, and no command is accepted whose sync
-# fails. Then at those of an export: each file is synced before it is renamed, and its folders before the next file is
+# fails. Then at those on the press's file: an edition's are like a command's. Then at those of an export: each file is synced before it is renamed, and its folders before the next file is
 # begun and before the reply, and no export is told as done of which a call fails. The program is built where it is
 # missing; skipped where there is no rt for that, or no strace that may trace.
 set -eu
@@ -15,15 +15,17 @@ cd "$scratch"
 
 # What strace puts in the place of some calls.
 tampering=
-# The calls of a run over these lines that change the anchor's file, sync it, or give a reply.
+# The file whose calls are looked at.
+journal=desk-00
+# The calls of a run over these lines that change that file, sync it, or give a reply.
 calls_over() {
     # shellcheck disable=SC2086
     strace -y -o calls $tampering -e trace=pwrite64,write,ftruncate,fsync,fdatasync "$krillc" run <"$1" >replies
     sed -n \
-        -e 's/^pwrite64([0-9]*<[^>]*\/desk-00>, .*, \([0-9]*\), \([0-9]*\)) *= [0-9]*$/write \1 at \2/p' \
-        -e 's/^ftruncate([0-9]*<[^>]*\/desk-00>, .*$/cut/p' \
-        -e 's/^fsync([0-9]*<[^>]*\/desk-00>) *= 0$/sync/p' \
-        -e 's/^fdatasync([0-9]*<[^>]*\/desk-00>) *= 0$/sync of the data/p' \
+        -e "s/^pwrite64([0-9]*<[^>]*\/$journal>, .*, \([0-9]*\), \([0-9]*\)) *= [0-9]*\$/write \1 at \2/p" \
+        -e "s/^ftruncate([0-9]*<[^>]*\/$journal>, .*\$/cut/p" \
+        -e "s/^fsync([0-9]*<[^>]*\/$journal>) *= 0\$/sync/p" \
+        -e "s/^fdatasync([0-9]*<[^>]*\/$journal>) *= 0\$/sync of the data/p" \
         -e 's/^write(1<.*$/reply/p' calls
 }
 
@@ -122,6 +124,56 @@ for nth in 3 4; do
     fi
 done
 
+# The calls on the press's file: the store's record where it is new, and an edition's, all before the reply.
+tampering=
+journal=press
+mkdir pressed
+cd pressed
+cat >first <<'LINES'
+{"command":"roas update","ca":"ta","add":["10.0.0.0/16-24 => 64496"]}
+{"command":"publish"}
+LINES
+expect_calls first <<'CALLS'
+sync
+sync
+write 17 at 0
+sync
+write 88 at 17
+sync
+write 1 at 16
+sync
+reply
+write 6291 at 105
+sync
+write 1 at 104
+sync
+reply
+CALLS
+# The next run has it, and a publication that has nothing to do makes no call.
+printf '{"command":"serial"}\n{"command":"publish"}\n' >second
+expect_calls second <<'CALLS'
+sync
+sync
+reply
+reply
+CALLS
+# A sync of an edition that fails: opening makes two. No edition is told, and the next run finds the old one or the new.
+printf '%s\n' '{"command":"roas update","ca":"ta"}' '{"command":"publish"}' '{"command":"publish"}' '{"command":"serial"}' >third
+for nth in 3 4; do
+    rm -rf failing
+    mkdir failing
+    cp -R krill-data failing/
+    (cd failing && strace -o ../calls -P "$(pwd -P)/krill-data/press" -e trace=fsync,fdatasync \
+        -e "inject=fsync,fdatasync:error=EIO:when=$nth" "$krillc" run <../third >../replies)
+    grep -q 'EIO.*INJECTED' calls || { echo "checks/syncs: no sync of the press failed" >&2; exit 1; }
+    sed 1d replies >told
+    printf '%s\n' '{"code":23,"detail":"64","refused":"DiskFault"}' '{"code":21,"detail":"","refused":"Shut"}' \
+        '{"reply":"serial","serial":1}' | cmp - told || { echo "checks/syncs: a sync of the press failed, and it was told:" >&2; cat replies >&2; exit 1; }
+    (cd failing && "$krillc" audit >../told)
+    grep -q '"serial":[12]}$' told || { echo "checks/syncs: after a sync of the press that failed: $(cat told)" >&2; exit 1; }
+done
+cd ..
+
 # The calls of an export, and the replies; `S` is the session's folder.
 cat >publishes <<'LINES'
 {"command":"publish"}
@@ -169,9 +221,10 @@ fails_at() {
         exit 1
     }
 }
-# Of each of the three exports there are four renames, and in the last one a removal.
+# Of each of the three exports there are four renames, and in the last one a removal. The first removal of a run is of what
+# an audit may have left.
 for nth in 1 2 4 8 9 12; do fails_at rename "$nth"; done
-fails_at unlink 1
+fails_at unlink 2
 # Each file's sync, and each time that of the repository's folder.
 for nth in 1 2 7 8 17 24; do fails_at fsync "$nth" -P "$here/krill-data/repo" -P "$here/krill-data/repo/.draft"; done
 echo "checks/syncs: ok"

@@ -1,6 +1,9 @@
 """A store's folder with its repository, and what has to be true of it whatever was cut short there."""
-import base64, hashlib, os, re, threading, time
+import base64, hashlib, os, re, sys, threading, time
 import xml.etree.ElementTree as xml
+
+sys.path.append(os.path.join(os.path.dirname(os.path.dirname(os.path.abspath(__file__))), "stores"))
+from journal import editions_in
 
 RRDP, RSYNC = "https://rpki.example/rrdp/", "rsync://rpki.example/repo/"
 SPACE = "{http://www.ripe.net/rpki/rrdp}"
@@ -57,16 +60,20 @@ class Place:
     def has_draft(self):
         return os.path.lexists(self.path(DRAFT))
 
+    def kept(self):
+        """How many editions the store has."""
+        return editions_in(os.path.join(self.data, "press"))
+
     def around(self):
-        """All that stands around the repository: of desks the names alone, of others all that shows a change."""
+        """All that stands around the repository: of journals the names alone, of others all that shows a change."""
         found = {}
         for path in (os.path.join(self.top, it) for it in below(self.top)):
             if path.startswith(self.repo + "/"):
                 continue
             status = os.lstat(path)
             told = status.st_mode, status.st_uid, status.st_ino
-            is_desk = re.fullmatch("desk-[0-9][0-9]", os.path.basename(path))
-            found[path] = told if is_desk or os.path.isdir(path) else (*told, status.st_mtime_ns, read(path))
+            is_journal = re.fullmatch("desk-[0-9][0-9]|press", os.path.basename(path))
+            found[path] = told if is_journal or os.path.isdir(path) else (*told, status.st_mtime_ns, read(path))
         return found
 
     def check_around(self):

@@ -1,5 +1,5 @@
 """krillc beside the signer: kills at random moments of publications, what is no pipe, strangers, and who hangs."""
-import json, os, random, select, signal, sys, threading, time
+import json, os, random, re, select, signal, sys, threading, time
 
 from parts import KRILLC, POOL, ROUNDS, await_that, fail, holds, kill, run_beside, start, want
 
@@ -66,6 +66,7 @@ class Pair:
         self.folder = folder
         self.path = f"{folder}/krill-data/signer-0"
         self.origins, self.published, self.judged, self.missed, self.took = set(), 0, 0, 0, 0.5
+        self.serial, self.locator, self.session, self.kept = 0, None, None, 0
         make_pipes(self.path)
         self.start_signer()
         self.start_daemon()
@@ -90,9 +91,10 @@ class Pair:
         began = time.monotonic()
         reply = self.daemon.ask(command="publish")
         self.took = time.monotonic() - began
-        if reply.get("reply") != "published":
-            fail(f"publication {self.published + 1}: {reply}")
+        if reply.get("reply") != "published" or reply["serial"] != self.serial + 1:
+            fail(f"publication {self.published + 1} behind serial {self.serial}: {reply}")
         self.published += 1
+        self.serial += 1
         self.look(reply)
 
     def look(self, reply):
@@ -102,11 +104,30 @@ class Pair:
             fail(f"publication {self.published}: {wrong}")
         if (exported.serial, len(exported.objects)) != (reply["serial"], reply["objects"]):
             fail(f"exported are {len(exported.objects)} objects of serial {exported.serial}, not {reply}")
+        self.goes_on(exported.locator)
         found = by_openssl.look(exported, "judged", reply["moment"])
         wanted = {payload_of_origin(text) for text in self.origins}
         if found.complaints or found.payloads != wanted:
             fail(f"publication {self.published}: {found.complaints} and {found.payloads}, not {wanted}")
         self.judged += len(exported.objects)
+
+    def goes_on(self, locator):
+        """The anchor's locator and the session of RRDP are those of the first publication, whoever was killed."""
+        with open(f"{self.folder}/krill-data/repo/notification.xml", encoding="ascii") as file:
+            session = re.search('session_id="([^"]*)"', file.read())[1]
+        if self.locator is None:
+            self.locator, self.session = locator, session
+        if (locator, session) != (self.locator, self.session):
+            fail(f"publication {self.published}: another locator or session: {locator}, {session}")
+
+    def find(self):
+        """A start behind a kill, which has audited what stands: the serial that was told, or the next one where a reply
+        wasn't heard."""
+        found = self.daemon.ask(command="serial").get("serial")
+        if found not in (self.serial, self.serial + 1):
+            fail(f"serial {found} is found behind a kill, and {self.serial} was told")
+        self.kept += found - self.serial
+        self.serial = found
 
     def kill_daemon(self):
         """krillc is killed and started again at once, sometimes before a signer that was stopped goes on."""
@@ -119,6 +140,7 @@ class Pair:
         if stopped:
             time.sleep(random.uniform(0, 0.2))
             self.signer.send_signal(signal.SIGCONT)
+        self.find()
 
     def kill_signer(self):
         """The signer is killed, sometimes after it was stopped, and started again at once. The publication is refused or
@@ -135,6 +157,7 @@ class Pair:
         reply = self.daemon.reply()
         if "published" not in reply.values() and "SignerFault" not in reply.values():
             fail(f"a publication whose signer was killed: {reply}")
+        self.serial += "published" in reply.values()
         await_that(lambda: holds(self.signer, self.path + ".in") and holds(self.signer, self.path + ".out"), "the signer's start")
 
 
@@ -163,7 +186,8 @@ def kill_publications():
     kill(pair.daemon.program)
     kill(pair.signer)
     missed = f", {pair.missed} times a signer's end was missed" if pair.missed else ""
-    return f"{pair.published} publications with {pair.judged} objects that openssl judged{missed}"
+    kept = f", {pair.kept} editions found that no reply had told" if pair.kept else ""
+    return f"{pair.published} publications with {pair.judged} objects that openssl judged{kept}{missed}"
 
 
 def pipes_of_krillc():

@@ -62,12 +62,16 @@ class Trial:
         self.program = Program(KRILLC, os.path.join(folder, "krill"), sample.signers, sample.is_late)
         self.result = table.Result(sample)
         self.follower = None
+        # Locator and session of the first edition: they stay.
+        self.first = None
 
     def publish(self, edition):
         """Publishes an edition. What is exported then, and the payloads that relying parties have to find."""
         # HTTP tells times in whole seconds: a notification of the second in which the one before it was fetched would
         # be taken for that one.
         wait_until(int(time.time()))
+        if edition.is_behind_restart:
+            self.program.restart()
         if self.sample.is_late:
             self.program.set_late(edition.late)
         reply = ask_all(self.program, edition)
@@ -77,6 +81,10 @@ class Trial:
         exported = read_exported(self.program.repository)
         if (exported.serial, len(exported.objects)) != (reply["serial"], reply["objects"]):
             raise Failed(f"exported are {len(exported.objects)} objects of serial {exported.serial}, not {reply}")
+        known = exported.locator, exported.session
+        self.first = self.first or known
+        if known != self.first:
+            raise Failed("an edition has another locator or session than the first one")
         wait_until(reply["moment"])
         return exported, {parties.payload_of_origin(text) for text in origins}
 

@@ -1,6 +1,7 @@
-"""What relying parties do at their limits: chains that are too long, an edition whose moment hasn't come yet, and a run
-behind the one whose locator they have. What they do there is told and not judged."""
-import dataclasses, os, time
+"""What relying parties do at their limits: chains that are too long, an edition whose moment hasn't come yet, the new trust
+anchor of a store that lost its editions, and a store that was restored from an older copy. What they do there is told and
+not judged."""
+import dataclasses, os, shutil, time
 
 import parties
 from program import Program
@@ -80,23 +81,64 @@ def look_ahead(program, server, folder):
         tell(who, f"{len(found.payloads)} of {number + 2} payloads, {ahead:.1f} seconds before the moment", found)
 
 
-def runs(krillc, server, folder):
-    """What each finds of the next run over a store, whose anchor has a new key, by the locator of the run before."""
-    first = edition([*authority("ta", "isp", ipv4="10.0.0.0/8"), update("isp", ["10.0.0.0/16 => 1"])], [])
-    exported = None
-    for lines in (first.lines, [PUBLISH]):
-        program = Program(krillc, os.path.join(folder, "krill"), 1)
-        try:
-            reply = [program.ask(line) for line in lines][-1]
-            server.folder = program.repository
-            wait_until(reply["moment"])
-            before, exported = exported, read_exported(program.repository)
-            program.close()
-        finally:
-            program.kill()
-        known = dataclasses.replace(exported, locator=(before or exported).locator)
-        for who, found in look_at_all(known, server, folder):
-            tell(who, f"{len(found.payloads)} of 1 payload in the {'second' if before else 'first'} run", found)
+def first_edition():
+    return edition([*authority("ta", "isp", ipv4="10.0.0.0/8"), update("isp", ["10.0.0.0/16 => 1"])], []).lines
+
+
+def next_edition(number):
+    return [update("isp", [f"10.{number}.0.0/16 => 1"]), PUBLISH]
+
+
+def published(program, server, lines):
+    """What is exported behind these lines, of which the last one publishes."""
+    wait_until(int(time.time()))
+    reply = [program.ask(line) for line in lines][-1]
+    server.folder = program.repository
+    wait_until(reply["moment"])
+    return read_exported(program.repository)
+
+
+def look(exported, server, folder, origins, what):
+    for who, found in look_at_all(exported, server, folder):
+        tell(who, f"{len(found.payloads)} of {origins} payloads in {what}", found)
+
+
+def losses(krillc, server, folder):
+    """What each finds of a store that has lost its editions, whose anchor has a new key, by the locator of the one before."""
+    program = Program(krillc, os.path.join(folder, "krill"), 1)
+    try:
+        first = published(program, server, first_edition())
+        look(first, server, folder, 1, "the first edition")
+        program.close()
+        os.remove(os.path.join(program.data, "press"))
+        program.start()
+        lost = published(program, server, [PUBLISH])
+        look(dataclasses.replace(lost, locator=first.locator), server, folder, 1, "the one behind the loss")
+        program.close()
+    finally:
+        program.kill()
+
+
+def restores(krillc, server, folder):
+    """What each finds of a store that is restored from a copy of its first edition, after it has seen a third one: in the
+    next editions, up to one with the serial of the one that was seen, and the one behind it."""
+    program = Program(krillc, os.path.join(folder, "krill"), 1)
+    copy = os.path.join(folder, "copy")
+    try:
+        published(program, server, first_edition())
+        shutil.copytree(program.data, copy, ignore=shutil.ignore_patterns("signer-*", "repo"))
+        for number in (1, 2):
+            seen = published(program, server, next_edition(number))
+        look(seen, server, folder, 3, f"serial {seen.serial}")
+        program.close()
+        shutil.copytree(copy, program.data, dirs_exist_ok=True)
+        program.start()
+        for number in (11, 12, 13):
+            found = published(program, server, next_edition(number))
+            look(found, server, folder, number - 9, f"serial {found.serial} behind a copy of serial 1")
+        program.close()
+    finally:
+        program.kill()
 
 
 def try_limits(krillc, server, folder):
@@ -104,5 +146,7 @@ def try_limits(krillc, server, folder):
     depths(krillc, server, os.path.join(folder, "depths"))
     print("an edition whose moment is still to come")
     clocks(krillc, server, os.path.join(folder, "clocks"))
-    print("the run behind the one whose locator is known")
-    runs(krillc, server, os.path.join(folder, "runs"))
+    print("a store that has lost its editions, by the locator from before")
+    losses(krillc, server, os.path.join(folder, "losses"))
+    print("a store that was restored from an older copy")
+    restores(krillc, server, os.path.join(folder, "restores"))

@@ -18,13 +18,17 @@ class Program:
     can be set late, if that is asked."""
 
     def __init__(self, program, folder, signers, is_late=False):
-        self.folder = folder
+        self.program, self.folder, self.count, self.is_late = program, folder, signers, is_late
         self.data = os.path.join(folder, "krill-data")
         os.makedirs(self.data, exist_ok=True)
-        self.signers = [self._start_signer(number) for number in range(signers)]
+        self.start()
+
+    def start(self):
+        """Starts krillc and its signers over what there is."""
+        self.signers = [self._start_signer(number) for number in range(self.count)]
         self.krillc = subprocess.Popen(
-            [program, "run"], cwd=folder, stdin=subprocess.PIPE, stdout=subprocess.PIPE, text=True,
-            env={**os.environ, **(self._with_clock() if is_late else {})})
+            [self.program, "run"], cwd=self.folder, stdin=subprocess.PIPE, stdout=subprocess.PIPE, text=True,
+            env={**os.environ, **(self._with_clock() if self.is_late else {})})
         self.watch = threading.Timer(LONGEST, self.krillc.kill)
         self.watch.start()
 
@@ -49,6 +53,12 @@ class Program:
         """Sets krillc's clock late by so many seconds."""
         with open(os.path.join(self.folder, "clock"), "w", encoding="ascii") as file:
             file.write(f"{-seconds}\n")
+    def restart(self):
+        """Ends krillc and its signers, and starts them over the same store and keys."""
+        status = self.close()
+        if status:
+            raise Failed(f"krillc ended with status {status}")
+        self.start()
 
     @property
     def repository(self):

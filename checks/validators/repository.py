@@ -14,8 +14,9 @@ class Wrong(Exception):
 
 @dataclass
 class Exported:
-    """One exported edition: its serial, its objects by URI, the locator, and how many deltas are named."""
+    """One exported edition: session and serial, its objects by URI, the locator, and how many deltas are named."""
 
+    session: str
     serial: int
     objects: dict
     locator: bytes
@@ -58,7 +59,8 @@ def read_exported(folder):
         raise Wrong("the snapshot is of another session or serial than the notification")
     objects = {part.get("uri"): base64.b64decode(part.text, validate=True) for part in snapshot}
     deltas = len(notification.findall(f"{NAMESPACE}delta"))
-    exported = Exported(int(notification.get("serial")), objects, read(folder, "ta.tal"), deltas)
+    session, serial = notification.get("session_id"), int(notification.get("serial"))
+    exported = Exported(session, serial, objects, read(folder, "ta.tal"), deltas)
     check_anchor(folder, exported)
     return exported
 
@@ -99,4 +101,4 @@ def spoiled(exported, folder):
     write(os.path.join(folder, "snapshot.xml"), snapshot)
     write(os.path.join(folder, "ta.cer"), exported.anchor)
     write(os.path.join(folder, "notification.xml"), document("notification", exported.serial, [named]))
-    return Exported(exported.serial, objects, exported.locator, 0)
+    return Exported(SPOILED_SESSION, exported.serial, objects, exported.locator, 0)

@@ -15,6 +15,8 @@ class Edition:
     refused: int = 0
     # How many seconds krillc's clock is late. Nobody looks at such an edition, whose time may be over.
     late: int = 0
+    # Whether krillc and its signers are ended and started again before it.
+    is_behind_restart: bool = False
 
 
 @dataclass
@@ -201,14 +203,17 @@ def many_origins(count):
 
 
 def one_after_another(count):
-    """Editions that each add one origin to twenty, one of them without any change below the other authority."""
+    """Editions that each add one origin to twenty, one of them without any change below the other authority. krillc is
+    started again before the third and before the last one."""
     stays = [f"192.0.2.{number * 8}/29 => {number}" for number in range(20)]
     lines = [*authority("ta", "stays", ipv4="192.0.2.0/24"), *authority("ta", "grows", ipv4="10.0.0.0/8")]
     editions, grown = [edition([*lines, update("stays", stays)], stays)], []
     for number in range(1, count):
         grown.append(f"10.{number}.0.0/16-24 => {number}")
         editions.append(edition([update("grows", grown[-1:])], [*stays, *grown]))
-    return Sample(f"{count} editions one after another", editions, is_followed=True)
+    for number in (2, count - 1):
+        editions[number].is_behind_restart = True
+    return Sample(f"{count} editions one after another, over restarts", editions, is_followed=True)
 
 
 SAMPLES = [
