@@ -1,12 +1,14 @@
 # run: krillc on the sample session, within a minute or two, before its proof.
 # build: prove krillc and all that it stands on, and build it.
+# deb: the Debian package krill-ca, in service/out; needs debhelper (docs/operations.md).
 # test: the whole gate.
 # bench: the measurements, each as a ratio to a baseline of the same run.
 # seconds: what the gate costs, crate by crate, from nothing; takes hours.
 # allocations: every test with each of its allocations failing in turn, outside the gate.
 # validators: other relying parties over what krillc exports, outside the gate; needs root and packages (docs/relying-parties.md).
+# day: a day in a registry from that package alone, outside the gate; needs root and packages (checks/day).
 # refused: the wrong bodies that the gate doesn't try (crates/*/refused), of one crate (CRATE=names) or of all.
-.PHONY: run build test bench seconds allocations validators refused
+.PHONY: run build deb test bench seconds allocations validators day refused
 
 run:
 	@sh examples/run-first-session
@@ -15,6 +17,9 @@ build:
 	@echo "Proving and building krillc (ten to twenty minutes on four processors where nothing is kept) ..."
 	cd crates/krillc && rt run -- --version </dev/null
 	@echo "Proved. The program is $(CURDIR)/crates/krillc/out/krillc; 'krillc --help' says how it is run."
+
+deb:
+	@service/deb
 
 test:
 	bash .ci/run
@@ -32,6 +37,9 @@ allocations:
 
 validators:
 	@python3 checks/validators
+
+day:
+	@sh checks/day.sh --play
 
 refused:
 	@python3 checks/refused.py $(CRATE)

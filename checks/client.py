@@ -1,11 +1,14 @@
 #!/usr/bin/env python3
 """client.py KRILL KRILLC: runs the command line over the daemon in a scratch store, and compares what it prints."""
+import fcntl
 import json
 import os
 import re
 import subprocess
 import sys
 import tempfile
+import threading
+import time
 
 REHEARSAL = "krillc: no signer's pipes stand in krill-data: signatures are a rehearsal's, which no relying party accepts\n"
 TREE = """Authority: isp
@@ -54,7 +57,10 @@ CASES = [
      "krill: OriginThere: the origin is configured (192.0.2.0/24 => 64496)\nLeave it out, or remove it in the same update.\n"),
     (["roas", "update", "--ca", "isp"], 2, "", "krill: neither --add nor --remove is given\n"),
     (["serial"], 0, "0\n", ""),
+    (["audit"], 0, "Nothing was published yet.\n", ""),
     (["publish"], 0, re.compile(r"Edition 1 of \d{4}-\d\d-\d\d \d\d:\d\d:\d\d UTC: 7 objects, 1 origin\.\n"), REHEARSAL),
+    (["audit"], 0, re.compile(r"Edition 1 of \d{4}-\d\d-\d\d \d\d:\d\d:\d\d UTC is sound: 7 objects, 2 publication points, 1 origin\.\n"), ""),
+    (["--format", "json", "audit"], 0, re.compile(r'{"moment": \d+, "objects": 7, "origins": 1, "points": 2, "serial": 1}\n'), ""),
     (["history", "commands", "--ca", "isp"], 0, HISTORY, ""),
     (["history", "--ca", "isp"], 0, HISTORY, ""),
     (["roas", "export", "--ca", "isp", "--as", "csv"], 0, CSV, ""),
@@ -78,8 +84,8 @@ CASES = [
      "'krill keyroll activate' goes on with it.\n"),
     (["keyroll", "init", "--ca", "ta"], 1, "",
      "krill: NotForAnchor: the anchor 'ta' can't be deleted, has no parent, and keeps its key\n"),
-    (["watch", "--looks", "1"], 0, re.compile(r"\d\d:\d\d:\d\d  edition none yet\nAUTHORITY +PUBLISHED +PENDING +HELD\n"
-                                               r"ta +0 +0 +0\nisp +0 +0 +2\n\n"), ""),
+    (["watch", "--looks", "1"], 0, re.compile(r"\d\d:\d\d:\d\d  edition 1\nAUTHORITY +PUBLISHED +PENDING +HELD\n"
+                                               r"ta +0 +0 +0\nisp +1 +1 +0\n\n"), ""),
     (["--krillc", "/bin/false", "list"], 4, "", re.compile(r"krill: krillc ended with status 1\n(.*\n)?")),
     (["--krillc", "./absent", "list"], 4, "", "krill: ./absent: No such file or directory\n"),
     (["shew"], 2, "", None),
@@ -101,8 +107,8 @@ def main():
     failed = []
     with tempfile.TemporaryDirectory() as scratch:
         def run(*words):
-            environment = {**os.environ, "KRILL_PROGRAM": krillc, "KRILL_STORE": ""}
-            environment.pop("KRILL_STORE")
+            kept = {key: value for key, value in os.environ.items() if not key.startswith("KRILL_")}
+            environment = {**kept, "KRILL_PROGRAM": krillc, "KRILL_SETTINGS": os.path.join(scratch, "settings")}
             return subprocess.run([sys.executable, krill, *words], cwd=scratch, env=environment, stdin=subprocess.DEVNULL,
                                   capture_output=True, text=True, check=False)
 
@@ -120,6 +126,9 @@ def main():
         health(failed, run)
         completes(failed, run)
         busy(failed, run, scratch, krillc)
+        waits(failed, run, scratch)
+        takes_settings(failed, run, scratch)
+        becomes_owner(failed, run, scratch)
     if failed:
         sys.exit(1)
     print(f"checks/client: ok, {len(CASES)} commands")
@@ -147,7 +156,8 @@ def health(failed, run):
     check(failed, "the age and what is left are a day", age + int(values.get("krill_edition_left_seconds", 0)), 86400)
     check(failed, "the age", 0 <= age < 600, True)
     check(failed, "the journals", sorted(it for it in values if it.startswith("krill_journal_bytes")),
-          ['krill_journal_bytes{journal="desk-00"}', 'krill_journal_bytes{journal="desk-01"}'])
+          [f'krill_journal_bytes{{journal="{it}"}}' for it in ("desk-00", "desk-01", "press")])
+    check(failed, "the limit of the editions", values.get('krill_journal_limit_bytes{journal="press"}'), str(2**30))
     check(failed, "status --format json", json.loads(run("--format", "json", "status").stdout)["serial"], 1)
 
 
@@ -173,6 +183,46 @@ def busy(failed, run, scratch, krillc):
         ran = run("status")
         check(failed, "status of a store in use", (ran.returncode, ran.stdout.startswith("Edition:     1, of ")), (0, True))
         other.stdin.close()
+
+
+def waits(failed, run, scratch):
+    """A command waits for another one over the store."""
+    held = os.open(scratch, os.O_RDONLY)
+    fcntl.flock(held, fcntl.LOCK_EX)
+    threading.Timer(1, os.close, [held]).start()
+    begun = time.monotonic()
+    check(failed, "a command behind another one", run("serial").stdout, "1\n")
+    check(failed, "it waited", time.monotonic() - begun >= 1, True)
+
+
+def takes_settings(failed, run, scratch):
+    """The bases of the settings reach krillc, and those of a store can't be changed by them; nor can its clock be set at will."""
+    for text, status, error in (
+            ("KRILL_RSYNC=rsync://rpki.example/repo/\nOTHER=1\n", 0, ""),
+            ("KRILL_RSYNC=rsync://other.example/repo/\n", 3, re.compile(r"krill: krillc: opening refused: SiteDiffers (.*\n)+")),
+            ("KRILL_CLOCK_BEHIND=4000\n", 2, re.compile("krill: krillc: .*\n(.*\n)*"))):
+        with open(os.path.join(scratch, "settings"), "w", encoding="ascii") as file:
+            file.write(f"# settings\n{text}")
+        ran = run("serial")
+        check(failed, f"{text!r}: status", ran.returncode, status)
+        check(failed, f"{text!r}: standard error", ran.stderr, error)
+    os.remove(os.path.join(scratch, "settings"))
+
+
+def becomes_owner(failed, run, scratch):
+    """Root makes nothing of its own in another user's store."""
+    if os.geteuid() != 0:
+        return
+    os.chmod(scratch, 0o755)
+    store = os.path.join(scratch, "other")
+    os.mkdir(store)
+    os.chown(store, 65534, 65534)
+    ran = run("--store", store, "add", "--ca", "isp")
+    check(failed, "in another user's folder", ran.stderr, re.compile("krill: no store in .*: 'krill init' makes one\n"))
+    check(failed, "init in another user's folder", run("--store", store, "init").returncode, 0)
+    check(failed, "add in another user's folder", run("--store", store, "add", "--ca", "isp").returncode, 0)
+    owners = {os.stat(os.path.join(at, name)).st_uid for at, _, names in os.walk(store) for name in names}
+    check(failed, "whose the files are", owners, {65534})
 
 
 if __name__ == "__main__":

@@ -164,6 +164,12 @@ def publish(store, asked):
     return tell(replies[0], asked.format)
 
 
+def audit(store, asked):
+    found = store.audit()
+    print(json.dumps(found) + "\n" if asked.format == "json" else tables.audited(found), end="")
+    return DONE
+
+
 def serial(store, asked):
     return send(store, asked, "serial")
 
@@ -203,6 +209,7 @@ def watched(now, form):
 def status(store, asked):
     store.require()
     found = health.look(store.data)
+    store.wait = 0    # who watches isn't held up
     try:
         _, authorities = snapshot_of(store)
         found.add_reads(authorities)

@@ -10,8 +10,14 @@ from . import tables
 
 STATES = ("published", "pending", "held")
 DESK_LIMIT = 16 * 2**20
+PRESS, PRESS_LIMIT = "press", 2**30
 REFRESH_BEFORE = 8 * 3600     # an edition is due again when this much is left of it
 RRDP = "{http://www.ripe.net/rpki/rrdp}"
+
+
+def limit_of(journal):
+    """The most bytes that a journal may hold."""
+    return PRESS_LIMIT if journal == PRESS else DESK_LIMIT
 
 
 def by_state(listed):
@@ -51,8 +57,8 @@ class Health:
         yield "krill_edition_left_seconds", "Seconds until what is published expires.", {"": None if self.ends is None else self.ends - self.now}
         yield "krill_authorities", "Authorities that aren't deleted.", {"": self.authorities}
         yield "krill_origins", "Configured origins, by state.", {f'state="{key}"': value for key, value in (self.origins or {}).items()}
-        yield "krill_journal_bytes", "Bytes of each journal that holds commands.", {f'journal="{key}"': value for key, value in self.journals.items()}
-        yield "krill_journal_limit_bytes", "The most that each journal may hold.", {f'journal="{key}"': DESK_LIMIT for key in self.journals}
+        yield "krill_journal_bytes", "Bytes of each journal that holds commands or editions.", {f'journal="{key}"': value for key, value in self.journals.items()}
+        yield "krill_journal_limit_bytes", "The most that each journal may hold.", {f'journal="{key}"': limit_of(key) for key in self.journals}
 
     def gauges(self):
         """The text format of Prometheus; what isn't known is left out."""
@@ -69,7 +75,7 @@ class Health:
                 "origins": self.origins, "serial": self.serial, "session": self.session}
 
     def text(self):
-        fullest = max(self.journals.items(), key=lambda it: it[1], default=None)
+        fullest = max(self.journals, key=lambda it: self.journals[it] / limit_of(it), default=None)
         rows = [["Edition:", f"{self.serial}, of {tables.moment_text(self.begins)}" if self.begins is not None else "none yet"]]
         if self.due is not None:
             rows.append(["Next due:", f"in {self.due} s" if self.due > 0 else f"overdue by {-self.due} s: publish"])
@@ -78,7 +84,8 @@ class Health:
             rows.append(["Authorities:", self.authorities])
             rows.append(["Origins:", ", ".join(f"{value} {key}" for key, value in self.origins.items())])
         if fullest:
-            rows.append(["Fullest:", f"{fullest[0]}, {fullest[1] * 100 // DESK_LIMIT} % of 16 MiB"])
+            limit = limit_of(fullest)
+            rows.append(["Fullest:", f"{fullest}, {self.journals[fullest] * 100 // limit} % of {limit >> 20:,} MiB"])
         return "".join(f"{name:13}{value}\n" for name, value in rows)
 
 
@@ -86,7 +93,8 @@ def look(data, now=None):
     """What the files in `krill-data` tell."""
     found = Health(now=int(time.time()) if now is None else now)
     for name in sorted(os.listdir(data)):
-        if name.startswith("desk-") and os.path.getsize(os.path.join(data, name)) > 17:
+        is_journal = name == PRESS or name.startswith("desk-")
+        if is_journal and os.path.getsize(os.path.join(data, name)) > 17:
             found.journals[name] = os.path.getsize(os.path.join(data, name))
     repo = os.path.join(data, "repo")
     try:

@@ -1,10 +1,20 @@
 """A store, and krillc over it: lines of JSON in, replies out."""
+import contextlib
+import fcntl
 import json
 import os
+import pwd
 import subprocess
+import sys
+import threading
+import time
 
 FOLDER = "krill-data"
 REHEARSAL = "signatures are a rehearsal's"
+WAITS = "waiting for signer"
+
+# Seconds for which a command waits for other ones over its store.
+LONGEST_WAIT = 600
 
 # The statuses of krill.
 DONE, REFUSED, USAGE, NOT_OPENED, DEVICE, SPENT, MEMORY = 0, 1, 2, 3, 4, 5, 6
@@ -27,8 +37,8 @@ class StoreFault(Exception):
 class Store:
     """The store in a folder: the one that krillc is started in, which has `krill-data`."""
 
-    def __init__(self, folder, program):
-        self.folder, self.program = folder, program
+    def __init__(self, folder, program, settings=None, wait=LONGEST_WAIT):
+        self.folder, self.program, self.settings, self.wait = folder, program, settings or {}, wait
 
     @property
     def data(self):
@@ -44,17 +54,89 @@ class Store:
         self.require()
         return self.run(lines)
 
-    def run(self, lines):
+    def audit(self):
+        """What krillc's audit tells of the last edition."""
+        self.require()
+        (told_of,), _ = self.run([], "audit")
+        return told_of
+
+    def run(self, lines, doing="run"):
         text = "".join(json.dumps(line) + "\n" for line in lines)
         try:
-            ran = subprocess.run([self.program, "run"], cwd=self.folder, input=text.encode(), capture_output=True, check=False)
+            with self.lock():
+                code, output, said = talk([self.program, doing, *self.bases()], text.encode(), cwd=self.folder,
+                                          env={**os.environ, **self.settings}, **self.owner())
         except OSError as fault:
-            raise StoreFault(f"{self.program}: {fault.strerror}", DEVICE) from None
-        said = [line for line in ran.stderr.decode(errors="replace").splitlines() if line]
-        replies = [json.loads(line) for line in ran.stdout.splitlines() if line.endswith(b"}")]
-        if len(replies) < len(lines) or (ran.returncode and not replies):
-            raise StoreFault(told(said, ran.returncode), status_of(ran.returncode), replies)
+            raise StoreFault(f"{fault.filename}: {fault.strerror}", DEVICE) from None
+        replies = [json.loads(line) for line in output.splitlines() if line.endswith(b"}")]
+        if len(replies) < len(lines) or (code and not replies):
+            raise StoreFault(told(said, code), status_of(code), replies)
         return replies, said
+
+    def bases(self):
+        """The words that name the bases, where they are set."""
+        named = (("--rsync", "KRILL_RSYNC"), ("--rrdp", "KRILL_RRDP"))
+        return [word for option, key in named if key in self.settings for word in (option, self.settings[key])]
+
+    @contextlib.contextmanager
+    def lock(self):
+        """Holds the folder: of several commands over one store each waits for the ones before it."""
+        folder = os.open(self.folder, os.O_RDONLY | os.O_DIRECTORY)
+        try:
+            until = time.monotonic() + self.wait
+            while not taken(folder):
+                if time.monotonic() >= until:
+                    raise StoreFault(f"another krill has had {self.folder} for {self.wait} seconds", DEVICE)
+                time.sleep(0.1)
+            yield
+        finally:
+            os.close(folder)
+
+    def owner(self):
+        """Root goes on as the user whose store it is, so that nothing in it becomes root's."""
+        status = os.stat(self.folder)
+        if os.geteuid() != 0 or status.st_uid == 0:
+            return {}
+        user = pwd.getpwuid(status.st_uid)
+        return {"user": user.pw_uid, "group": user.pw_gid, "extra_groups": os.getgrouplist(user.pw_name, user.pw_gid)}
+
+
+def talk(words, text, **how):
+    """Runs krillc on the lines. Its status, its output, and its own lines, of which waits are told at once."""
+    with subprocess.Popen(words, stdin=subprocess.PIPE, stdout=subprocess.PIPE, stderr=subprocess.PIPE, **how) as process:
+        said = []
+        threads = [threading.Thread(target=hear, args=(process.stderr, said)), threading.Thread(target=give, args=(process.stdin, text))]
+        for it in threads:
+            it.start()
+        output = process.stdout.read()
+        for it in threads:
+            it.join()
+    return process.returncode, output, said
+
+
+def hear(stream, said):
+    for line in stream:
+        line = line.decode(errors="replace").rstrip("\n")
+        if WAITS in line:
+            print(line, file=sys.stderr, flush=True)
+        elif line:
+            said.append(line)
+
+
+def give(stream, text):
+    # krillc may end before it has read all
+    with contextlib.suppress(BrokenPipeError):
+        stream.write(text)
+    with contextlib.suppress(BrokenPipeError):
+        stream.close()
+
+
+def taken(folder):
+    try:
+        fcntl.flock(folder, fcntl.LOCK_EX | fcntl.LOCK_NB)
+        return True
+    except BlockingIOError:
+        return False
 
 
 def status_of(code):

@@ -70,6 +70,13 @@ def published(reply):
             f"{counted(reply['objects'], 'object')}, {counted(reply['origins'], 'origin')}.\n")
 
 
+def audited(found):
+    if not found["serial"]:
+        return "Nothing was published yet.\n"
+    counts = ((found["objects"], "object"), (found["points"], "publication point"), (found["origins"], "origin"))
+    return f"Edition {found['serial']} of {moment_text(found['moment'])} is sound: {', '.join(counted(*it) for it in counts)}.\n"
+
+
 def accepted(reply):
     return f"Accepted: command {reply['count']} of {reply['authority']}.\n"
 

@@ -5,6 +5,7 @@ import shutil
 import sys
 
 from . import commands
+from .settings import settings
 from .store import DONE, USAGE, Store, StoreFault
 
 EPILOG = """The words are those of Krill's own command line where they exist there. statuses:
@@ -24,12 +25,13 @@ class Words(argparse.ArgumentParser):
     below: dict
 
 
-def parser():
+def parser(found=None):
+    found = settings() if found is None else found
     top = Words(prog="krill", description="Asks and commands krillc, the RPKI certificate authority daemon.", epilog=EPILOG,
                 formatter_class=argparse.RawDescriptionHelpFormatter, allow_abbrev=False)
-    top.add_argument("--store", metavar="FOLDER", default=os.environ.get("KRILL_STORE", "."),
+    top.add_argument("--store", metavar="FOLDER", default=found.get("KRILL_STORE", "."),
                      help="where krillc is started: the folder that has krill-data (KRILL_STORE, else the working directory)")
-    top.add_argument("--krillc", metavar="PROGRAM", default=os.environ.get("KRILL_PROGRAM") or shutil.which("krillc") or "krillc",
+    top.add_argument("--krillc", metavar="PROGRAM", default=found.get("KRILL_PROGRAM") or shutil.which("krillc") or "krillc",
                      help="the daemon's program (KRILL_PROGRAM, else krillc of the PATH)")
     top.add_argument("--format", choices=["text", "json"], default="text", help="tables, or replies as JSON")
     words = group(top, "COMMAND")
@@ -47,6 +49,7 @@ def parser():
     leaf(keyroll, "init", commands.keyroll_init, "begin: the next edition makes a new key", ca)
     leaf(keyroll, "activate", commands.keyroll_activate, "let the new key take over, a day after it was made or later", ca)
     leaf(words, "publish", commands.publish, "publish what was accepted")
+    leaf(words, "audit", commands.audit, "audit the last edition as relying parties do, and export it again")
     leaf(words, "serial", commands.serial, "print the serial of the last edition")
     leaf(words, "watch", commands.watch, "show authorities, origins and the edition as they change", *watch_options())
     leaf(words, "status", commands.status, "tell the edition's age, and how full the journals are", prometheus)
@@ -127,9 +130,10 @@ def prometheus(made):
 
 
 def main(words=None):
-    asked = parser().parse_args(words)
+    found = settings()
+    asked = parser(found).parse_args(words)
     try:
-        return asked.handler(Store(asked.store, asked.krillc), asked)
+        return asked.handler(Store(asked.store, asked.krillc, found), asked)
     except StoreFault as fault:
         print(f"krill: {fault}", file=sys.stderr)
         return fault.status
