@@ -1,0 +1,14 @@
+pub mod Since
+pub mod Vouching
+pub mod Runs
+pub mod Kept
+pub mod More
+pub mod Exporting
+pub mod Opened
+pub mod Holding
+pub mod Answered
+pub mod Seats
+pub mod Learned
+pub mod Readying
+pub mod Pressed
+pub mod Refused

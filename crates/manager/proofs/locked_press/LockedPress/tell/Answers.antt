@@ -1,0 +1,27 @@
+use Rattle.std.proofs.Common.{◌∙◌, sym, ap, subst}
+use Rattle.notice_board.specs.Seats.{BoardSeat, ViewerSeat}
+use Rattle.manager.specs.Locked.{LockedValue, IsLocked}
+use Rattle.manager.proofs.Kept.{lock}
+use Rattle.manager.proofs.locked_press.LockedPress.tell.Goals as goal
+
+pub tell-requires : goal.tell-requires
+tell-requires g c = c.requires ∙ sym c.self.invariant.is.list
+
+pub invariant_of-self : goal.invariant_of-self
+invariant_of-self g c =
+    let inside = c.self.inside in
+    subst (λ (b : BoardSeat). IsLocked g.O.Outlet g.N.Names.named (lock inside.press inside.followers b inside.outlet)) (sym c.tell.ensures.same) c.self.invariant
+
+pub returns-clause-kept : goal.returns-clause-kept
+returns-clause-kept g c = invariant_of-self g c
+
+pub returns-clause-same : goal.returns-clause-same
+returns-clause-same g c =
+    let inside = c.self.inside in
+    ap (λ (b : BoardSeat). lock inside.press inside.followers b inside.outlet) c.tell.ensures.same ∙ c.self.view_is
+
+pub returns-clause-list : goal.returns-clause-list
+returns-clause-list g c = ap (λ (v : ViewerSeat). v.list) c.tell.ensures.whole ∙ (c.self.invariant.is.list ∙ sym c.requires)
+
+pub returns-clause-whole : goal.returns-clause-whole
+returns-clause-whole g c = ap (λ (v : ViewerSeat). v.seen) c.tell.ensures.whole ∙ ap (λ (l : LockedValue _ _). l.board.shown) c.self.view_is

@@ -1,0 +1,9 @@
+pub mod Named
+pub mod Lists
+pub mod Gathered
+pub mod Run
+pub mod Locked
+pub mod Opening
+pub mod Pressing
+pub mod Answers
+pub mod Closing

@@ -1,0 +1,46 @@
+-- What was found when a store was opened. It exists in contracts alone: whoever takes a lock knows what
+-- lies behind it by these names.
+use Rattle.std.specs.Prelude.{ℕ, List, [], Option, None}
+use Rattle.key_ids.specs.Uris.{Bases}
+use Rattle.signer_api.specs.State.{SignerState}
+use Rattle.outlet_api.specs.Calls.{Files}
+use Rattle.notice_board.specs.declared.shown.ListId.{ListId}
+use Rattle.editions.specs.Edition.{Edition}
+use Rattle.editions.specs.PublishedState.{PublishedStateValue}
+
+-- The bases of the repository and the session of its RRDP files; the records of each desk; the
+-- editions, and what stands after them; the signers, what the outlet showed, and the board's list.
+pub record Named : Type 0 where
+  pub site : Bases
+  pub session : List ℕ
+  pub records : List (List (List ℕ))
+  pub editions : List Edition
+  pub at : PublishedStateValue
+  pub signers : List SignerState
+  pub files : Option Files
+  pub list : ListId
+
+abbrev pub nothing_at : PublishedStateValue
+nothing_at = record {
+  serial = 0;
+  moment = 0;
+  cut = [];
+  rows = [];
+  issued = [];
+  set = [];
+  configs = [];
+  sets = [];
+  owed = [];
+}
+
+abbrev pub nothing_named : Named
+nothing_named = record {
+  site = record { rsync = []; rrdp = [] };
+  session = [];
+  records = [];
+  editions = [];
+  at = nothing_at;
+  signers = [];
+  files = None;
+  list = record { number = 0; log_name = 0; cells_name = 0 };
+}
