@@ -1,5 +1,5 @@
 """What the trials share: the programs, their lines, openssl's word on a signature."""
-import atexit, hashlib, os, random, re, subprocess, sys, time
+import atexit, contextlib, hashlib, os, random, re, subprocess, sys, time
 
 ROUNDS = int(sys.argv[1])
 SIGNER, CALLER, KRILLC = (None if word == "-" else os.path.abspath(word) for word in sys.argv[2:])
@@ -20,8 +20,13 @@ def fail(text):
 
 
 def kill(program):
+    """Kills a program and closes its streams: many are killed, and `select` takes descriptors below 1,024 alone."""
     program.kill()
     program.wait()
+    for stream in (program.stdin, program.stdout, program.stderr):
+        # What was written and never read is lost with it.
+        with contextlib.suppress(BrokenPipeError):
+            stream.close()
 
 
 @atexit.register
