@@ -1,7 +1,7 @@
 """Krill's side of the lines over the signer's FIFOs: `test_signers`, which takes calls on standard input."""
 import os, random, signal, time
 
-from parts import CALLER, DIGEST, KEY, OTHER, POOL, ROUNDS, ask, fail, kill, run_beside, start, verify, want
+from parts import CALLER, DIGEST, KEY, OTHER, POOL, ROUNDS, ask, fail, holds, kill, run_beside, start, verify, want
 
 
 def serve_fifos(folder, path, caller=None):
@@ -10,8 +10,7 @@ def serve_fifos(folder, path, caller=None):
     ends = {os.path.abspath(path + end) for end in (".in", ".out")}
     while not all(os.path.exists(end) for end in ends):
         time.sleep(0.02)
-    opened = f"/proc/{program.pid}/fd"
-    while caller and not ends <= {os.path.realpath(os.path.join(opened, it)) for it in os.listdir(opened)}:
+    while caller and not all(holds(program, end) for end in ends):
         time.sleep(0.02)
     return program
 
