@@ -305,6 +305,24 @@ impl<D: Disk> Journal<D> {
         self.read(alloc, place)
     }
 
+    /// Reads the payload of a record into a buffer, in place of what that held. One buffer serves for all
+    /// records, and takes no memory once it has room. It answers faults as `record` does.
+    pub fn record_into(&mut self, index: u64, into: &mut Vec<u8>) -> Result<(), JournalFault>
+        requires { index < length self.old.sizes }
+
+        ensures payload { OnOk result (IfSome self.old.records (λ all. slice_get all index ≡ Some into.new.items)) }
+        ensures size { OnOk result (slice_get self.old.sizes index ≡ Some (length into.new.items)) }
+        ensures fault { IfErr result (λ fault. IsReadFault D.Disk fault self.old self.new) }
+        ensures open { OnOk result (self.new.shut ≡ self.old.shut) }
+        ensures same { IsSameButDisk self.old self.new }
+        ensures disk { Rests D.Disk self.old.disk self.new.disk }
+        ensures later { D.fault_count self.old.disk ≤ D.fault_count self.new.disk }
+        ensures safe { IsSafe D.Disk self.new }
+    {
+        let place = self.places[index as usize];
+        self.read_over(place, into)
+    }
+
     /// Reads the first bytes of a record's payload, as many as there are or as there is room for, and
     /// says how many. It takes no memory of its own, and answers faults as `record` does. Records are
     /// numbered from 0.
@@ -367,11 +385,25 @@ impl<D: Disk> Journal<D> {
         ensures later { D.fault_count self.old.disk ≤ D.fault_count self.new.disk }
         ensures safe { IsSafe D.Disk self.new }
     {
-        let disk_alloc = self.alloc;
         let mut part = Vec::new(alloc);
-        part.resize(place.size as usize, 0)?;
-        self.read_into(disk_alloc, place.at, part.as_mut_slice())?;
+        self.read_over(place, &mut part)?;
         Ok(part)
+    }
+
+    /// Reads a part of the file over what a buffer holds.
+    fn read_over(&mut self, place: Place, part: &mut Vec<u8>) -> Result<(), JournalFault>
+        ensures size { OnOk result (length part.new.items ≡ place.size) }
+        ensures part { OnOk result (IfSome (D.content self.old.disk) (λ bytes. part.new.items ≡ take place.size (drop place.at bytes))) }
+        ensures fault { IfErr result (λ fault. IsReadFault D.Disk fault self.old self.new) }
+        ensures open { OnOk result (self.new.shut ≡ self.old.shut) }
+        ensures same { IsSameButDisk self.old self.new }
+        ensures disk { Rests D.Disk self.old.disk self.new.disk }
+        ensures later { D.fault_count self.old.disk ≤ D.fault_count self.new.disk }
+        ensures safe { IsSafe D.Disk self.new }
+    {
+        let disk_alloc = self.alloc;
+        part.resize(place.size as usize, 0)?;
+        self.read_into(disk_alloc, place.at, part.as_mut_slice())
     }
 
     /// Reads the bytes from `at` on, as many as there is room for. A fault of the disk shuts the journal.
