@@ -59,15 +59,15 @@ within : (uri : List ℕ) → starts_with nat_eq uri [] ≡ true
 within [] = refl
 within (b ∷ uri) = refl
 
-code-none : (held : Contents) (change : Change) → Fits held change → code_of [] (held (uri_of change)) change ≡ None
+pub code-none : (held : Contents) (change : Change) → Fits held change → code_of [] (held (uri_of change)) change ≡ None
 code-none held change fit =
     ap (λ (b : Bool). cond b (hash_code (held (uri_of change)) (hash_of change)) (Some 1)) (within (uri_of change)) ∙ fit
 
 -- A refusal by that code, or by what comes later.
-abbrev refused : Change → Option (ℕ × List ℕ) → Option ℕ → Option (ℕ × List ℕ)
+abbrev pub refused : Change → Option (ℕ × List ℕ) → Option ℕ → Option (ℕ × List ℕ)
 refused change later code = option_map_or (λ n. Some (n, uri_of change)) code later
 
-none-refused : (held : Contents) (all : List Change) → uris_rise all ≡ true → AllByRecursion (Fits held) all
+pub none-refused : (held : Contents) (all : List Change) → uris_rise all ≡ true → AllByRecursion (Fits held) all
     → first_refusal [] held all ≡ None
 none-refused held [] up fit = refl
 none-refused held (change ∷ rest) up fit =
@@ -75,7 +75,7 @@ none-refused held (change ∷ rest) up fit =
     ∙ none-refused (after held change) rest (tail-rises (uri_of change) rest up)
     (later-fits held change rest (above-behind (uri_of change) rest up) fit.1)
 
-all-fit : (held : Contents) (all : List Change) → AllByRecursion (changes held).good all → AllByRecursion (Fits held) all
+pub all-fit : (held : Contents) (all : List Change) → AllByRecursion (changes held).good all → AllByRecursion (Fits held) all
 unfolding changes
 all-fit held [] good = tt
 all-fit held (change ∷ rest) good = (fits held change good.0.1, all-fit held rest good.1)

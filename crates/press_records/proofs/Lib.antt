@@ -1,7 +1,9 @@
 pub mod Applying
 pub mod Bases
+pub mod Carrying
 pub mod Growing
 pub mod Keys
+pub mod Leading
 pub mod Parsing
 pub mod Sizes
 pub mod Stages

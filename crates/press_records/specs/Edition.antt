@@ -41,6 +41,19 @@ after_edition before edition = record {
   set = after_all before.set edition.changes;
 }
 
+-- The same where an edition's changes are carried out and nothing else of it, and where all else is.
+abbrev pub carried_out : StandingValue → EditionValue → StandingValue
+carried_out before edition = record before { set = after_all before.set edition.changes }
+
+abbrev pub settled : StandingValue → EditionValue → StandingValue
+settled before edition = record {
+  serial = edition.serial;
+  moment = edition.moment;
+  cut = edition.cut;
+  rows = edition.rows;
+  set = before.set;
+}
+
 -- The same stands: the cuts agree desk by desk, where one that is missing is 0, and the sets URI by
 -- URI.
 pub record IsAlike (one other : StandingValue) : Type 0 where

@@ -1,6 +1,6 @@
 //! The changes of an edition, read and written (RFC 8181 section 2.2).
 
-ghost use Rattle.std.specs.Prelude.{◌≡◌, ◌^◌, ◌-◌, ◌++◌, min, length, Some, OnOk};
+ghost use Rattle.std.specs.Prelude.{◌≡◌, ◌^◌, ◌-◌, ◌++◌, ◌∷◌, [], true, min, length, Some, OnOk};
 ghost use Rattle.std.specs.Option.{option_map};
 ghost use Rattle.std.specs.Ordering.{is_lt};
 ghost use Rattle.sha2.specs.Sha256.{sha256};
@@ -81,9 +81,9 @@ fn withdrawal<'a>(
     }
 }
 
-// A change, over the set as it stands.
+/// A change, over the set as it stands.
 #[tactic(auto, using(crate::proofs::Parsing::put_read, crate::proofs::Parsing::withdrawal_read), unfolding(crate::specs::Changes::changes))]
-fn change_over<'a>(
+pub(crate) fn change_over<'a>(
     alloc: Global,
     set: &ObjectSet,
     bytes: &'a [u8],
@@ -182,6 +182,17 @@ fn comes_before(one: &Change, other: &Change) -> bool
     ensures { result ≡ is_lt (uri_cmp (uri_of one.now) (uri_of other.now)) }
 {
     matches!(one.uri().as_str().cmp(other.uri().as_str()), Ordering::Less)
+}
+
+/// Whether the URI of the change comes after that of the last of the others, whose URIs rise.
+pub(crate) fn rises_behind(changes: &[Change], change: &Change) -> bool
+    requires { uris_rise changes.now ≡ true }
+    ensures { result ≡ uris_rise (changes.now ++ change.now ∷ []) }
+{
+    match changes.last() {
+        Some(last) => comes_before(last, change),
+        None => true,
+    }
 }
 
 // Whether each URI comes after the one before it, the first after that of a change.

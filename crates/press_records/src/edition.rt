@@ -143,8 +143,8 @@ fn may_follow(
     )
 }
 
-// The edition, if it may follow.
-fn told(
+/// The edition, if it may follow. That asks nothing of the set.
+pub(crate) fn told(
     alloc: Global,
     before: &Standing<'_>,
     edition: ReadEdition,

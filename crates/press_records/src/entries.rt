@@ -101,7 +101,7 @@ fn push_lasting(kept: &mut Vec<RevokedRow>, row: RevokedRow, time: u64) -> Resul
 fn lasting(alloc: Global, entries: &[RevokedRow], time: u64) -> Result<Vec<RevokedRow>, AllocError>
     ensures { IfOk result (λ kept. kept.items ≡ lasting time entries.now) }
 {
-    let mut kept = Vec::new(alloc);
+    let mut kept = Vec::with_capacity(alloc, entries.len())?;
     let mut left = entries;
     while let Some((row, rest)) = left.split_first() {
         push_lasting(&mut kept, *row, time)?;
@@ -174,7 +174,7 @@ fn merged(
 ) -> Result<Vec<RevokedRow>, AllocError>
     ensures { IfOk result (λ entries. entries.items ≡ merged carried.now added.now) }
 {
-    let mut entries = Vec::new(alloc);
+    let mut entries = Vec::with_capacity(alloc, carried.len().saturating_add(added.len()))?;
     let (mut ones, mut others) = (carried, added);
     while let Some((next, more, rest)) = least(ones, others) {
         entries.push(next)?;

@@ -5,12 +5,14 @@
 mod changes;
 mod edition;
 mod entries;
+mod fronts;
 mod laws;
 mod numbers;
 mod recovered;
 mod rows;
 mod rules;
 mod store;
+mod taking;
 mod types;
 
 pub use edition::{EditionRecord, GivenEdition, ReadEdition, Standing, read_edition};

@@ -1,16 +1,23 @@
 //! What stands after the editions that the records of a journal tell, carried out one after another.
 
-ghost use Rattle.std.specs.Prelude.{◌≡◌, [], None, OnOk, OnErr};
+ghost use Rattle.std.specs.Prelude.{◌≡◌, [], None, map, IfOk, OnOk, OnErr};
 ghost use Rattle.pub_set.specs.Objects.{content_at};
 ghost use Rattle.pub_set.specs.Changes.{after_all};
 ghost use Rattle.pub_set.specs.Queries.{first_refusal};
-ghost use Rattle.press_records.specs.Edition.{nothing_stands, after_edition, editions};
+ghost use Rattle.record_forms.specs.Form.{Spells};
+ghost use Rattle.record_forms.specs.Forms.{read_whole};
+ghost use Rattle.record_forms.specs.Outcome.{Gives, IsUnlessMemory};
+ghost use Rattle.press_records.specs.Rows.{row_value};
+ghost use Rattle.press_records.specs.Edition.{EditionValue, nothing_stands, after_edition, carried_out, settled, editions};
 ghost use Rattle.press_records.specs.Views.{standing_value, edition_value, recovered_standing, parts_value};
 
-use crate::edition::{ReadEdition, Standing};
+use crate::edition::{ReadEdition, Standing, told};
+use crate::fronts::{edition_behind, edition_front};
+use crate::taking::take_changes;
 use items::Items;
 use key_roll::KeyRow;
 use pub_set::{Change, ObjectSet, QueryRefused};
+use record_forms::ReadFault;
 use std::alloc::{AllocError, Global};
 use std::marker::Model;
 
@@ -96,11 +103,76 @@ impl Recovered {
             changes,
         } = edition;
         carry_out(alloc, &mut self.set, changes.into_vec())?;
+        self.stand_at(serial, moment, cut, rows);
+        Ok(())
+    }
+
+    /// Reads the record of the next edition, and carries out what it puts and withdraws while it reads on, so
+    /// that what is replaced is let go of before the rest is read. The bytes that are put are shared with the
+    /// edition. `settle` has to follow; after an error what stands is of no use any more.
+    ///
+    /// It answers `Bad` exactly where the bytes are no edition's record over what stands, and `Memory` where
+    /// memory runs out.
+    pub fn take_record(&mut self, alloc: Global, bytes: &[u8]) -> Result<ReadEdition, ReadFault>
+        ensures found { IfOk result (λ found.
+            Spells (editions (recovered_standing self.old)) (edition_value found) bytes.now) }
+        ensures carried { IfOk result (λ found. recovered_standing self.new
+            ≡ carried_out (recovered_standing self.old) (edition_value found)) }
+        ensures only { (wanted : EditionValue) → Spells (editions (recovered_standing self.old)) wanted bytes.now
+            → IsUnlessMemory edition_value result wanted }
+    {
+        self.take_whole(alloc, bytes)
+    }
+
+    // The edition that all of the bytes tell, with its changes carried out.
+    fn take_whole(&mut self, alloc: Global, bytes: &[u8]) -> Result<ReadEdition, ReadFault>
+        ensures told { Gives edition_value result
+            (read_whole (editions (recovered_standing self.old)) bytes.now) }
+        ensures carried { IfOk result (λ found. recovered_standing self.new
+            ≡ carried_out (recovered_standing self.old) (edition_value found)) }
+    {
+        if bytes.len() >= 1 << 32 {
+            return Err(ReadFault::Bad);
+        }
+        let (front, rest) = edition_front(alloc, &self.standing(), bytes)?;
+        let (changes, left) = take_changes(alloc, &mut self.set, front.lists.count, rest)?;
+        let edition = told(alloc, &self.standing(), edition_behind(front, changes))?;
+        if !left.is_empty() {
+            return Err(ReadFault::Bad);
+        }
+        Ok(edition)
+    }
+
+    /// Goes on behind the edition whose record was taken, and gives its changes. Takes no memory.
+    pub fn settle(&mut self, edition: ReadEdition) -> Items<Change>
+        ensures settled { recovered_standing self.new
+            ≡ settled (recovered_standing self.old) (edition_value edition) }
+        ensures changes { result ≡ edition.changes }
+    {
+        let ReadEdition {
+            serial,
+            moment,
+            cut,
+            rows,
+            changes,
+        } = edition;
+        self.stand_at(serial, moment, cut, rows);
+        changes
+    }
+
+    // Goes on behind an edition whose changes are carried out.
+    fn stand_at(&mut self, serial: u64, moment: u64, cut: Items<u64>, rows: Items<KeyRow>)
+        ensures { self.new ≡ record self.old {
+          serial = serial;
+          moment = moment;
+          cut = cut;
+          rows = map row_value rows;
+        } }
+    {
         self.serial = serial;
         self.moment = moment;
         self.cut = cut;
         self.rows = rows;
-        Ok(())
     }
 
     /// What stands, by its parts.
@@ -119,7 +191,11 @@ impl Recovered {
 
 // Changes, none of which is refused.
 #[tactic(auto, using(crate::proofs::Applying::same_contents))]
-fn carry_out(alloc: Global, set: &mut ObjectSet, changes: Vec<Change>) -> Result<(), AllocError>
+pub(crate) fn carry_out(
+    alloc: Global,
+    set: &mut ObjectSet,
+    changes: Vec<Change>,
+) -> Result<(), AllocError>
     requires { first_refusal [] (content_at set.old) changes.items ≡ None }
     ensures done { OnOk result (content_at set.new ≡ after_all (content_at set.old) changes.items) }
     ensures kept { OnErr result (set.new ≡ set.old) }
