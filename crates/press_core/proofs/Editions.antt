@@ -376,23 +376,22 @@ abbrev pub OneSet : Type 0
 OneSet = (a b : List Object) → IsAscending a → IsAscending b → ((uri : List ℕ) → content_at a uri ≡ content_at b uri) → a ≡ b
 
 -- An edition more, whose delta was taken in.
-pub taken-in : OneSet → (resuming kept : Kept) (left new : RecoveredValue) (edition : ReadEdition) (set : List Object) (next : NextDelta)
-    → recovered_standing new ≡ after_edition (recovered_standing left) (read_value edition)
-    → ((uri : List ℕ) → content_at set uri ≡ content_at new.objects uri) → IsAscending set → next ≡ next_delta resuming.session (resuming.serial + 1) set edition.changes
+pub taken-in : OneSet → (resuming kept : Kept) (held : Contents) (edition : ReadEdition) (set : List Object) (next : NextDelta)
+    → ((uri : List ℕ) → content_at set uri ≡ held uri) → IsAscending set → next ≡ next_delta resuming.session (resuming.serial + 1) set edition.changes
     → ((repository : Repository) (told : ℕ) (older : List rrdp.Edition) (one : rrdp.Edition) → IsToldBy repository told older resuming
     → FollowEachOther (one ∷ older) → set ≡ one.objects → next ≡ edition_delta repository.session older one
     → IsToldBy repository (told + 1) (one ∷ older) kept)
-    → (repository : Repository) (count : ℕ) (before : List Edition) → ((uri : List ℕ) → content_at left.objects uri ≡ set_after before uri)
+    → (repository : Repository) (count : ℕ) (before : List Edition) → ((uri : List ℕ) → held uri ≡ after_all (set_after before) edition.changes uri)
     → IsToldBy repository count (rrdp_editions before) resuming
     → IsToldBy repository (count + 1) (rrdp_editions (before ++ edition_read edition ∷ [])) kept
-taken-in one resuming kept left new edition set next done same up delta advance repository count before stood is =
+taken-in one resuming kept held edition set next same up delta advance repository count before stood is =
     let older = rrdp_editions before in
     let added = told older (edition_read edition) in
     let longer = behind_told before (edition_read edition) in
     let follow : FollowEachOther (added ∷ older) = subst FollowEachOther longer (follow_told (before ++ edition_read edition ∷ [])) in
-    let held : (uri : List ℕ) → content_at left.objects uri ≡ content_at (objects_of older) uri = λ uri. stood uri ∙ sym (leave_told before uri) in
+    let was : (uri : List ℕ) → set_after before uri ≡ content_at (objects_of older) uri = λ uri. sym (leave_told before uri) in
     let stands : set ≡ added.objects = one set added.objects up follow.0
-    (λ uri. same uri ∙ ap (λ (s : StandingValue). s.set uri) done ∙ ap (λ (h : Contents). after_all h edition.changes uri) (λ i u. held u i) ∙ sym (follow.1 uri)) in
+    (λ uri. same uri ∙ stood uri ∙ ap (λ (h : Contents). after_all h edition.changes uri) (λ i u. was u i) ∙ sym (follow.1 uri)) in
     subst (λ (es : List rrdp.Edition). IsToldBy repository (count + 1) es kept) (sym longer)
     (advance repository count older added is follow stands
     (delta ∙ ap (λ (k : Kept). next_delta k.session (k.serial + 1) set edition.changes) is.state

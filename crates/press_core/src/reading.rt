@@ -1,10 +1,11 @@
 //! The editions of a press's journal, read one after another.
 
-ghost use Rattle.std.specs.Prelude.{◌≡◌, ◌<◌, ◌+◌, ◌-◌, ◌++◌, ◌∷◌, [], ℕ, List, length, IfOk, IfErr, OnOk};
+ghost use Rattle.std.specs.Prelude.{◌≡◌, ◌<◌, ◌≤◌, ◌^◌, ◌+◌, ◌-◌, ◌++◌, ◌∷◌, [], ℕ, List, length, IfOk, IfErr, OnOk};
 ghost use Rattle.record_forms.specs.Form.{AreBytes};
-ghost use Rattle.press_records.specs.Edition.{nothing_stands, after_edition, editions};
+ghost use Rattle.press_records.specs.Edition.{nothing_stands, carried_out, settled};
 ghost use Rattle.press_records.specs.Views.{recovered_standing, edition_value as read_value};
 ghost use Rattle.pub_set.specs.Objects.{content_at};
+ghost use Rattle.pub_set.specs.Changes.{after_all};
 ghost use Rattle.editions.specs.Edition.{Edition, set_after};
 ghost use Rattle.rrdp_state.specs.Exported.{Repository};
 ghost use Rattle.rrdp_state.specs.Resuming.{IsToldBy};
@@ -15,8 +16,8 @@ use crate::loading::{LoadFault, bad};
 use disk_api::Disk;
 use gate_journal::Journal;
 use key_ids::Site;
-use press_records::{ReadEdition, Recovered, read_edition};
-use pub_set::{Change, same_contents_same_set};
+use press_records::{ReadEdition, Recovered};
+use pub_set::same_contents_same_set;
 use rrdp_state::{Resuming, TELLING_EDITIONS};
 use std::alloc::{AllocError, Global};
 use uuid::Uuid;
@@ -45,10 +46,11 @@ pub(crate) fn read_editions<D: Disk>(
 {
     let last = journal.count() - 1;
     let older = last.saturating_sub(TELLING_EDITIONS);
+    let mut buffer = Vec::new(alloc);
     let mut left = Recovered::new(alloc);
-    read_older(alloc, journal, &mut left, older)?;
+    read_older(alloc, journal, &mut buffer, &mut left, older)?;
     let mut resuming = Resuming::behind(alloc, session, site, older)?;
-    read_newest(alloc, journal, &mut left, &mut resuming, older)?;
+    read_newest(alloc, journal, &mut buffer, &mut left, &mut resuming, older)?;
     Ok(ReadEditions { left, resuming })
 }
 
@@ -56,6 +58,7 @@ pub(crate) fn read_editions<D: Disk>(
 fn read_older<D: Disk>(
     alloc: Global,
     journal: &mut Journal<D>,
+    buffer: &mut Vec<u8>,
     left: &mut Recovered,
     older: u64,
 ) -> Result<(), LoadFault>
@@ -68,8 +71,8 @@ fn read_older<D: Disk>(
     ensures still_open { OnOk result (IsOpened D.Disk journal.new) }
 {
     for count in 0..older {
-        let edition = next_edition(alloc, journal, left, count + 1)?;
-        left.advance(alloc, edition)?;
+        let edition = next_edition(alloc, journal, buffer, left, count + 1)?;
+        let _changes = left.settle(edition);
     }
     Ok(())
 }
@@ -78,6 +81,7 @@ fn read_older<D: Disk>(
 fn read_newest<D: Disk>(
     alloc: Global,
     journal: &mut Journal<D>,
+    buffer: &mut Vec<u8>,
     left: &mut Recovered,
     resuming: &mut Resuming,
     older: u64,
@@ -93,30 +97,35 @@ fn read_newest<D: Disk>(
 {
     let last = journal.count() - 1;
     for count in older..last {
-        let edition = next_edition(alloc, journal, left, count + 1)?;
+        let edition = next_edition(alloc, journal, buffer, left, count + 1)?;
         take_in(alloc, left, resuming, edition)?;
     }
     Ok(())
 }
 
-// The edition whose record has that index. It lets go of the record.
+// The edition whose record has that index, with its changes carried out. All records are read into one
+// buffer, so that no block of that size is let go of in between.
 fn next_edition<D: Disk>(
     alloc: Global,
     journal: &mut Journal<D>,
-    left: &Recovered,
+    buffer: &mut Vec<u8>,
+    left: &mut Recovered,
     index: u64,
 ) -> Result<ReadEdition, LoadFault>
     requires opened { IsOpened D.Disk journal.old }
     requires within { index < length journal.old.sizes }
-    ensures edition { IfOk result (λ edition. IsEditionAt journal.old.records index (recovered_standing left.now) (read_value edition)) }
-    ensures refused { IfErr result (IsStop D.Disk (IsNoneAt journal.old.records index (recovered_standing left.now))
+    ensures edition { IfOk result (λ edition. IsEditionAt journal.old.records index (recovered_standing left.old) (read_value edition)) }
+    ensures carried { IfOk result (λ edition. recovered_standing left.new
+        ≡ carried_out (recovered_standing left.old) (read_value edition)) }
+    ensures refused { IfErr result (IsStop D.Disk (IsNoneAt journal.old.records index (recovered_standing left.old))
         journal.old.disk journal.new.disk) }
     ensures journal { IsRead D.Disk journal.old journal.new }
     ensures still_open { OnOk result (IsOpened D.Disk journal.new) }
 {
-    let bytes = journal.record(alloc, index)?;
-    are_bytes(&bytes);
-    match read_edition(alloc, &left.standing(), &bytes) {
+    journal.record_into(index, buffer)?;
+    let bytes = buffer.as_slice();
+    are_bytes(bytes);
+    match left.take_record(alloc, bytes) {
         Ok(edition) => Ok(edition),
         Err(fault) => Err(bad(fault, index)),
     }
@@ -127,42 +136,29 @@ fn are_bytes(bytes: &[u8])
     ensures { AreBytes bytes.now }
 {}
 
-// Carries the edition out, with its delta.
+// Goes on behind an edition whose changes are carried out, with its delta.
 fn take_in(
     alloc: Global,
     left: &mut Recovered,
     resuming: &mut Resuming,
     edition: ReadEdition,
 ) -> Result<(), AllocError>
-    requires good { (editions (recovered_standing left.old)).good (read_value edition) }
-    requires serial { resuming.old.serial ≡ left.old.serial }
+    requires serial { edition.serial ≡ resuming.old.serial + 1 }
+    requires small { edition.serial ≤ 2 ^ 63 }
     ensures left { OnOk result (recovered_standing left.new
-        ≡ after_edition (recovered_standing left.old) (read_value edition)) }
+        ≡ settled (recovered_standing left.old) (read_value edition)) }
     ensures told { OnOk result ((repository : Repository) (told : ℕ) (before : List Edition)
-        → ((uri : List ℕ) → content_at left.old.objects uri ≡ set_after before uri)
+        → ((uri : List ℕ) → content_at left.old.objects uri ≡ after_all (set_after before) edition.changes uri)
         → IsToldBy repository told (rrdp_editions before) resuming.old
         → IsToldBy repository (told + 1) (rrdp_editions (before ++ edition_read edition ∷ [])) resuming.new) }
     ensures counted { OnOk result (resuming.new.serial ≡ resuming.old.serial + 1) }
 {
     same_contents_same_set();
-    let changes = copies(alloc, edition.changes.as_slice())?;
-    left.advance(alloc, edition)?;
+    let changes = left.settle(edition);
     let set = left.standing().set;
     // Its objects are by rising URI.
     let _objects = set.as_slice();
-    let next = resuming.next(alloc, set, &changes)?;
+    let next = resuming.next(alloc, set, changes.as_slice())?;
     resuming.advance(next, set);
     Ok(())
-}
-
-// The same changes in memory of their own: the edition's are moved into the set before its delta is
-// weighed against the snapshot of what then stands.
-fn copies(alloc: Global, changes: &[Change]) -> Result<Vec<Change>, AllocError>
-    ensures { IfOk result (λ copies. copies.items ≡ changes.now) }
-{
-    let mut copies = Vec::with_capacity(alloc, changes.len())?;
-    for change in changes {
-        copies.push(change.copy(alloc)?)?;
-    }
-    Ok(copies)
 }

@@ -44,7 +44,7 @@ pub fn table_of(alloc: Global, set: &ObjectSet) -> Result<Vec<IssuedRow>, AllocE
     ensures { IfOk result (λ rows. AllZip IsRowFor set.now rows.items) }
 {
     let objects = set.as_slice();
-    let mut rows = Vec::new(alloc);
+    let mut rows = Vec::with_capacity(alloc, objects.len())?;
     for object in objects {
         rows.push(row_of(alloc, object)?)?;
     }

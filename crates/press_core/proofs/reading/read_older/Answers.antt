@@ -1,5 +1,6 @@
-use Rattle.std.proofs.Common.{ℕ, ◌+◌, List, Option, subst, arith}
+use Rattle.std.proofs.Common.{ℕ, ◌+◌, List, Option, ap, ◌∙◌, subst, arith}
 use Rattle.std.proofs.lemmas.Result.{err_from_is_err_and}
+use Rattle.press_records.specs.Edition.{StandingValue, settled}
 use Rattle.press_records.specs.Views.{recovered_standing, edition_value as read_value}
 use Rattle.press_core.specs.inner.Loads.{IsEditionAt}
 use Rattle.press_core.proofs.Editions.{read-more, read-on, records-on, step-stop}
@@ -20,10 +21,10 @@ loop-count-preserved g c =
     let left = c.loop-count.left in
     let edition = c.in_ok-edition.edition in
     record {
-      read = read-more c.args.journal.now.records count left c.advance.new.self edition so_far.read
+      read = read-more c.args.journal.now.records count left c.settle-changes.new.self edition so_far.read
           (subst (λ (r : Option (List (List ℕ))). IsEditionAt r (count + 1) (recovered_standing left) (read_value edition))
           (records-on g.D.Disk c.args.journal.now c.loop-count.journal so_far.journal) c.in_ok-edition.ensures.edition)
-          c.in_ok-advance.ensures.done;
+          (c.settle-changes.ensures.settled ∙ ap (λ (s : StandingValue). settled s (read_value edition)) c.in_ok-edition.ensures.carried);
       journal = read-on g.D.Disk c.args.journal.now c.loop-count.journal c.next_edition.new.journal so_far.journal c.in_ok-edition.ensures.journal;
       opened = c.in_ok-edition.ensures.still_open;
       within = omega (arith, c.loop-count-test.true);
