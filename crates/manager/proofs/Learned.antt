@@ -27,7 +27,7 @@ listed_of signers place desk at is =
       signed = subst (λ (s : Settings). All (λ (name : NameRow). name.signer < signers) s.names) is.has.fold is.signed;
     })
 
-seen_long : (signers number : ℕ) (lists : List (List Command)) (seats : List FollowerSeat) → AreListsOf signers number lists (map (λ (seat : FollowerSeat). seat.seen) seats) → length lists ≡ length seats
+pub seen_long : (signers number : ℕ) (lists : List (List Command)) (seats : List FollowerSeat) → AreListsOf signers number lists (map (λ (seat : FollowerSeat). seat.seen) seats) → length lists ≡ length seats
 seen_long signers number [] [] are = refl
 seen_long signers number [] (seat ∷ seats) are = absurd are
 seen_long signers number (list ∷ lists) [] are = absurd are

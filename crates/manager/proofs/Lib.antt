@@ -12,3 +12,15 @@ pub mod Learned
 pub mod Readying
 pub mod Pressed
 pub mod Refused
+pub mod Placed
+pub mod Knowing
+pub mod Taking
+pub mod Making
+pub mod Reading
+pub mod Seating
+pub mod Ending
+pub mod Commanded
+pub mod Gathering
+pub mod Publishing
+pub mod Ends
+pub mod Starting

@@ -94,7 +94,7 @@ seen_set signers number (l ∷ lists) (s ∷ seats) (suc place) at seat list her
     (all.0, seen_set signers (suc number) lists seats place at seat list (omega (arith, here)) is all.1)
 
 -- the list of the desk at a place
-list_there : (signers number : ℕ) (lists : List (List Command)) (seats : List FollowerSeat) (place at : ℕ) → at ≡ number + place → place < length seats
+pub list_there : (signers number : ℕ) (lists : List (List Command)) (seats : List FollowerSeat) (place at : ℕ) → at ≡ number + place → place < length seats
     → AreListsOf signers number lists (map seen_of seats) → Records at (seat_at seats place).seen (get_or lists place [])
 list_there signers number [] [] place at here within all = absurd (omega (arith, within))
 list_there signers number [] (s ∷ seats) place at here within all = absurd all
@@ -106,6 +106,12 @@ list_there signers number (l ∷ lists) (s ∷ seats) (suc place) at here within
 
 -- ---- what was made
 
+-- each edition takes in no more than there is
+pub held_at : (lists : List (List Command)) (before : List Edition) (run : List Stood) (k : ℕ) (d : Stood) → k < length run → AreAfter lists before run → (desk : ℕ) → cut_at (get_or run k d).edition.cut desk ≤ length (get_or lists desk [])
+held_at lists before [] k d within all desk = absurd (omega (arith, within))
+held_at lists before (stood ∷ run) zero d within all desk = subst (λ (cut : List ℕ). cut_at cut desk ≤ length (get_or lists desk [])) all.0.cut (all.0.left.taken_in desk)
+held_at lists before (stood ∷ run) (suc k) d within all desk = held_at lists (before ++ stood.edition ∷ []) run k d (omega (arith, within)) all.1 desk
+
 module _ (more_left : MoreLeft) (more_stand : MoreStand) (stay : StayPublished) (named : Named) (less more : List (List Command)) (are : AreMore less more) where
   after_set : (before : List Edition) (run : List Stood) → AreAfter less before run → AreAfter more before run
   after_set before [] all = tt
@@ -114,18 +120,12 @@ module _ (more_left : MoreLeft) (more_stand : MoreStand) (stay : StayPublished) 
     after_set (before ++ stood.edition ∷ []) run all.1,
   )
 
-  -- each edition takes in no more than there is
-  held_at : (before : List Edition) (run : List Stood) (k : ℕ) (d : Stood) → k < length run → AreAfter less before run → (desk : ℕ) → cut_at (get_or run k d).edition.cut desk ≤ length (get_or less desk [])
-  held_at before [] k d within all desk = absurd (omega (arith, within))
-  held_at before (stood ∷ run) zero d within all desk = subst (λ (cut : List ℕ). cut_at cut desk ≤ length (get_or less desk [])) all.0.cut (all.0.left.taken_in desk)
-  held_at before (stood ∷ run) (suc k) d within all desk = held_at (before ++ stood.edition ∷ []) run k d (omega (arith, within)) all.1 desk
-
   premises_more : (vouched : Vouched) → IsMore (premises_of named less vouched) (premises_of named more vouched)
   premises_more vouched = record { lists = are; site = refl; vouched = λ key digest signature is. is }
 
   published_set : (before : List Edition) (run : List Stood) (vouched : Vouched) → AreAfter less before run → ArePublished (premises_of named less vouched) run → ArePublished (premises_of named more vouched) run
   published_set before run vouched after' all k d within =
-      stay (premises_of named less vouched) more (get_or run k d).edition (content_at (get_or run k d).at.set) are (held_at before run k d within after') (all k d within)
+      stay (premises_of named less vouched) more (get_or run k d).edition (content_at (get_or run k d).at.set) are (held_at less before run k d within after') (all k d within)
 
   made_set : (run : List Stood) (calls : List Call) (ring : List SignerState) (at : PublishedStateValue) → AreMade named less run calls ring at → AreMade named more run calls ring at
   made_set run calls ring at is = record {

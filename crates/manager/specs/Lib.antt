@@ -7,3 +7,11 @@ pub mod Opening
 pub mod Pressing
 pub mod Answers
 pub mod Closing
+pub mod Passes
+pub mod Commanding
+pub mod Reading
+pub mod Ended
+pub mod Publishing
+pub mod Ends
+pub mod Starting
+pub mod inner

@@ -2,6 +2,7 @@
 
 ghost use Rattle.std.specs.Prelude.{◌≡◌, ◌≢◌, ◌<◌, ◌≤◌, ◌&&◌, ℕ, List, length, slice_set, is_some, not, IfOk, IfErr, IfSome, OnOk, OnErr};
 ghost use Rattle.authority_book.specs.declared.commands.Command.{Command};
+ghost use Rattle.authority_book.specs.Verdict.{most_authorities};
 ghost use mathlib.Core.List.{IsPrefix};
 ghost use Rattle.manager.specs.Lists.{AreSeen, seat_at};
 ghost use Rattle.desk_core.specs.Commands.{HasCommands};
@@ -83,6 +84,15 @@ impl<N: Names, D: Disk, S: Signer, O: Outlet> LockedPress<N, D, S, O> {
             board,
             outlet,
         }
+    }
+
+    /// How many desks there are: each has a follower, and a number in the cut.
+    pub fn desks(&self) -> usize
+        ensures count { result ≡ most_authorities }
+        ensures followers { length self.now.seats ≡ most_authorities }
+        ensures cut { length self.now.press.press.at.cut ≡ most_authorities }
+    {
+        self.followers.len()
     }
 
     /// Sees the whole list of a desk, whose lock is held.

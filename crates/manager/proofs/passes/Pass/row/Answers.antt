@@ -1,0 +1,13 @@
+use Rattle.std.proofs.Common.{◌∙◌, ap, subst}
+use mathlib.Core.List.{IsPrefix}
+use Rattle.manager.specs.Passes.{PassValue}
+use Rattle.manager.proofs.passes.Pass.row.Goals as goal
+
+pub invariant_of-self : goal.invariant_of-self
+invariant_of-self g c = (c.self.invariant.0, c.self.invariant.1, c.row.ensures.list ∙ c.self.invariant.2, c.self.invariant.3)
+
+pub returns-clause-rest : goal.returns-clause-rest
+returns-clause-rest g c = ap (λ (p : PassValue). record p { shown = c.row.new.self.seen }) c.self.view_is
+
+pub returns-clause-grows : goal.returns-clause-grows
+returns-clause-grows g c = subst (λ (p : PassValue). IsPrefix p.shown c.row.new.self.seen) c.self.view_is c.row.ensures.seen

@@ -1,0 +1,121 @@
+//! Desks and press behind their locks, which sessions share.
+ghost use Rattle.std.specs.Prelude.{◌≡◌, ◌⊎◌, ◌≤◌, List, IfOk, IfErr};
+ghost use mathlib.Core.List.{IsPrefix};
+ghost use Rattle.commit_word.specs.Seats.{FollowerSeat};
+ghost use Rattle.notice_board.specs.Lists.{last_serial};
+ghost use Rattle.manager.specs.Passes.{HasLearned};
+ghost use Rattle.manager.specs.Answers.{IsAnswered, IsNotPublished};
+ghost use Rattle.manager.specs.Publishing.{IsUngathered, IsMetAt};
+
+use crate::{LockedDesks, LockedPress, Names, Pass, PublishFault, Unmade};
+use disk_api::Disk;
+use editions::PublishedNumbers;
+use outlet_api::Outlet;
+use press_core::PrepareFault;
+use signer_api::Signer;
+use std::alloc::Global;
+use std::sync::{Mutex, MutexGuard, Wait};
+
+/// The desks behind their locks, and the press behind its own. Sessions share it, and each hands its pass to the
+/// calls.
+pub struct Manager<N: Names, D: Disk, S: Signer, O: Outlet> {
+    desks: LockedDesks<N, D>,
+    press: Mutex<LockedPress<N, D, S, O>>,
+}
+
+impl<N: Names, D: Disk, S: Signer, O: Outlet> Manager<N, D, S, O> {
+    /// A manager of these desks and this press.
+    pub fn over(desks: LockedDesks<N, D>, press: LockedPress<N, D, S, O>) -> Manager<N, D, S, O> {
+        Manager {
+            desks,
+            press: Mutex::new(press),
+        }
+    }
+
+    /// The desks: commands go to them, and reads.
+    pub fn desks(&self) -> &LockedDesks<N, D> {
+        &self.desks
+    }
+
+    /// Looks at the board, and answers the serial of the edition that is shown. It waits for nobody.
+    pub fn look(&self, pass: &mut Pass<N>) -> u64
+        ensures rest { pass.new ≡ record pass.old { shown = pass.new.shown } }
+        ensures grows { IsPrefix pass.old.shown pass.new.shown }
+        ensures serial { result ≡ last_serial pass.new.shown }
+        ensures never_falls { last_serial pass.old.shown ≤ result }
+    {
+        pass.look()
+    }
+
+    /// Publishes all that the desks have accepted, which is no less than the pass has seen, and shows it to the
+    /// pass. `now` is in seconds since 1970.
+    ///
+    /// The press's lock is held throughout. Each desk's lock is taken while its commands are gathered and given
+    /// back before the next: so a command waits for no signature.
+    pub fn publish<R: Wait>(
+        &self,
+        rt: &R,
+        alloc: Global,
+        pass: &mut Pass<N>,
+        now: u64,
+    ) -> Result<PublishedNumbers, PublishFault<D, O>>
+        ensures learned { HasLearned pass.old pass.new }
+        ensures published { IfOk result (λ told. IsAnswered told pass.old.seats pass.new.shown) }
+        ensures moment { IfOk result (λ told. now ≤ told.moment) }
+        ensures refused { IfErr result (IsNotPublished pass.old.seats pass.new.shown) }
+        ensures cause { IfErr result (λ fault. IsUngathered fault ⊎ IsMetAt D.Disk now fault) }
+    {
+        let mut guard = self.press.lock(rt);
+        let published = self.publish_held(rt, alloc, &mut *guard, pass, now);
+        MutexGuard::unlock(guard);
+        published
+    }
+
+    // Publishes with the press, whose lock is held.
+    fn publish_held<R: Wait>(
+        &self,
+        rt: &R,
+        alloc: Global,
+        press: &mut LockedPress<N, D, S, O>,
+        pass: &mut Pass<N>,
+        now: u64,
+    ) -> Result<PublishedNumbers, PublishFault<D, O>>
+        ensures learned { HasLearned pass.old pass.new }
+        ensures published { IfOk result (λ told. IsAnswered told pass.old.seats pass.new.shown) }
+        ensures moment { IfOk result (λ told. now ≤ told.moment) }
+        ensures refused { IfErr result (IsNotPublished pass.old.seats pass.new.shown) }
+        ensures cause { IfErr result (λ fault. IsUngathered fault ⊎ IsMetAt D.Disk now fault) }
+    {
+        let gathered = match self.desks.gather(rt, alloc, press, pass) {
+            Ok(gathered) => gathered,
+            Err(_) => return Err(ungathered(rt, press, pass)),
+        };
+        pass.publish(rt, alloc, press, now, gathered)
+    }
+
+    /// The desks, and the press out of its lock, once no other thread has them.
+    pub(crate) fn into_parts(self) -> (LockedDesks<N, D>, LockedPress<N, D, S, O>) {
+        let Manager { desks, press } = self;
+        (desks, press.into_inner())
+    }
+}
+
+// Memory ran out while the desks were gathered.
+fn ungathered<N: Names, D: Disk, S: Signer, O: Outlet, R: Wait>(
+    rt: &R,
+    press: &mut LockedPress<N, D, S, O>,
+    pass: &mut Pass<N>,
+) -> PublishFault<D, O>
+    ensures rest { pass.new ≡ record pass.old { shown = pass.new.shown } }
+    ensures grows { IsPrefix pass.old.shown pass.new.shown }
+    ensures refused { (known : List FollowerSeat) → IsNotPublished known pass.new.shown result }
+    ensures cause { IsUngathered result }
+{
+    pass.tell(rt, press);
+    PublishFault::Unmade {
+        serial: press.serial(),
+        fault: Unmade::Unprepared {
+            fault: PrepareFault::Memory,
+        },
+    }
+}

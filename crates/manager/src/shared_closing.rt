@@ -1,0 +1,39 @@
+//! Desks and press out of their locks again, once no other thread has them.
+ghost use Rattle.std.specs.Prelude.{◌≡◌, ◌≤◌, [], vec_capacity};
+ghost use Rattle.authority_book.specs.Verdict.{most_authorities};
+ghost use Rattle.manager.specs.Ended.{AreEnded};
+ghost use Rattle.manager.specs.Ends.{AreEnds};
+
+use crate::{Closed, Manager, Names, Pass};
+use desk_core::Desk;
+use disk_api::Disk;
+use outlet_api::Outlet;
+use signer_api::Signer;
+use std::alloc::Global;
+use std::sync::Wait;
+
+impl<N: Names, D: Disk, S: Signer, O: Outlet> Manager<N, D, S, O> {
+    /// Puts the desks into an empty list with room for them, by their numbers, and hands back what the press had.
+    /// The pass is the one that all others were joined into.
+    ///
+    /// It waits for ever where a pass is missing that made a command.
+    pub fn close<R: Wait>(
+        self,
+        rt: &R,
+        alloc: Global,
+        pass: Pass<N>,
+        into: &mut Vec<Desk<D>>,
+    ) -> Closed<N, D, S, O>
+        requires empty { into.old.items ≡ [] }
+        requires room { most_authorities ≤ vec_capacity into.old }
+        ensures ended { AreEnded pass.seats into.new.items }
+        ensures ends { AreEnds D.Disk O.Outlet N.named into.new.items result.disk result.ring result.outlet }
+    {
+        let (desks, press) = self.into_parts();
+        let mut press = press;
+        let mut pass = pass;
+        desks.learn_all(rt, alloc, &mut press, &mut pass);
+        desks.close(rt, alloc, pass, into);
+        press.close(rt)
+    }
+}
