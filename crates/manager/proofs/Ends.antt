@@ -16,7 +16,7 @@ use Rattle.manager.specs.Passes.{KnowsMore}
 use Rattle.manager.specs.Locked.{LockedValue}
 use Rattle.manager.specs.Closing.{IsClosed}
 use Rattle.manager.specs.Ended.{IsAllMade, AreEnded}
-use Rattle.manager.specs.Ends.{IsHeld, AreEnds}
+use Rattle.manager.specs.Ends.{IsHeld, HaveSeen, AreEnds}
 use Rattle.manager.specs.inner.Gathering.{SeeAlike}
 use Rattle.manager.proofs.Since.{long_at}
 use Rattle.manager.proofs.More.{held_at}
@@ -38,17 +38,14 @@ ended_before old new desks more are = record {
 }
 
 -- each desk's list begins with what its follower has seen
-abbrev pub Begin : {D : Type 0} → List FollowerSeat → List (View D) → Type 0
-Begin seats desks = (place : ℕ) (desk : View _) → slice_get desks place ≡ Some desk → IsPrefix (seat_at seats place).seen desk.records
-
-pub they_begin : {D : Type 0} (seats pass : List FollowerSeat) (desks : List (View D)) → SeeAlike seats pass → AreEnded pass desks → Begin seats desks
+pub they_begin : {D : Type 0} (seats pass : List FollowerSeat) (desks : List (View D)) → SeeAlike seats pass → AreEnded pass desks → HaveSeen seats desks
 they_begin seats pass desks alike are place desk there =
     let begins : IsPrefix (seat_at pass place).seen (get_or desks place desk).records = (are.each place desk (slice_get_within desks place desk there)).begins in
     let same : get_or desks place desk ≡ desk = get_or_from_slice_get desks place desk desk there in
     subst (λ (d : View _). IsPrefix (seat_at seats place).seen d.records) same
     (subst (λ (l : List (List ℕ)). IsPrefix l (get_or desks place desk).records) (sym (alike place)) begins)
 
-module _ {D : Type 0} (signers : ℕ) (lists : List (List Command)) (seats : List FollowerSeat) (desks : List (View D)) (seen : AreSeen signers lists seats) (begin : Begin seats desks) where
+module _ {D : Type 0} (signers : ℕ) (lists : List (List Command)) (seats : List FollowerSeat) (desks : List (View D)) (seen : AreSeen signers lists seats) (begin : HaveSeen seats desks) where
   -- what no list passes, no desk's list does
   pub held : (cut : List ℕ) → ((desk : ℕ) → cut_at cut desk ≤ length (get_or lists desk [])) → IsHeld desks cut
   held cut taken place desk there =
@@ -58,7 +55,7 @@ module _ {D : Type 0} (signers : ℕ) (lists : List (List Command)) (seats : Lis
       omega (arith, long, more, within)
 
 pub ends_are : {D O : Type 0} (disk_of : DiskGhosts D) (outlet_of : OutletGhosts O) (named : Named) (locked : LockedValue D O) (desks : List (View D)) (disk : D) (ring : List SignerState) (outlet : O)
-    → IsClosed disk_of outlet_of named locked → Begin locked.seats desks → disk ≡ locked.press.journal.disk → ring ≡ locked.press.press.ring → outlet ≡ locked.outlet
+    → IsClosed disk_of outlet_of named locked → HaveSeen locked.seats desks → disk ≡ locked.press.journal.disk → ring ≡ locked.press.press.ring → outlet ≡ locked.outlet
     → AreEnds disk_of outlet_of named desks disk ring outlet
 ends_are disk_of outlet_of named locked desks disk ring outlet closed begin disk_is ring_is outlet_is =
     let is = closed.is.is in
@@ -69,6 +66,7 @@ ends_are disk_of outlet_of named locked desks disk ring outlet closed begin disk
       disk_is = disk_is;
       ring_is = ring_is;
       outlet_is = outlet_is;
+      seen = begin;
       stands = hold locked.press.press.at.cut is.made.left.taken_in;
       run = λ k d below. hold (get_or closed.is.run k d).edition.cut (held_at closed.is.lists named.editions closed.is.run k d below is.made.after);
       doubt = λ entry doubted. hold doubted.prepared.next.cut doubted.left.taken_in;

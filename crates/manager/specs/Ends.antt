@@ -1,11 +1,14 @@
 -- What desks and press come to, once no other thread has them.
 use Rattle.std.specs.Prelude.{◌≡◌, ◌≤◌, ℕ, List, Some, All, length, slice_get}
+use mathlib.Core.List.{IsPrefix}
 use Rattle.disk_api.specs.declared.disk.Disk.{Ghosts as DiskGhosts}
 use Rattle.outlet_api.specs.declared.outlet.Outlet.{Ghosts as OutletGhosts}
 use Rattle.signer_api.specs.State.{SignerState}
+use Rattle.commit_word.specs.Seats.{FollowerSeat}
 use Rattle.desk_core.specs.View.{View}
 use Rattle.editions.specs.Edition.{cut_at}
 use Rattle.manager.specs.Named.{Named}
+use Rattle.manager.specs.Lists.{seat_at}
 use Rattle.manager.specs.Locked.{LockedValue, IsInDoubt}
 use Rattle.manager.specs.Closing.{IsClosed}
 
@@ -14,8 +17,14 @@ abbrev pub IsHeld : {D : Type 0} → List (View D) → List ℕ → Type 0
 IsHeld {D = D} desks cut =
     (place : ℕ) (desk : View D) → slice_get desks place ≡ Some desk → cut_at cut place ≤ length desk.records
 
--- The press stood so behind its lock, and its disk holds what it held then. Neither the edition that
--- stands nor any other of this run takes in a command that its desk hasn't, and so of one in doubt.
+-- Each desk's list begins with what its follower has seen.
+abbrev pub HaveSeen : {D : Type 0} → List FollowerSeat → List (View D) → Type 0
+HaveSeen {D = D} seats desks = (place : ℕ) (desk : View D) → slice_get desks place ≡ Some desk
+    → IsPrefix (seat_at seats place).seen desk.records
+
+-- The press stood so behind its lock, and its disk holds what it held then. The lists over which its
+-- editions were made are what the desks' lists begin with. So neither the edition that stands nor any
+-- other of this run takes in a command that its desk hasn't, and so of one in doubt.
 pub record AreEnds {D O : Type 0} (disk_of : DiskGhosts D) (outlet_of : OutletGhosts O)
     (named : Named) (desks : List (View D)) (disk : D) (ring : List SignerState) (outlet : O)
     : Type 0 where
@@ -24,6 +33,7 @@ pub record AreEnds {D O : Type 0} (disk_of : DiskGhosts D) (outlet_of : OutletGh
   pub disk_is : disk ≡ locked.press.journal.disk
   pub ring_is : ring ≡ locked.press.press.ring
   pub outlet_is : outlet ≡ locked.outlet
+  pub seen : HaveSeen locked.seats desks
   pub stands : IsHeld desks locked.press.press.at.cut
   pub run : All (λ stood. IsHeld desks stood.edition.cut) closed.is.run
   pub doubt : (entry : List ℕ) (doubted : IsInDoubt named closed.is.lists closed.is.run
