@@ -1,6 +1,5 @@
 -- What desks and press come to, once no other thread has them.
 use Rattle.std.proofs.Common.{◌≡◌, ℕ, ◌≤◌, List, [], length, get_or, sym, ◌∙◌, subst, arith}
-use Rattle.std.specs.Prelude.{Some, slice_get}
 use Rattle.std.proofs.lemmas.Option.{slice_get_within, get_or_from_slice_get}
 use mathlib.Core.List.{IsPrefix}
 use Rattle.disk_api.specs.declared.disk.Disk.{Ghosts as DiskGhosts}
@@ -9,6 +8,7 @@ use Rattle.signer_api.specs.State.{SignerState}
 use Rattle.authority_book.specs.declared.commands.Command.{Command}
 use Rattle.commit_word.specs.Seats.{FollowerSeat}
 use Rattle.desk_core.specs.View.{View}
+use Rattle.notice_board.specs.declared.shown.ShownEdition.{ShownEdition}
 use Rattle.editions.specs.Edition.{cut_at}
 use Rattle.manager.specs.Named.{Named}
 use Rattle.manager.specs.Lists.{AreSeen, seat_at}
@@ -54,10 +54,10 @@ module _ {D : Type 0} (signers : ℕ) (lists : List (List Command)) (seats : Lis
       let within = taken place in
       omega (arith, long, more, within)
 
-pub ends_are : {D O : Type 0} (disk_of : DiskGhosts D) (outlet_of : OutletGhosts O) (named : Named) (locked : LockedValue D O) (desks : List (View D)) (disk : D) (ring : List SignerState) (outlet : O)
-    → IsClosed disk_of outlet_of named locked → HaveSeen locked.seats desks → disk ≡ locked.press.journal.disk → ring ≡ locked.press.press.ring → outlet ≡ locked.outlet
-    → AreEnds disk_of outlet_of named desks disk ring outlet
-ends_are disk_of outlet_of named locked desks disk ring outlet closed begin disk_is ring_is outlet_is =
+pub ends_are : {D O : Type 0} (disk_of : DiskGhosts D) (outlet_of : OutletGhosts O) (named : Named) (locked : LockedValue D O) (shown : List ShownEdition) (desks : List (View D)) (disk : D) (ring : List SignerState) (outlet : O)
+    → IsClosed disk_of outlet_of named locked → IsPrefix shown locked.board.shown → HaveSeen locked.seats desks → disk ≡ locked.press.journal.disk → ring ≡ locked.press.press.ring → outlet ≡ locked.outlet
+    → AreEnds disk_of outlet_of named shown desks disk ring outlet
+ends_are disk_of outlet_of named locked shown desks disk ring outlet closed told begin disk_is ring_is outlet_is =
     let is = closed.is.is in
     let hold = held (length named.signers) closed.is.lists locked.seats desks is.seen begin in
     record {
@@ -66,6 +66,7 @@ ends_are disk_of outlet_of named locked desks disk ring outlet closed begin disk
       disk_is = disk_is;
       ring_is = ring_is;
       outlet_is = outlet_is;
+      shown = told;
       seen = begin;
       stands = hold locked.press.press.at.cut is.made.left.taken_in;
       run = λ k d below. hold (get_or closed.is.run k d).edition.cut (held_at closed.is.lists named.editions closed.is.run k d below is.made.after);

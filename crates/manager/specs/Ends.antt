@@ -7,6 +7,7 @@ use Rattle.signer_api.specs.State.{SignerState}
 use Rattle.commit_word.specs.Seats.{FollowerSeat}
 use Rattle.desk_core.specs.View.{View}
 use Rattle.editions.specs.Edition.{cut_at}
+use Rattle.notice_board.specs.declared.shown.ShownEdition.{ShownEdition}
 use Rattle.manager.specs.Named.{Named}
 use Rattle.manager.specs.Lists.{seat_at}
 use Rattle.manager.specs.Locked.{LockedValue, IsInDoubt}
@@ -23,16 +24,18 @@ HaveSeen {D = D} seats desks = (place : ℕ) (desk : View D) → slice_get desks
     → IsPrefix (seat_at seats place).seen desk.records
 
 -- The press stood so behind its lock, and its disk holds what it held then. The lists over which its
--- editions were made are what the desks' lists begin with. So neither the edition that stands nor any
+-- editions were made are what the desks' lists begin with; the editions that were seen are among those
+-- that it showed, which are the one found last and those of this run. So neither the edition that stands nor any
 -- other of this run takes in a command that its desk hasn't, and so of one in doubt.
 pub record AreEnds {D O : Type 0} (disk_of : DiskGhosts D) (outlet_of : OutletGhosts O)
-    (named : Named) (desks : List (View D)) (disk : D) (ring : List SignerState) (outlet : O)
+    (named : Named) (viewed : List ShownEdition) (desks : List (View D)) (disk : D) (ring : List SignerState) (outlet : O)
     : Type 0 where
   pub locked : LockedValue D O
   pub closed : IsClosed disk_of outlet_of named locked
   pub disk_is : disk ≡ locked.press.journal.disk
   pub ring_is : ring ≡ locked.press.press.ring
   pub outlet_is : outlet ≡ locked.outlet
+  pub shown : IsPrefix viewed locked.board.shown
   pub seen : HaveSeen locked.seats desks
   pub stands : IsHeld desks locked.press.press.at.cut
   pub run : All (λ stood. IsHeld desks stood.edition.cut) closed.is.run

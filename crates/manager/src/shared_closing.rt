@@ -27,12 +27,13 @@ impl<N: Names, D: Disk, S: Signer, O: Outlet> Manager<N, D, S, O> {
         requires empty { into.old.items ≡ [] }
         requires room { most_authorities ≤ vec_capacity into.old }
         ensures ended { AreEnded pass.seats into.new.items }
-        ensures ends { AreEnds D.Disk O.Outlet N.named into.new.items result.disk result.ring result.outlet }
+        ensures ends { AreEnds D.Disk O.Outlet N.named pass.shown into.new.items result.disk result.ring result.outlet }
     {
         let (desks, press) = self.into_parts();
         let mut press = press;
         let mut pass = pass;
         desks.learn_all(rt, alloc, &mut press, &mut pass);
+        pass.tell(rt, &mut press);
         desks.close(rt, alloc, pass, into);
         press.close(rt)
     }

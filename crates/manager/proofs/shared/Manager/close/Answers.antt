@@ -1,12 +1,31 @@
+use Rattle.std.proofs.Common.{List, sym, ap, subst}
+use mathlib.Core.List.{IsPrefix}
+use Rattle.commit_word.specs.Seats.{FollowerSeat}
+use Rattle.notice_board.specs.declared.shown.ShownEdition.{ShownEdition}
+use Rattle.manager.specs.Passes.{PassValue}
+use Rattle.manager.specs.Ended.{AreEnded}
+use Rattle.manager.specs.Locked.{LockedValue}
+use Rattle.manager.specs.inner.Gathering.{SeeAlike}
 use Rattle.manager.proofs.Ends.{ended_before, they_begin, ends_are}
 use Rattle.manager.proofs.shared.Manager.close.Goals as goal
 
 pub returns-clause-ended : goal.returns-clause-ended
-returns-clause-ended g c = ended_before c.args.pass.seats c.learn_all.new.pass.seats c.close.new.into.items c.learn_all.ensures.more c.close.ensures
+returns-clause-ended g c =
+    let seats = ap (λ (p : PassValue). p.seats) c.tell.ensures.rest in
+    ended_before c.args.pass.seats c.learn_all.new.pass.seats c.close.new.into.items c.learn_all.ensures.more
+    (subst (λ (s : List FollowerSeat). AreEnded s c.close.new.into.items) seats c.close.ensures)
 
 pub returns-clause-ends : goal.returns-clause-ends
 returns-clause-ends g c =
-    let locked = c.learn_all.new.press in
+    let pass = c.learn_all.new.pass in
+    let locked = c.tell.new.press in
     let kept = c.close-2.ensures in
-    ends_are g.D.Disk g.O.Outlet g.N.Names.named locked c.close.new.into.items _ _ _ kept.closed
-    (they_begin locked.seats c.learn_all.new.pass.seats c.close.new.into.items c.learn_all.ensures.alike c.close.ensures) kept.disk kept.ring kept.outlet
+    let seats = ap (λ (p : PassValue). p.seats) c.tell.ensures.rest in
+    let press = sym c.tell.ensures.same in
+    let alike = subst (λ (l : LockedValue _ _). SeeAlike l.seats pass.seats) press c.learn_all.ensures.alike in
+    let ended = subst (λ (s : List FollowerSeat). AreEnded s c.close.new.into.items) seats c.close.ensures in
+    let begins = subst (λ (p : PassValue). IsPrefix p.shown c.tell.new.self.shown) c.learn_all.ensures.pass c.tell.ensures.grows in
+    let whole = subst (λ (s : List ShownEdition). IsPrefix c.args.pass.shown s) c.tell.ensures.whole begins in
+    let told = subst (λ (l : LockedValue _ _). IsPrefix c.args.pass.shown l.board.shown) press whole in
+    ends_are g.D.Disk g.O.Outlet g.N.Names.named locked c.args.pass.shown c.close.new.into.items _ _ _ kept.closed told
+    (they_begin locked.seats pass.seats c.close.new.into.items alike ended) kept.disk kept.ring kept.outlet
