@@ -123,6 +123,7 @@ impl<N: Names> Pass<N> {
             → AreSince 0 lists press.old.press.press.at.cut gathered.items }
         ensures rest { self.new ≡ record self.old { shown = self.new.shown } }
         ensures grows { IsPrefix self.old.shown self.new.shown }
+        ensures whole { self.new.shown ≡ press.new.board.shown }
         ensures published { IfOk result (λ told. IsAnswered told press.old.seats self.new.shown) }
         ensures behind { IfOk result (IsBehind now press.old.press.press.at) }
         ensures refused { IfErr result (IsNotPublished press.old.seats self.new.shown) }

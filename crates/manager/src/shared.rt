@@ -81,6 +81,7 @@ impl<N: Names, D: Disk, S: Signer, O: Outlet> Manager<N, D, S, O> {
         now: u64,
     ) -> Result<PublishedNumbers, PublishFault<D, O>>
         ensures learned { HasLearned pass.old pass.new }
+        ensures whole { pass.new.shown ≡ press.new.board.shown }
         ensures published { IfOk result (λ told. IsAnswered told pass.old.seats pass.new.shown) }
         ensures moment { IfOk result (λ told. now ≤ told.moment) }
         ensures refused { IfErr result (IsNotPublished pass.old.seats pass.new.shown) }
@@ -108,6 +109,8 @@ fn ungathered<N: Names, D: Disk, S: Signer, O: Outlet, R: Wait>(
 ) -> PublishFault<D, O>
     ensures rest { pass.new ≡ record pass.old { shown = pass.new.shown } }
     ensures grows { IsPrefix pass.old.shown pass.new.shown }
+    ensures same { press.new ≡ press.old }
+    ensures whole { pass.new.shown ≡ press.new.board.shown }
     ensures refused { (known : List FollowerSeat) → IsNotPublished known pass.new.shown result }
     ensures cause { IsUngathered result }
 {
