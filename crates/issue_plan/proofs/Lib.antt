@@ -1,4 +1,4 @@
-pub mod KeyLemmas
-pub mod UriLemmas
-pub mod Filters
 pub mod DropLemmas
+pub mod FitLemmas
+pub mod KeyLemmas
+pub mod PositionLemmas

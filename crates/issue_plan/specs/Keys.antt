@@ -1,6 +1,7 @@
 -- The keys of the next edition: what the stages of a key rollover make of the live ones (RFC 6489
 -- section 2).
 use Rattle.std.specs.Prelude.{ℕ, zero, suc, ◌==◌, Bool, true, false, ◌&&◌, List, [], ◌∷◌, ◌++◌, length, find, slice_get, Option, None, Some, if◌then◌else◌}
+use Rattle.std.specs.Str.{bytes_eq}
 use Rattle.sha1.specs.Sha1.{sha1}
 use Rattle.key_ids.specs.declared.identifier.KeyId.{KeyId}
 use Rattle.res_sets.specs.declared.holdings.Resources.{Resources}
@@ -12,6 +13,7 @@ use Rattle.key_roll.specs.declared.rows.Role.{Role}
 use Rattle.key_roll.specs.declared.rows.Role.TheVariants.{New, Current, Old}
 use Rattle.key_roll.specs.declared.rows.KeyRow.{KeyRow}
 use Rattle.key_roll.specs.Roles.{is_role}
+use Rattle.key_roll.specs.declared.work.KeyName.{KeyName}
 use Rattle.key_roll.specs.declared.work.KeyName.TheVariants.{Live, Fresh}
 use Rattle.key_roll.specs.declared.stages.Stage.{Stage}
 use Rattle.key_roll.specs.declared.stages.Stage.TheVariants.{Steady, Staged, Retiring}
@@ -23,6 +25,11 @@ use Rattle.issue_plan.specs.declared.keys.Asked.{Asked}
 -- The identifier of a live key.
 abbrev pub id_of : KeyRow → KeyId
 id_of row = record { bytes = sha1 row.key.bytes }
+
+-- Whether a key's name is that identifier. One that is still to be made has none.
+abbrev pub is_live : KeyId → KeyName → Bool
+is_live id (Live other) = bytes_eq other.bytes id.bytes
+is_live id (Fresh desk) = false
 
 -- The live key of a desk in a role, if there is one.
 abbrev pub row_of : List KeyRow → ℕ → Role → Option KeyRow

@@ -1,4 +1,9 @@
+pub mod Due
+pub mod Fits
 pub mod Keys
+pub mod Serves
 pub mod Uris
 pub mod Wanted
 pub mod Work
+pub mod inner
+pub mod laws

@@ -1,6 +1,6 @@
 -- What an edition wants to stand: certificates (RFC 6487), ROAs (RFC 9582) and publication points
 -- (RFC 9286, a CRL and a manifest for each key). Keys are the edition's, live or to be made.
-use Rattle.std.specs.Prelude.{ℕ, ◌==◌, Bool, false, ◌&&◌, not, List, filter, find, map, slice_get, Option, None, Some, option_map, if◌then◌else◌}
+use Rattle.std.specs.Prelude.{ℕ, ◌==◌, ◌&&◌, List, find, map, slice_get, Option, None, Some, option_map, if◌then◌else◌}
 use Rattle.std.specs.List.{filter_map}
 use Rattle.res_sets.specs.declared.holdings.Resources.{Resources}
 use Rattle.authority_book.specs.Settings.{Settings}
@@ -95,12 +95,3 @@ pub record PlanInput : Type 0 where
   pub owed : List Owed
   pub issued : List IssuedRow
   pub site : Bases
-
--- Whether what stands serves for what is wanted, so that it stays. Nothing does: an edition issues
--- all that it wants afresh.
-abbrev pub fits : PlanInput → Wanted → Bool
-fits plan_input wanted = false
-
--- Those of some works that make something which doesn't stand already.
-abbrev pub unfit : {X : Type 0} → PlanInput → (X → Wanted) → List X → List X
-unfit plan_input object works = filter (λ work. not (fits plan_input (object work))) works

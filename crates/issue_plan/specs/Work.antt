@@ -1,8 +1,7 @@
 -- The work of an edition: exactly what is wanted and doesn't stand already, and what has to go
 -- (RFC 6481 section 2).
-use Rattle.std.specs.Prelude.{◌≡◌, Bool, false, not, List, filter, map, Option, None, Some, if◌then◌else◌}
+use Rattle.std.specs.Prelude.{◌≡◌, not, Bool, List, filter, map, Option, None, Some, if◌then◌else◌}
 use Rattle.std.specs.List.{filter_map, list_any}
-use Rattle.std.specs.Str.{bytes_eq}
 use Rattle.key_ids.specs.declared.identifier.KeyId.{KeyId}
 use Rattle.key_ids.specs.Uris.{Bases}
 use Rattle.entitle.specs.declared.trees.Owed.{Owed}
@@ -15,9 +14,10 @@ use Rattle.key_roll.specs.declared.work.KeyName.TheVariants.{Live, Fresh}
 use Rattle.key_roll.specs.declared.work.NewKey.{NewKey}
 use Rattle.key_roll.specs.declared.work.RoleWork.{RoleWork}
 use Rattle.issue_plan.specs.declared.keys.NextKey.{NextKey}
-use Rattle.issue_plan.specs.Keys.{Basis, id_of, next_keys}
-use Rattle.issue_plan.specs.Wanted.{PlanInput, Certificate, Roa, Point, unfit, wanted_certificates}
-use Rattle.issue_plan.specs.Wanted.{wanted_roas, wanted_points}
+use Rattle.issue_plan.specs.Keys.{Basis, id_of, is_live, next_keys}
+use Rattle.issue_plan.specs.Wanted.{PlanInput, Certificate, Roa, Point}
+use Rattle.issue_plan.specs.Wanted.{wanted_certificates, wanted_roas, wanted_points}
+use Rattle.issue_plan.specs.Fits.{unfit}
 use Rattle.issue_plan.specs.Uris.{wanted_uris, withdrawn}
 
 -- A key that is to be made.
@@ -45,11 +45,6 @@ role_by key (Fresh desk) = None
 
 abbrev pub role_of : NextKey → Option RoleWork
 role_of key = role_by key key.name
-
--- Whether a key is the live one with that identifier.
-abbrev pub is_live : KeyId → KeyName → Bool
-is_live id (Live other) = bytes_eq other.bytes id.bytes
-is_live id (Fresh desk) = false
 
 -- Whether the key goes on.
 abbrev pub goes_on : List NextKey → KeyId → Bool

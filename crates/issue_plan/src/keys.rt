@@ -51,6 +51,16 @@ pub fn id_of(row: &KeyRow) -> KeyId
     KeyId::of(&row.key.bytes)
 }
 
+/// Whether the key's name is that identifier.
+pub fn is_live(id: &KeyId, name: &KeyName) -> bool
+    ensures { result ≡ spec.is_live id.now name.now }
+{
+    match name {
+        KeyName::Live { id: other } => other.bytes.as_slice() == id.bytes.as_slice(),
+        KeyName::Fresh { .. } => false,
+    }
+}
+
 // The live key of a desk in a role.
 fn row_of<'a>(rows: &'a [KeyRow], desk: u32, role: Role) -> Option<&'a KeyRow>
     ensures { option_map (λ row. row.now) result ≡ spec.row_of rows.now desk role }

@@ -2,12 +2,23 @@
 //! it wants to stand (RFC 6481 section 2), and what stands and isn't wanted.
 #![tactic(auto)]
 
+mod anew;
+mod changed;
+mod due;
+mod firsts;
 mod keys;
+mod live;
 mod lookups;
+mod places;
 mod plans;
+mod positions;
 mod requests;
+mod serving;
+mod settled;
 mod uris;
 mod wanted;
 
+pub use due::is_due;
 pub use keys::NextKey;
 pub use plans::plan;
+pub use positions::are_by_uri;

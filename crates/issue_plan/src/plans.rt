@@ -4,20 +4,29 @@ ghost use Rattle.std.specs.Prelude.{◌≡◌, map, filter, IfOk};
 ghost use Rattle.std.specs.List.{filter_map};
 ghost use Rattle.entitle.specs.Certified.{settings_of};
 ghost use Rattle.entitle.specs.Owed.{AreOwed};
+ghost use Rattle.pub_set.specs.Objects.{Rise};
 ghost use Rattle.issue_plan.specs.Keys as keys_spec;
 ghost use Rattle.issue_plan.specs.Work as spec;
 ghost use Rattle.issue_plan.specs.Work.{IsPlan};
+ghost use Rattle.issue_plan.specs.Wanted.{PlanInput};
+ghost use Rattle.issue_plan.specs.Fits.{all_certificates, all_roas};
+ghost use Rattle.issue_plan.specs.inner.Anew.{IsOver};
+ghost use Rattle.issue_plan.specs.inner.Works.{IsAnew};
 
-use crate::keys::{NextKey, id_of, next_keys};
+use crate::anew::{Standing, certificates_anew, points_anew, roas_anew};
+use crate::changed::changed_keys;
+use crate::keys::{NextKey, id_of, is_live, next_keys};
+use crate::live::{LiveKey, live_keys};
 use crate::lookups::set_at;
 use crate::requests::revoked;
+use crate::settled::settled_keys;
 use crate::uris::{wanted_uris, withdrawn};
 use crate::wanted::{certificates, points, roas};
 use authority_book::Config;
 use entitle::{Owed, Tree, names_of};
 use items::Items;
 use key_ids::{KeyId, Site};
-use key_roll::{Issued, KeyName, KeyRow, NewKey, RoleWork, Work};
+use key_roll::{CertWork, Issued, KeyName, KeyRow, NewKey, PointWork, RoaWork, RoleWork, Work};
 use std::alloc::{AllocError, Global};
 
 fn new_key_of(key: &NextKey) -> Option<NewKey>
@@ -63,15 +72,6 @@ fn roles(alloc: Global, keys: &[NextKey]) -> Result<Vec<RoleWork>, AllocError>
     keys.iter().filter_map(|key| role_of(key)).collect(alloc)
 }
 
-fn is_live(id: &KeyId, name: &KeyName) -> bool
-    ensures { result ≡ spec.is_live id.now name.now }
-{
-    match name {
-        KeyName::Live { id: other } => other.bytes.as_slice() == id.bytes.as_slice(),
-        KeyName::Fresh { .. } => false,
-    }
-}
-
 fn goes_on(keys: &[NextKey], id: &KeyId) -> bool
     ensures { result ≡ spec.goes_on keys.now id.now }
 {
@@ -106,14 +106,50 @@ fn dropped(
     Ok(dropped)
 }
 
+// The certificates, ROAs and points that nothing fits.
+#[derive(Drop)]
+struct Unfit {
+    certs: Vec<CertWork>,
+    roas: Vec<RoaWork>,
+    points: Vec<PointWork>,
+}
+
+// Of what is wanted, that which nothing fits.
+fn anew(
+    alloc: Global,
+    standing: &Standing<'_>,
+    certs: Vec<CertWork>,
+    roas: &[RoaWork],
+    points: &[PointWork],
+) -> Result<Unfit, AllocError>
+    requires { Rise (λ row. row.uri) standing.now.issued.now }
+    ensures { IfOk result (λ anew. (plan_input : PlanInput) → IsOver plan_input standing.now
+        → certs.items ≡ all_certificates plan_input → roas.now ≡ all_roas plan_input
+        → IsAnew plan_input points.now anew) }
+{
+    let mut kept = Vec::new(alloc);
+    let settled = settled_keys(alloc, standing, &certs)?;
+    let settled: &[LiveKey] = &settled;
+    let certs = certificates_anew(alloc, standing, settled, certs, &mut kept)?;
+    let roas = roas_anew(alloc, standing, settled, roas, &mut kept)?;
+    let changed = changed_keys(alloc, standing.issued, &kept, &certs, &roas)?;
+    let points = points_anew(alloc, standing, settled, &changed, points)?;
+    Ok(Unfit {
+        certs,
+        roas,
+        points,
+    })
+}
+
 /// What an edition at the moment makes and withdraws: all that is wanted of these configurations,
-/// which stand at the places of their names, and what stands and isn't wanted. The tree is what these
+/// which stand at the places of their names, and that nothing which stands fits; and what stands and
+/// isn't wanted. The tree is what these
 /// configurations are certified for, and the origins are those that they are owed.
 ///
 /// Keys and points are in the order of the desks and of the roles, ROAs in that of the desks and of
 /// the origins, what is withdrawn and the keys that end in that in which they are given.
 ///
-/// Of what stands before the edition `rows` has the live keys, and `issued` the objects. `configs` has
+/// Of what stands before the edition `rows` has the live keys, and `issued` the objects by rising URI. `configs` has
 /// the desks' configurations in the order of the desks, the trust anchor's first, `tree` a set for
 /// each name, and `owed` the origins with their desks. `site` is where all of it is published, and
 /// `moment` is in seconds since 1970.
@@ -127,22 +163,39 @@ pub fn plan(
     site: &Site,
     moment: u64,
 ) -> Result<Work, AllocError>
-    requires { AreOwed (settings_of configs.now) owed.now }
+    requires owed { AreOwed (settings_of configs.now) owed.now }
+    requires rising { Rise (λ row. row.uri) issued.now.rows }
     ensures { IfOk result (IsPlan
         (record { rows = rows.now; configs = settings_of configs.now; sets = tree.now.sets.items; moment = moment })
         issued.now.rows site.now) }
 {
     let names = names_of(configs);
     let keys = next_keys(alloc, rows, names, configs, tree, moment)?;
+    let live = live_keys(alloc, rows)?;
+    let standing = Standing {
+        live: &live,
+        names,
+        issued: issued.rows.as_slice(),
+        site,
+        moment,
+    };
+    let certs = certificates(alloc, rows, configs, tree, &keys)?;
+    let anew = anew(
+        alloc,
+        &standing,
+        certs,
+        &roas(alloc, &keys, owed)?,
+        &points(alloc, &keys)?,
+    )?;
     let wanted = wanted_uris(alloc, site, names, configs, &keys, owed)?;
     Ok(Work {
         moment,
         new_keys: Items::new(new_keys(alloc, &keys)?),
         roles: Items::new(roles(alloc, &keys)?),
-        certs: Items::new(certificates(alloc, rows, configs, tree, &keys)?),
-        roas: Items::new(roas(alloc, &keys, owed)?),
-        points: Items::new(points(alloc, &keys)?),
-        withdrawn: Items::new(withdrawn(alloc, &wanted, issued.rows.as_slice())?),
+        certs: Items::new(anew.certs),
+        roas: Items::new(anew.roas),
+        points: Items::new(anew.points),
+        withdrawn: Items::new(withdrawn(alloc, &wanted, standing.issued)?),
         dropped: Items::new(dropped(alloc, &keys, rows, tree)?),
     })
 }

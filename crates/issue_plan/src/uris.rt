@@ -1,22 +1,21 @@
 //! Where what is wanted stands, and what stands elsewhere (RFC 6481 section 2).
 
-ghost use Rattle.std.specs.Prelude.{◌≡◌, ◌++◌, ◌∷◌, [], ◌||◌, Bool, ℕ, List, IfOk, OnOk, slice_get, string_bytes};
-ghost use Rattle.std.specs.Str.{bytes_eq};
+ghost use Rattle.std.specs.Prelude.{◌≡◌, ◌++◌, IfOk, OnOk, slice_get};
 ghost use Rattle.std.specs.List.{flat_map};
-ghost use Rattle.std.specs.BTreeSet.{contains_text};
+ghost use Rattle.pub_set.specs.Objects.{Rise};
 ghost use Rattle.entitle.specs.Certified.{settings_of, names_of};
 ghost use Rattle.issue_plan.specs.Uris as spec;
-ghost use Rattle.issue_plan.specs.Uris.{key_uris, owed_uris, is_among, wanted_uris};
+ghost use Rattle.issue_plan.specs.Uris.{key_uris, owed_uris, wanted_uris};
 
 use crate::keys::NextKey;
 use crate::lookups::{name_at, parent_at};
+use crate::positions::{marks, positions_of, unmarked_uris};
 use authority_book::{Config, NameRow};
 use entitle::Owed;
 use key_ids::Site;
 use key_roll::{IssuedRow, KeyName};
 use pub_set::Uri;
 use std::alloc::{AllocError, Global};
-use std::collections::BTreeSet;
 
 // Puts the place of a key's certificate behind the others, if it is known.
 fn push_certificate_uri(
@@ -153,31 +152,17 @@ pub fn wanted_uris(
     Ok(uris)
 }
 
-// The URIs, so that one is looked up in logarithmic time.
-fn sorted(alloc: Global, uris: &[Uri]) -> Result<BTreeSet<String>, AllocError>
-    ensures { IfOk result (λ sorted. (uri : List ℕ) → contains_text sorted uri ≡ is_among uris.now uri) }
-{
-    let mut sorted = BTreeSet::new(alloc);
-    for uri in uris {
-        sorted.insert(uri.copy(alloc)?.into_string())?;
-    }
-    Ok(sorted)
-}
-
 /// The places of what stands and isn't wanted.
 pub fn withdrawn(
     alloc: Global,
     wanted: &[Uri],
     issued: &[IssuedRow],
 ) -> Result<Vec<Uri>, AllocError>
+    requires { Rise (λ row. row.uri) issued.now }
     ensures { IfOk result (λ withdrawn. withdrawn.items ≡ spec.withdrawn wanted.now issued.now) }
 {
-    let known = sorted(alloc, wanted)?;
-    let mut withdrawn = Vec::new(alloc);
-    for row in issued {
-        if !known.contains(row.uri.as_str()) {
-            withdrawn.push(row.uri.copy(alloc)?)?;
-        }
-    }
-    Ok(withdrawn)
+    let positions = positions_of(alloc, issued, wanted)?;
+    let marks = marks(alloc, issued.len(), &positions)?;
+    let uris = unmarked_uris(alloc, issued, &marks)?;
+    Ok(uris)
 }

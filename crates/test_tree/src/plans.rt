@@ -13,9 +13,9 @@ mod trees;
 use crate::plans::given::{issued_of, rows_of};
 use crate::plans::shown::work_text;
 use crate::plans::trees::configs_of;
-use anyhow::{Context, Result};
+use anyhow::{Context, Result, bail};
 use entitle::{certified, owed};
-use issue_plan::plan;
+use issue_plan::{are_by_uri, plan};
 use key_ids::Site;
 use std::alloc::Global;
 use test_support::first_field;
@@ -33,6 +33,9 @@ fn answer(alloc: Global, fields: &str) -> Result<String> {
     let (issued, lines) = first_field(rest)?;
     let rows = rows_of(alloc, rows)?;
     let issued = issued_of(alloc, issued)?;
+    if !are_by_uri(issued.rows.as_slice()) {
+        bail!("objects out of order");
+    }
     let configs = configs_of(alloc, lines)?;
     let tree = certified(alloc, &configs)?;
     let site = Site::read(

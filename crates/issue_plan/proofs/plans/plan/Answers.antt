@@ -2,10 +2,10 @@ use Rattle.std.proofs.Common.{◌≡◌, refl, ap, ap₂, ◌∙◌}
 use Rattle.std.specs.List.{filter_map}
 use Rattle.entitle.specs.Certified.{settings_of}
 use Rattle.issue_plan.specs.Keys.{Basis, next_keys}
-use Rattle.issue_plan.specs.Wanted.{PlanInput, Certificate, Roa, Point, wanted_certificates, wanted_roas, wanted_points}
+use Rattle.issue_plan.specs.Wanted.{PlanInput, Point, wanted_certificates, wanted_roas, wanted_points}
+use Rattle.issue_plan.specs.Fits.{unfit, all_certificates, all_roas}
 use Rattle.issue_plan.specs.Uris.{wanted_uris, withdrawn}
 use Rattle.issue_plan.specs.Work.{new_key_of, role_of, dropped}
-use Rattle.issue_plan.proofs.Filters.{all_unfit}
 use Rattle.issue_plan.proofs.plans.plan.Goals as goal
 
 pub returns : goal.returns
@@ -26,28 +26,36 @@ returns c =
     } in
     let keys = next_keys basis in
     let made : c.in_ok-keys.keys.items ≡ keys = c.in_ok-keys.ensures in
-    let certificates = wanted_certificates configs basis.sets in
+    let certs : c.in_ok-certs.certs.items ≡ all_certificates plan_input =
+    c.in_ok-certs.ensures ∙ ap (wanted_certificates configs basis.sets) (c.deref-2.ensures.value ∙ made) in
+    let roas : c.deref-4.result.now ≡ all_roas plan_input =
+    c.deref-4.ensures.value ∙ (c.in_ok-roas.ensures ∙ ap (λ l. wanted_roas l owed) (c.deref-3.ensures.value ∙ made)) in
+    let points : c.deref-6.result.now ≡ wanted_points keys =
+    c.deref-6.ensures.value ∙ (c.in_ok-points.ensures ∙ ap wanted_points (c.deref-5.ensures.value ∙ made)) in
+    let is = c.in_ok-anew.ensures plan_input (record {
+      live = c.deref.ensures.value ∙ c.in_ok-live.ensures;
+      names = c.names_of-names.ensures.names;
+      issued = c.as_slice.ensures;
+      site = refl;
+      moment = refl;
+    }) certs roas in
     let places = wanted_uris plan_input.site configs in (
       owed,
-      c.requires,
+      c.requires.owed,
       record {
         moment = refl;
         new_keys = c.new.ensures ∙ (c.in_ok-new_keys.ensures
-            ∙ ap (filter_map new_key_of) (c.deref-2.ensures.value ∙ made));
+            ∙ ap (filter_map new_key_of) (c.deref-8.ensures.value ∙ made));
         roles = c.new-2.ensures ∙ (c.in_ok-roles.ensures
-            ∙ ap (filter_map role_of) (c.deref-3.ensures.value ∙ made));
-        certs = c.new-3.ensures ∙ (c.in_ok-certificates.ensures
-            ∙ (ap certificates (c.deref-4.ensures.value ∙ made) ∙ all_unfit plan_input Certificate (certificates keys)));
-        roas = c.new-4.ensures ∙ (c.in_ok-roas.ensures
-            ∙ (ap (λ l. wanted_roas l owed) (c.deref-5.ensures.value ∙ made)
-            ∙ all_unfit plan_input Roa (wanted_roas keys owed)));
-        points = c.new-5.ensures ∙ (c.in_ok-points.ensures
-            ∙ (ap wanted_points (c.deref-6.ensures.value ∙ made) ∙ all_unfit plan_input Point (wanted_points keys)));
+            ∙ ap (filter_map role_of) (c.deref-9.ensures.value ∙ made));
+        certs = c.new-3.ensures ∙ is.certs;
+        roas = c.new-4.ensures ∙ is.roas;
+        points = c.new-5.ensures ∙ (is.points ∙ ap (unfit plan_input Point) points);
         withdrawn = c.new-6.ensures ∙ (c.in_ok-withdrawn.ensures
             ∙ ap₂ withdrawn
-            (c.deref-7.ensures.value ∙ (c.in_ok-wanted.ensures ∙ ap (λ l. places l owed) (c.deref.ensures.value ∙ made)))
+            (c.deref-10.ensures.value ∙ (c.in_ok-wanted.ensures ∙ ap (λ l. places l owed) (c.deref-7.ensures.value ∙ made)))
             c.as_slice.ensures);
         dropped = c.new-7.ensures ∙ (c.in_ok-dropped.ensures
-            ∙ ap (λ l. dropped l basis.rows) (c.deref-8.ensures.value ∙ made));
+            ∙ ap (λ l. dropped l basis.rows) (c.deref-11.ensures.value ∙ made));
       },
     )

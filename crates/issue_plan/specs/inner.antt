@@ -1,0 +1,6 @@
+-- Scaffolding: words that only private contracts, invariants and proofs need.
+pub mod Anew
+pub mod Changed
+pub mod Live
+pub mod Positions
+pub mod Works
