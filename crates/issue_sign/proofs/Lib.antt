@@ -1,11 +1,11 @@
-pub mod Contents
+pub mod Answered
+pub mod Drafted
 pub mod Ends
-pub mod Finishing
-pub mod Going
-pub mod Halts
-pub mod Halves
+pub mod Fronts
 pub mod Lists
+pub mod Manifested
+pub mod PhaseEnds
 pub mod Positions
 pub mod Said
-pub mod Seconds
 pub mod SignedEnds
+pub mod Ways

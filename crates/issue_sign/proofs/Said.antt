@@ -18,15 +18,16 @@ use Rattle.key_roll.specs.declared.rows.RevokedRow.{RevokedRow}
 use Rattle.issue_drafts.specs.IssueInput.{IssueInput, input_of}
 use Rattle.issue_drafts.specs.Publishers.{is_key, publishing_of}
 use Rattle.issue_drafts.specs.WorkKeys.{Keys}
-use Rattle.issue_drafts.specs.Drafts.{has_serial, serial_at}
+use Rattle.issue_drafts.specs.Drafts.{has_serial, serial_at, serial_behind}
 use Rattle.issue_drafts.specs.Drafts.Kind.{Roa}
-use Rattle.issue_drafts.specs.Views.{draft_of, kind_of, IsPositioned, IsSubjectPositioned}
+use Rattle.issue_drafts.specs.Views.{draft_of, kind_of, manifest_of, IsPositioned, IsSubjectPositioned}
 use Rattle.issue_drafts.specs.declared.draft.KeyAt.{KeyAt}
 use Rattle.issue_drafts.specs.declared.draft.Draft as code
+use Rattle.issue_drafts.specs.declared.draft.ManifestDraft.{ManifestDraft}
 use Rattle.issue_drafts.specs.declared.draft.DraftKind.{DraftKind}
 use Rattle.issue_drafts.specs.declared.draft.DraftKind.TheVariants as kinds
 use Rattle.issue_sign.specs.declared.sign_input.SignInput.{SignInput}
-use Rattle.issue_sign.specs.Objects.{certificate, certificate_with, crl_of, number_of, roa_certificate}
+use Rattle.issue_sign.specs.Objects.{certificate, certificate_with, crl_of, number_of, roa_certificate, manifest_certificate}
 use Rattle.issue_sign.specs.SignInput.{SignInputValue, IsSignInput}
 use Rattle.issue_sign.specs.inner.Steps.{IsDraft}
 use Rattle.issue_sign.proofs.Positions.{mapped-at}
@@ -160,3 +161,20 @@ roa-made sign_input d uri origin key given by (Ok cert) lt is at made = λ b bas
     ∙ (ap (λ (u : List ℕ). values.roa_certificate site moment issuer key origin.prefix u given) at
     ∙ ap (λ (n : ℕ). values.roa_certificate site moment issuer key origin.prefix d.uri n) (numbered b d given draft (ap has_serial e))))
 roa-made sign_input d uri origin key given by (Err e) lt is at made = tt
+
+-- ---- the certificate of a manifest's key
+
+pub manifest-certificate-made : {E : Type 0} (sign_input : SignInput) (draft : ManifestDraft) (key : List ℕ) (given : ℕ) (by : Publisher)
+    (r : Result Cert E) → draft.issuer.position < length sign_input.publishers.now → by ≡ get_or sign_input.publishers.now draft.issuer.position by
+    → IfOk r (λ cert. cert_value cert ≡ values.manifest_certificate sign_input.input.now.site.now sign_input.input.now.work.now.moment
+    (publishing by) key given)
+    → IfOk r (λ cert. (b : SignInputValue) → IsSignInput sign_input b → IsPositioned b.rows draft.issuer
+    → given ≡ serial_behind b.all draft.issuer.row.now
+    → cert_value cert ≡ manifest_certificate (input_of sign_input.input.now) b.keys b.all (manifest_of draft) key)
+manifest-certificate-made sign_input draft key given by (Ok cert) lt is made = λ b basis positioned serial.
+    made
+    ∙ (ap (λ (p : Publishing). values.manifest_certificate sign_input.input.now.site.now sign_input.input.now.work.now.moment p key given)
+    (publishes sign_input b draft.issuer by basis positioned lt is)
+    ∙ ap (λ (n : ℕ). values.manifest_certificate sign_input.input.now.site.now sign_input.input.now.work.now.moment
+    (publishing_of (input_of sign_input.input.now) b.keys draft.issuer.row.now) key n) serial)
+manifest-certificate-made sign_input draft key given by (Err e) lt is made = tt

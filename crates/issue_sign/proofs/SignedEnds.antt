@@ -1,39 +1,28 @@
--- What a call on a signer left, and what was made of its signature.
-use Rattle.std.proofs.Common.{◌≡◌, ℕ, ◌<◌, ◌^◌, inl, List, length, sym, ap, subst, ◌∙◌}
+-- What is made of the bytes that were signed, and their signature.
+use Rattle.std.proofs.Common.{◌≡◌, ℕ, ◌<◌, ◌^◌, List, [], ◌∷◌, length, refl, sym, ap, subst, ◌∙◌}
+use Rattle.std.specs.Prelude.{Option, Some, None}
+use Rattle.std.specs.Option.{option_map_or}
 use Rattle.sha1.specs.Sha1.{sha1}
 use Rattle.sha2.specs.Sha256.{sha256}
 use Rattle.der.specs.Object.{Spells}
-use Rattle.signer_api.specs.State.{SignerState}
 use Rattle.signer_api.specs.declared.values.OneUse.{OneUse}
 use Rattle.signer_api.specs.declared.values.Signature.{Signature}
-use Rattle.signer_ring.specs.Calls.{after_call, IsStopped, IsVouched}
-use Rattle.signer_ring.specs.declared.call_fault.CallFault.{CallFault}
-use Rattle.signer_ring.specs.declared.call_fault.CallFault.TheVariants.{SignerFault, Memory}
-use Rattle.cert_obj.specs.Values.{CertValue}
+use Rattle.signer_ring.specs.declared.jobs.Signed as ring
+use Rattle.signer_ring.specs.declared.jobs.Signed.TheVariants as answers
+use Rattle.cert_obj.specs.Values.{CertValue, IsCert}
 use Rattle.cert_obj.specs.Formats as certificates
 use Rattle.crl_obj.specs.Values.{CrlValue}
 use Rattle.crl_obj.specs.Formats as crls
 use Rattle.cms_obj.specs.declared.values.ObjectKind.{ObjectKind}
 use Rattle.cms_obj.specs.Formats.{signed_object, object_of}
-use Rattle.issue_sign.specs.Signed.{by_key, framed, object_bytes, IsSigned, IsSignedOnce, IsEnd, IsCertificate, IsCrlOf, IsObject}
+use Rattle.issue_sign.specs.Signed.{framed, object_bytes, IsCertificate, IsCrlOf, IsObject}
+use Rattle.issue_sign.specs.Objects.{Answers}
+use Rattle.issue_sign.specs.Made.{answers_of}
 use Rattle.issue_sign.specs.declared.object.Object.{Object}
+use Rattle.issue_sign.specs.declared.object.SignedContent.{SignedContent}
 use Rattle.issue_sign.specs.declared.signed_bytes.SignedBytes.{SignedBytes}
-use Rattle.issue_sign.specs.inner.Steps.{IsObjectOf}
-
-pub end-of : (e : CallFault) (signer : ℕ) (key bytes : List ℕ) (old new : List SignerState) → IsStopped signer old new e → IsEnd signer key bytes old new e
-end-of (SignerFault n) signer key bytes old new h = h
-end-of Memory signer key bytes old new h = inl h
-
--- A call that signed bytes which are those ones.
-pub signed-as : (signer : ℕ) (key bytes other : List ℕ) (old new : List SignerState) (signature : List ℕ) → bytes ≡ other
-    → new ≡ after_call old (by_key signer key bytes signature) → IsVouched new (by_key signer key bytes signature) → length signature ≡ 256
-    → IsSigned signer key other old new signature
-signed-as signer key bytes other old new signature e call vouched whole =
-    subst (λ (b : List ℕ). IsSigned signer key b old new signature) e (record { call = call; vouched = vouched; whole = whole })
-
-pub signed-once-as : (signer : ℕ) (key bytes other : List ℕ) (old new : List SignerState) (signature : List ℕ) → bytes ≡ other → IsSignedOnce signer key bytes old new signature → IsSignedOnce signer key other old new signature
-signed-once-as signer key bytes other old new signature e h =
-    subst (λ (b : List ℕ). IsSignedOnce signer key b old new signature) e h
+use Rattle.issue_sign.specs.inner.Steps.{answer_in, content_answers, entity_answers, IsSignatureIn, IsOnceIn, IsObjectOf, IsFramed, IsEntity}
+use Rattle.issue_sign.proofs.Drafted.{answers-of-once}
 
 pub framed-as : (out tbs other signature : List ℕ) → out ≡ framed tbs signature → tbs ≡ other → out ≡ framed other signature
 framed-as out tbs other signature is e = is ∙ ap (λ (b : List ℕ). framed b signature) e
@@ -53,28 +42,7 @@ crl-read crl tbs out signature is e h short =
     subst (λ (b : List ℕ). Spells crls.signed_crl (record { crl = crl; digest = sha256 (crls.signed_bytes crl); signature = signature }) b) whole
     (subst (λ (b : List ℕ). Spells crls.signed_crl (record { crl = crl; digest = sha256 b; signature = signature }) out) e (h few))
 
--- ---- objects
-
--- An object made of what was signed: its spelling and what is known of it, by the signature.
-pub object-of : (signed : SignedBytes) (o : Object) (spelling : List ℕ → List ℕ) (Known : List ℕ → Type 0) → o.bytes ≡ signed.bytes
-    → o.hash ≡ sha256 signed.bytes → o.signature ≡ signed.signature → signed.bytes ≡ spelling signed.signature.bytes
-    → Known signed.signature.bytes → IsObjectOf (spelling o.signature.bytes) (Known o.signature.bytes) o
-object-of signed o spelling Known bytes hash signature made known =
-    subst (λ (g : Signature). IsObjectOf (spelling g.bytes) (Known g.bytes) o) (sym signature)
-    (record { bytes = bytes ∙ made; hash = hash ∙ ap sha256 made; known = known })
-
--- The same of a signed object, whose content was seen as a slice.
-pub object-with : (kind : ObjectKind) (seen content : List ℕ) (cert : CertValue) (once : OneUse) (signed : SignedBytes) (o : Object) → seen ≡ content
-    → o.bytes ≡ signed.bytes → o.hash ≡ sha256 signed.bytes → o.signature ≡ signed.signature
-    → signed.bytes ≡ object_bytes kind seen cert signed.signature.bytes once.key.bytes once.signature.bytes
-    → IsObject kind seen cert signed.signature.bytes once.key.bytes once.signature.bytes
-    → IsObjectOf (object_bytes kind content cert o.signature.bytes once.key.bytes once.signature.bytes)
-    (IsObject kind content cert o.signature.bytes once.key.bytes once.signature.bytes) o
-object-with kind seen content cert once signed o e bytes hash signature made known =
-    subst (λ (l : List ℕ). IsObjectOf (object_bytes kind l cert o.signature.bytes once.key.bytes once.signature.bytes)
-    (IsObject kind l cert o.signature.bytes once.key.bytes once.signature.bytes) o) e
-    (object-of signed o (λ last. object_bytes kind seen cert last once.key.bytes once.signature.bytes)
-    (λ last. IsObject kind seen cert last once.key.bytes once.signature.bytes) bytes hash signature made known)
+-- ---- signed objects
 
 pub object-as : (kind : ObjectKind) (content : List ℕ) (cert : CertValue) (certificate id last once signature out : List ℕ) (moment : ℕ) → out ≡ signed_object.spelling (object_of kind content certificate id moment signature) → certificate ≡ framed (certificates.signed_bytes cert) last → id ≡ sha1 once → moment ≡ cert.not_before → out ≡ object_bytes kind content cert last once signature
 object-as kind content cert certificate id last once signature out moment is made named at =
@@ -91,3 +59,70 @@ object-read kind content cert certificate id last once signature out moment is m
     (subst (λ (m : ℕ). Spells signed_object (object_of kind content (framed (certificates.signed_bytes cert) last) (sha1 once) m signature) out) at
     (subst (λ (b : List ℕ). Spells signed_object (object_of kind content (framed (certificates.signed_bytes cert) last) b moment signature) out) named
     (subst (λ (b : List ℕ). Spells signed_object (object_of kind content b id moment signature) out) made (h few))))
+
+-- ---- objects of signed bytes
+
+pub framed-object : (o : Object) (signed : SignedBytes) (signature : Signature) (tbs : List ℕ) (Known : List ℕ → Type 0) → o.bytes ≡ signed.bytes
+    → o.hash ≡ sha256 signed.bytes → o.once ≡ None → o.signature ≡ signed.signature → signed.bytes ≡ framed tbs signature.bytes
+    → signed.signature ≡ signature → Known signature.bytes → IsFramed tbs Known o
+framed-object o signed signature tbs Known bytes hash once signs made same known =
+    let e : signature ≡ o.signature = sym (signs ∙ same) in
+    let whole : signed.bytes ≡ framed tbs o.signature.bytes = made ∙ ap (λ (s : Signature). framed tbs s.bytes) e in
+    record {
+      once = once;
+      object = record {
+        bytes = bytes ∙ whole;
+        hash = hash ∙ ap sha256 whole;
+        known = subst (λ (s : Signature). Known s.bytes) e known;
+      };
+    }
+
+pub entity-object : (m : ℕ) (kind : ObjectKind) (c : SignedContent) (tbs : List ℕ) (o : Object) (signed : SignedBytes) (signature : Signature)
+    → o.bytes ≡ signed.bytes → o.hash ≡ sha256 signed.bytes → o.once ≡ Some c.once → o.signature ≡ signed.signature → signed.signature ≡ signature
+    → ((cert : CertValue) → tbs ≡ certificates.signed_bytes cert → cert.not_before ≡ m
+    → signed.bytes ≡ object_bytes kind c.content.items cert signature.bytes c.once.key.bytes c.once.signature.bytes)
+    → ((cert : CertValue) → IsCert cert → tbs ≡ certificates.signed_bytes cert → cert.not_before ≡ m
+    → IsObject kind c.content.items cert signature.bytes c.once.key.bytes c.once.signature.bytes) → IsEntity m kind c tbs o
+entity-object m kind c tbs o signed signature bytes hash once signs same made known =
+    let e : signature ≡ o.signature = sym (signs ∙ same) in
+    record {
+      once = once;
+      object = λ cert is of at.
+          let whole : signed.bytes ≡ object_bytes kind c.content.items cert o.signature.bytes c.once.key.bytes c.once.signature.bytes =
+          made cert of at ∙ ap (λ (s : Signature). object_bytes kind c.content.items cert s.bytes c.once.key.bytes c.once.signature.bytes) e in
+          record {
+            bytes = bytes ∙ whole;
+            hash = hash ∙ ap sha256 whole;
+            known = subst (λ (s : Signature). IsObject kind c.content.items cert s.bytes c.once.key.bytes c.once.signature.bytes) e (known cert is of at);
+          };
+    }
+
+-- ---- what was answered
+
+signature-in : (left : List ring.Signed) (s : Signature) → IsSignatureIn left s → answer_in left ≡ record { once = []; content = []; last = s.bytes }
+signature-in [] s is = absurd is
+signature-in (answers.Signature t ∷ left) s is = ap (λ (x : Signature). let a : Answers = record { once = []; content = []; last = x.bytes } in a) (sym is)
+signature-in (answers.Once once ∷ left) s is = absurd is
+
+pub framed-answers : (o : Object) (signed : SignedBytes) (s : Signature) (left : List ring.Signed) → IsSignatureIn left s → o.once ≡ None
+    → o.signature ≡ signed.signature → signed.signature ≡ s → answers_of o ≡ answer_in left
+framed-answers o signed s left is once signs same =
+    ap (λ (m : Option OneUse). let a : Answers = record {
+      once = option_map_or (λ x. x.key.bytes) m [];
+      content = option_map_or (λ x. x.signature.bytes) m [];
+      last = o.signature.bytes;
+    } in a) once
+    ∙ (ap (λ (x : Signature). let a : Answers = record { once = []; content = []; last = x.bytes } in a) (signs ∙ same) ∙ sym (signature-in left s is))
+
+pub entity-answers : (c : SignedContent) (o : Object) (signed : SignedBytes) (s : Signature) (left : List ring.Signed) → IsSignatureIn left s
+    → o.once ≡ Some c.once → o.signature ≡ signed.signature → signed.signature ≡ s → answers_of o ≡ entity_answers c (answer_in left).last
+entity-answers c o signed s left is once signs same =
+    answers-of-once o c once
+    ∙ (ap (λ (x : Signature). entity_answers c x.bytes) (signs ∙ same)
+    ∙ sym (ap (λ (a : Answers). entity_answers c a.last) (signature-in left s is)))
+
+pub once-answers : (c : SignedContent) (left : List ring.Signed) → IsOnceIn left c.once → content_answers c ≡ answer_in left
+once-answers c [] is = absurd is
+once-answers c (answers.Signature s ∷ left) is = absurd is
+once-answers c (answers.Once once ∷ left) is =
+    ap (λ (x : OneUse). let a : Answers = record { once = x.key.bytes; content = x.signature.bytes; last = [] } in a) is

@@ -2,9 +2,9 @@
 use Rattle.std.specs.Prelude.{◌≡◌, ℕ, List, [], ◌∷◌, ◌++◌, map, All}
 use Rattle.std.specs.Option.{option_map_or}
 use Rattle.sha2.specs.Sha256.{sha256}
-use Rattle.signer_api.specs.State.{SignerState, CountsFault}
-use Rattle.signer_ring.specs.Ring.{ChangesOne}
-use Rattle.signer_ring.specs.Calls.{Call, signer_of, after_calls, IsVouched}
+use Rattle.signer_api.specs.State.{SignerState}
+use Rattle.signer_ring.specs.Calls.{Call, after_calls, IsVouched}
+use Rattle.signer_ring.specs.Jobs.{calls_on, CountFaults}
 use Rattle.issue_keys.specs.declared.fault.MakeFault.{MakeFault}
 use Rattle.issue_keys.specs.declared.fault.MakeFault.TheVariants.{SignerFault, KeyClash, Memory}
 use Rattle.issue_drafts.specs.IssueInput.{IssueInput}
@@ -51,11 +51,11 @@ of_manifests s b = record {
 
 -- ---- at the end
 
--- All of the objects are made. The signers made these calls, one after another, and no others,
--- and vouch for what they signed.
+-- All of the objects are made. The signers made these calls and no others, each its own in this
+-- order, and vouch for what they signed.
 pub record AreMade
-    (s : IssueInput) (b : SignInputValue) (way : Way) (drafts : List Draft) (old new : List SignerState)
-    (objects : List Object) (made : List Signed) : Type 0 where
+    (s : IssueInput) (b : SignInputValue) (way : Way) (drafts : List Draft)
+    (old new : List SignerState) (objects : List Object) (made : List Signed) : Type 0 where
   pub each : map (λ x. x.draft) made ≡ drafts
   pub signers : new ≡ after_calls old (way.calls made)
   pub vouched : All (IsVouched new) (way.calls made)
@@ -65,29 +65,31 @@ pub record AreMade
 
 -- ---- why it stopped
 
--- Calls are the first of those for all these objects, and these ones are the others, whatever
--- was to be answered to them.
+-- Of each signer these calls are the first of its own, of those for all these objects, and it has
+-- these others, whatever was to be answered to them.
 pub record AreBegun
-    (way : Way) (drafts : List Draft) (calls others : List Call) : Type 0 where
+    (way : Way) (drafts : List Draft) (calls : List Call) (others : ℕ → List Call) : Type 0 where
   pub made : List Signed
   pub each : map (λ x. x.draft) made ≡ drafts
-  pub whole : calls ++ others ≡ way.calls made
+  pub whole : (n : ℕ) → calls_on n calls ++ others n ≡ calls_on n (way.calls made)
 
--- The signer of the call that came next counted a fault, and nothing else changed.
+-- Of the signers that counted a fault at the call that came next, that one is the least. Each
+-- behind it may have counted one, too.
 pub record IsFault
     (way : Way) (drafts : List Draft) (old new : List SignerState) (number : ℕ) : Type 0 where
   pub calls : List Call
+  pub others : ℕ → List Call
+  pub begun : AreBegun way drafts calls others
   pub next : Call
-  pub others : List Call
-  pub begun : AreBegun way drafts calls (next ∷ others)
-  pub signer : signer_of next ≡ number
-  pub fault : ChangesOne number CountsFault (after_calls old calls) new
+  pub behind : List Call
+  pub more : others number ≡ next ∷ behind
+  pub fault : CountFaults number (after_calls old calls) new
 
--- Memory ran out between two calls.
+-- Memory ran out behind such calls.
 pub record IsShort
     (way : Way) (drafts : List Draft) (old new : List SignerState) : Type 0 where
   pub calls : List Call
-  pub others : List Call
+  pub others : ℕ → List Call
   pub begun : AreBegun way drafts calls others
   pub signers : new ≡ after_calls old calls
 

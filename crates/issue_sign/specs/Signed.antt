@@ -1,17 +1,13 @@
--- Certificates, CRLs and signed objects with their signatures, and what signers did for them.
-use Rattle.std.specs.Prelude.{◌≡◌, ◌<◌, ◌^◌, ◌⊎◌, ℕ, List, ◌++◌, length}
+-- Certificates, CRLs and signed objects with their signatures, and the calls for these.
+use Rattle.std.specs.Prelude.{◌<◌, ◌^◌, ℕ, List, ◌++◌, length}
 use Rattle.sha1.specs.Sha1.{sha1}
 use Rattle.sha2.specs.Sha256.{sha256}
 use Rattle.der.specs.Tags as tag
 use Rattle.der.specs.Spelling.{spelled}
 use Rattle.der.specs.Object.{Spells}
 use Rattle.object_parts.specs.FrameFormats as frames
-use Rattle.signer_api.specs.State.{SignerState, CountsFault}
-use Rattle.signer_ring.specs.Ring.{ChangesOne}
-use Rattle.signer_ring.specs.Calls.{Call, after_call, signed_of, IsVouched}
+use Rattle.signer_ring.specs.Calls.{Call, signed_of}
 use Rattle.signer_ring.specs.Calls.Call.{Signs, Once}
-use Rattle.signer_ring.specs.declared.call_fault.CallFault.{CallFault}
-use Rattle.signer_ring.specs.declared.call_fault.CallFault.TheVariants.{SignerFault, Memory}
 use Rattle.cert_obj.specs.Values.{CertValue}
 use Rattle.cert_obj.specs.Formats as certificates
 use Rattle.crl_obj.specs.Values.{CrlValue}
@@ -19,7 +15,7 @@ use Rattle.crl_obj.specs.Formats as crls
 use Rattle.cms_obj.specs.declared.values.ObjectKind.{ObjectKind}
 use Rattle.cms_obj.specs.Formats.{signed_object, object_of}
 
--- ---- what a signer did
+-- ---- calls
 
 -- The signature of bytes with a key, by the signer of that number.
 abbrev pub by_key : ℕ → List ℕ → List ℕ → List ℕ → Call
@@ -28,31 +24,6 @@ by_key signer key bytes signature = Signs signer (signed_of key bytes signature)
 -- The signature of bytes with a one-use key, which that signer made for it.
 abbrev pub by_one_use : ℕ → List ℕ → List ℕ → List ℕ → Call
 by_one_use signer key bytes signature = Once signer (signed_of key bytes signature)
-
--- That signer signed the bytes with the key, for which it vouches, and did nothing else.
-pub record IsSigned
-    (signer : ℕ) (key bytes : List ℕ) (old new : List SignerState) (signature : List ℕ)
-    : Type 0 where
-  pub call : new ≡ after_call old (by_key signer key bytes signature)
-  pub vouched : IsVouched new (by_key signer key bytes signature)
-  pub whole : length signature ≡ 256
-
--- That signer signed the bytes with a new key, which is that one and signs once.
-pub record IsSignedOnce
-    (signer : ℕ) (key bytes : List ℕ) (old new : List SignerState) (signature : List ℕ)
-    : Type 0 where
-  pub call : new ≡ after_call old (by_one_use signer key bytes signature)
-  pub vouched : IsVouched new (by_one_use signer key bytes signature)
-  pub whole : length signature ≡ 256
-
--- The signer failed, which it counted, and nothing else changed; or memory ran out, before the
--- bytes were signed with the key or behind that.
-abbrev pub IsEnd : ℕ → List ℕ → List ℕ → List SignerState → List SignerState → CallFault → Type 0
-IsEnd signer key bytes old new (SignerFault n) =
-    (n ≡ signer) × ChangesOne signer CountsFault old new
-IsEnd signer key bytes old new Memory =
-    (new ≡ old)
-    ⊎ ((signature : List ℕ) × (new ≡ after_call old (by_key signer key bytes signature)))
 
 -- ---- bytes
 

@@ -2,14 +2,19 @@
 //! 6488 section 2).
 #![tactic(auto)]
 
+mod asking;
 mod firsts;
+mod halves;
 mod manifests;
 mod object;
+mod objects;
+mod phases;
 mod roas;
 mod sign_input;
 mod signed_bytes;
 mod signed_objects;
 mod signing;
+mod steps;
 mod values;
 
 pub use manifests::sign_manifests;

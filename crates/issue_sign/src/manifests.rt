@@ -1,25 +1,25 @@
 //! The signing of manifests (RFC 9286 section 4, RFC 6488 section 2).
 
-ghost use Rattle.std.specs.Prelude.{◌≡◌, ◌<◌, ℕ, List, map, length, All, IfOk, IfErr};
+ghost use Rattle.std.specs.Prelude.{◌≡◌, ◌<◌, ℕ, List, true, false, map, length, All, IfOk, IfErr};
 ghost use Rattle.signer_api.specs.State.{SignerState};
 ghost use Rattle.signer_ring.specs.Ring.{Keeps};
 ghost use Rattle.cert_obj.specs.Values.{IsCert, cert_value};
-ghost use Rattle.cms_obj.specs.declared.values.ObjectKind.TheVariants.{Manifest};
 ghost use Rattle.payloads.specs.declared.values.ListedFile.{ListedFile};
 ghost use Rattle.payloads.specs.ManifestFormats.{IsManifest, file_view};
 ghost use Rattle.issue_values.specs.Bodies.{AreListed, manifest_value_of};
 ghost use Rattle.issue_drafts.specs.IssueInput.{input_of};
 ghost use Rattle.issue_drafts.specs.Drafts.{serial_behind};
 ghost use Rattle.issue_drafts.specs.Views.{manifest_of, IsPositioned};
-ghost use Rattle.issue_sign.specs.Objects.{attributes, number_of, manifest_certificate};
-ghost use Rattle.issue_sign.specs.Calls.{by_once};
+ghost use Rattle.issue_sign.specs.Objects.{number_of, manifest_certificate};
 ghost use Rattle.issue_sign.specs.SignInput.{SignInputValue, IsSignInput, AreManifests, CanSign, CanIssue};
 ghost use Rattle.issue_sign.specs.Made.{answers_of, signed, of_manifests, AreMade, IsStop};
-ghost use Rattle.issue_sign.specs.inner.Steps.{IsCalled, IsHalt, content_answers, manifest_text, IsContent, AreContents, last_call, IsManifestOf};
+ghost use Rattle.issue_sign.specs.inner.Steps.{manifest_text, is_content, is_begun, IsTextOf, IsLastOf, AreContents, Pairs, Triples};
 
-use crate::object::{Object, SignedContent};
+use crate::object::Object;
+use crate::objects::objects;
+use crate::phases::sign_steps;
 use crate::sign_input::SignInput;
-use crate::signed_objects::{sign_content, sign_object};
+use crate::steps::{Half, Pending, Step};
 use cert_obj::Cert;
 use cms_obj::ObjectKind;
 use issue_drafts::ManifestDraft;
@@ -30,6 +30,7 @@ use payloads::ListedFile;
 use signer_api::{PublicKey, Signer};
 use signer_ring::{Ring, vouched_stays};
 use std::alloc::{AllocError, Global};
+use std::thread::Threads;
 
 /// The content of a manifest that lists these files.
 fn content(
@@ -51,67 +52,67 @@ fn content(
     body.write(alloc)
 }
 
-/// The first signature of a manifest.
-fn sign_first<S: Signer>(
+/// What is signed first, in the manifests' order: their contents.
+fn contents<'a>(
     alloc: Global,
     sign_input: &SignInput<'_>,
-    manifest: &ManifestDraft<'_>,
-    files: Items<ListedFile>,
-    ring: &mut Ring<S>,
-) -> Result<SignedContent, MakeFault>
+    manifests: &[ManifestDraft<'a>],
+    files: Vec<Items<ListedFile>>,
+) -> Result<Vec<Step<'a>>, AllocError>
     requires sign { CanSign sign_input.now }
-    requires issuer { CanIssue sign_input.now manifest.now.issuer }
-    requires signer { manifest.now.issuer.row.now.signer < length ring.old }
-    requires files { AreListed (map file_view files) }
-    ensures content { IfOk result (IsContent (input_of sign_input.now.input.now)
-        manifest.now.issuer.row.now (map file_view files)) }
-    ensures called { IfOk result (λ signed. IsCalled ring.old ring.new (by_once manifest.now.issuer.row.now
-        (attributes (input_of sign_input.now.input.now) Manifest (manifest_text (input_of sign_input.now.input.now)
-        manifest.now.issuer.row.now (map file_view files))) (content_answers signed))) }
-    ensures stopped { IfErr result (IsHalt (by_once manifest.now.issuer.row.now
-        (attributes (input_of sign_input.now.input.now) Manifest (manifest_text (input_of sign_input.now.input.now)
-        manifest.now.issuer.row.now (map file_view files)))) ring.old ring.new) }
-    ensures kept { Keeps ring.old ring.new }
+    requires manifests { All (λ d. CanIssue sign_input.now d.issuer) manifests.now }
+    requires each { length files.items ≡ length manifests.now }
+    requires files { All (λ list. AreListed (map file_view list)) files.items }
+    ensures each { IfOk result (λ steps. length steps.items ≡ length manifests.now) }
+    ensures issuers { IfOk result (λ steps. Pairs (λ d st. st.issuer.now ≡ d.issuer.row.now) manifests.now steps.items) }
+    ensures kinds { IfOk result (λ steps. All (λ st. is_content st.pending ≡ true) steps.items) }
+    ensures texts { IfOk result (λ steps. Triples (λ d list st. IsTextOf (input_of sign_input.now.input.now)
+        d.issuer.row.now (map file_view list) st.pending) manifests.now files.items steps.items) }
 {
-    let content = content(alloc, sign_input, manifest, files)?;
-    let moment = sign_input.input.work.moment;
-    let signer = manifest.issuer.row.signer;
-    let once = sign_content(alloc, ObjectKind::Manifest, &content, moment, signer, ring)?;
-    Ok(SignedContent { content, once })
+    let mut steps = Vec::with_capacity(alloc, manifests.len())?;
+    for list in files {
+        let position = steps.len();
+        let manifest = &manifests[position];
+        let content = content(alloc, sign_input, manifest, list)?;
+        let pending = Pending::Content {
+            kind: ObjectKind::Manifest,
+            content,
+        };
+        let issuer = manifest.issuer.row;
+        steps.push(Step { issuer, pending })?;
+    }
+    Ok(steps)
 }
 
-/// Signs the contents of the manifests, in their order.
-fn sign_contents<S: Signer>(
+/// Has the contents of the manifests signed, each signer its own in their order, all at the same time.
+fn sign_contents<S: Signer + Send, R: Threads + Sync>(
+    rt: &R,
     alloc: Global,
     sign_input: &SignInput<'_>,
     manifests: &[ManifestDraft<'_>],
     files: Vec<Items<ListedFile>>,
     ring: &mut Ring<S>,
-) -> Result<Vec<SignedContent>, MakeFault>
+) -> Result<Vec<Half>, MakeFault>
     requires sign { CanSign sign_input.now }
     requires manifests { All (λ d. CanIssue sign_input.now d.issuer) manifests.now }
     requires signers { All (λ d. d.issuer.row.now.signer < length ring.old) manifests.now }
     requires each { length files.items ≡ length manifests.now }
     requires files { All (λ list. AreListed (map file_view list)) files.items }
-    ensures each { IfOk result (λ contents. length contents.items ≡ length manifests.now) }
-    ensures contents { IfOk result (λ contents. (b : SignInputValue) (next : List ℕ)
+    ensures each { IfOk result (λ halves. length halves.items ≡ length manifests.now) }
+    ensures begun { IfOk result (λ halves. All (λ h. is_begun h ≡ true) halves.items) }
+    ensures contents { IfOk result (λ halves. (b : SignInputValue) (next : List ℕ)
         → AreManifests b manifests.now next files.items
-        → AreContents (input_of sign_input.now.input.now) b manifests.now contents.items ring.old ring.new) }
+        → AreContents (input_of sign_input.now.input.now) b manifests.now halves.items ring.old ring.new) }
     ensures stopped { IfErr result (λ fault. (b : SignInputValue) (next : List ℕ)
         → AreManifests b manifests.now next files.items
         → IsStop (of_manifests (input_of sign_input.now.input.now) b) (map manifest_of manifests.now)
         ring.old ring.new fault) }
     ensures kept { Keeps ring.old ring.new }
 {
-    vouched_stays();
-    let mut contents = Vec::with_capacity(alloc, manifests.len())?;
-    for list in files {
-        let position = contents.len();
-        let manifest = &manifests[position];
-        let content = sign_first(alloc, sign_input, manifest, list, ring)?;
-        contents.push(content)?;
-    }
-    Ok(contents)
+    let steps = contents(alloc, sign_input, manifests, files)?;
+    let moment = sign_input.input.work.moment;
+    let halves = sign_steps(rt, alloc, moment, steps, ring)?;
+    Ok(halves)
 }
 
 /// The certificate of the key that signed the content of a manifest.
@@ -140,91 +141,109 @@ fn certificate(
     )
 }
 
-/// The manifest of a content that was signed.
-fn finish_manifest<S: Signer>(
+/// What is signed for a manifest behind its content: the certificate of the key that signed that.
+fn last(
     alloc: Global,
     sign_input: &SignInput<'_>,
     manifest: &ManifestDraft<'_>,
     serial: u64,
-    content: SignedContent,
-    ring: &mut Ring<S>,
-) -> Result<Object, MakeFault>
+    half: Half,
+) -> Result<Pending, AllocError>
     requires sign { CanSign sign_input.now }
     requires issuer { CanIssue sign_input.now manifest.now.issuer }
-    requires signer { manifest.now.issuer.row.now.signer < length ring.old }
-    ensures finished { IfOk result (λ object. (b : SignInputValue) → IsSignInput sign_input.now b → IsPositioned b.rows manifest.now.issuer
+    requires begun { is_begun half ≡ true }
+    ensures made { IfOk result (λ p. is_content p ≡ false) }
+    ensures last { IfOk result (λ p. (b : SignInputValue) → IsSignInput sign_input.now b → IsPositioned b.rows manifest.now.issuer
         → serial ≡ serial_behind b.all manifest.now.issuer.row.now
-        → IsContent (input_of sign_input.now.input.now) manifest.now.issuer.row.now
-        (b.files manifest.now.issuer.row.now) content
-        → IsManifestOf (input_of sign_input.now.input.now) b (manifest_of manifest.now) content object
-        ring.old ring.new) }
-    ensures stopped { IfErr result (λ fault. (b : SignInputValue) → IsSignInput sign_input.now b → IsPositioned b.rows manifest.now.issuer
-        → serial ≡ serial_behind b.all manifest.now.issuer.row.now
-        → IsHalt (λ a. last_call (input_of sign_input.now.input.now) b (manifest_of manifest.now)
-        content.once.key.bytes a.last) ring.old ring.new fault) }
-    ensures kept { Keeps ring.old ring.new }
+        → IsLastOf (input_of sign_input.now.input.now) b (manifest_of manifest.now) half p) }
 {
-    let SignedContent { content, once } = content;
-    let cert = certificate(alloc, sign_input, manifest, &once.key, serial)?;
-    let row = manifest.issuer.row;
-    let signed = sign_object(
-        alloc,
-        ObjectKind::Manifest,
-        &content,
-        &cert,
-        &once,
-        row.signer,
-        &row.key,
-        ring,
-    )?;
-    Ok(Object::new(signed, Some(once)))
+    let Half::Begun { content } = half else {
+        unreachable!()
+    };
+    let cert = certificate(alloc, sign_input, manifest, &content.once.key, serial)?;
+    let tbs = cert.tbs(alloc)?;
+    let kind = ObjectKind::Manifest;
+    Ok(Pending::Entity { kind, content, tbs })
 }
 
-/// Signs the certificates of the manifests, in their order. Each takes the next serial of its key.
-fn finish_all<S: Signer>(
+/// What is signed behind the contents, in the manifests' order. Each certificate takes the next serial of its key.
+fn lasts<'a>(
+    alloc: Global,
+    sign_input: &SignInput<'_>,
+    manifests: &[ManifestDraft<'a>],
+    next: &[u64],
+    halves: Vec<Half>,
+) -> Result<Vec<Step<'a>>, AllocError>
+    requires sign { CanSign sign_input.now }
+    requires manifests { All (λ d. CanIssue sign_input.now d.issuer) manifests.now }
+    requires next { length next.now ≡ length sign_input.now.publishers.now }
+    requires each { length halves.items ≡ length manifests.now }
+    requires begun { All (λ h. is_begun h ≡ true) halves.items }
+    ensures each { IfOk result (λ steps. length steps.items ≡ length manifests.now) }
+    ensures issuers { IfOk result (λ steps. Pairs (λ d st. st.issuer.now ≡ d.issuer.row.now) manifests.now steps.items) }
+    ensures made { IfOk result (λ steps. All (λ st. is_content st.pending ≡ false) steps.items) }
+    ensures lasts { IfOk result (λ steps. (b : SignInputValue) (lists : List (List ListedFile))
+        → IsSignInput sign_input.now b → AreManifests b manifests.now next.now lists
+        → Triples (λ d h st. IsLastOf (input_of sign_input.now.input.now) b (manifest_of d) h st.pending)
+        manifests.now halves.items steps.items) }
+{
+    let mut steps = Vec::with_capacity(alloc, halves.len())?;
+    for half in halves {
+        let position = steps.len();
+        let manifest = &manifests[position];
+        let serial = next[manifest.issuer.position];
+        let pending = last(alloc, sign_input, manifest, serial, half)?;
+        let issuer = manifest.issuer.row;
+        steps.push(Step { issuer, pending })?;
+    }
+    Ok(steps)
+}
+
+/// Has the certificates of the manifests signed, each signer its own in their order, all at the same time. Each takes
+/// the next serial of its key.
+fn finish_all<S: Signer + Send, R: Threads + Sync>(
+    rt: &R,
     alloc: Global,
     sign_input: &SignInput<'_>,
     manifests: &[ManifestDraft<'_>],
     next: &[u64],
-    contents: Vec<SignedContent>,
+    halves: Vec<Half>,
     ring: &mut Ring<S>,
 ) -> Result<Vec<Object>, MakeFault>
     requires sign { CanSign sign_input.now }
     requires manifests { All (λ d. CanIssue sign_input.now d.issuer) manifests.now }
     requires signers { All (λ d. d.issuer.row.now.signer < length ring.old) manifests.now }
     requires next { length next.now ≡ length sign_input.now.publishers.now }
-    requires each { length contents.items ≡ length manifests.now }
+    requires each { length halves.items ≡ length manifests.now }
+    requires begun { All (λ h. is_begun h ≡ true) halves.items }
     ensures made { IfOk result (λ objects. (b : SignInputValue) (lists : List (List ListedFile)) (old : List SignerState)
         → IsSignInput sign_input.now b → AreManifests b manifests.now next.now lists
-        → AreContents (input_of sign_input.now.input.now) b manifests.now contents.items old ring.old
+        → AreContents (input_of sign_input.now.input.now) b manifests.now halves.items old ring.old
         → AreMade (input_of sign_input.now.input.now) b (of_manifests (input_of sign_input.now.input.now) b)
         (map manifest_of manifests.now) old ring.new objects.items
         (signed (map manifest_of manifests.now) (map answers_of objects.items))) }
     ensures stopped { IfErr result (λ fault. (b : SignInputValue) (lists : List (List ListedFile)) (old : List SignerState)
         → IsSignInput sign_input.now b → AreManifests b manifests.now next.now lists
-        → AreContents (input_of sign_input.now.input.now) b manifests.now contents.items old ring.old
+        → AreContents (input_of sign_input.now.input.now) b manifests.now halves.items old ring.old
         → IsStop (of_manifests (input_of sign_input.now.input.now) b) (map manifest_of manifests.now)
         old ring.new fault) }
     ensures kept { Keeps ring.old ring.new }
 {
     vouched_stays();
-    let mut objects = Vec::with_capacity(alloc, contents.len())?;
-    for content in contents {
-        let position = objects.len();
-        let manifest = &manifests[position];
-        let serial = next[manifest.issuer.position];
-        let object = finish_manifest(alloc, sign_input, manifest, serial, content, ring)?;
-        objects.push(object)?;
-    }
+    let steps = lasts(alloc, sign_input, manifests, next, halves)?;
+    let moment = sign_input.input.work.moment;
+    let halves = sign_steps(rt, alloc, moment, steps, ring)?;
+    let objects = objects(alloc, halves)?;
     Ok(objects)
 }
 
 /// Signs manifests, which list these files. Their certificates take the next serials of their keys.
 ///
-/// In the manifests' order their contents are signed, and then their certificates. The keys that sign contents come
-/// from the signers of the issuing keys. `next` has the next serial for each key of the edition, and `files` a list
+/// Their contents are signed, and then their certificates: by each signer its own, in the manifests' order, and by all
+/// of them at the same time. The keys that sign contents come from the signers of the issuing keys. `next` has the next serial for each key of the edition, and `files` a list
 /// for each manifest.
-pub fn sign_manifests<S: Signer>(
+pub fn sign_manifests<S: Signer + Send, R: Threads + Sync>(
+    rt: &R,
     alloc: Global,
     sign_input: &SignInput<'_>,
     manifests: &[ManifestDraft<'_>],
@@ -239,15 +258,15 @@ pub fn sign_manifests<S: Signer>(
     requires each { length files.items ≡ length manifests.now }
     requires files { All (λ list. AreListed (map file_view list)) files.items }
 
-    // Of whichever basis these are: the manifests are its own, and the signers made the calls for them, in their
-    // order.
+    // Of whichever basis these are: the manifests are its own, and the signers made the calls for them, each its own
+    // in their order.
     ensures made { IfOk result (λ objects. (b : SignInputValue)
         → IsSignInput sign_input.now b → AreManifests b manifests.now next.now files.items
         → AreMade (input_of sign_input.now.input.now) b (of_manifests (input_of sign_input.now.input.now) b)
         (map manifest_of manifests.now) ring.old ring.new objects.items
         (signed (map manifest_of manifests.now) (map answers_of objects.items))) }
 
-    // A signer failed, or memory ran out, behind the first of these calls.
+    // A signer failed, or memory ran out, behind the first of each signer's own calls.
     ensures stopped { IfErr result (λ fault. (b : SignInputValue)
         → IsSignInput sign_input.now b → AreManifests b manifests.now next.now files.items
         → IsStop (of_manifests (input_of sign_input.now.input.now) b) (map manifest_of manifests.now)
@@ -256,6 +275,6 @@ pub fn sign_manifests<S: Signer>(
     // What the signers vouched for they vouch for on every answer.
     ensures kept { Keeps ring.old ring.new }
 {
-    let contents = sign_contents(alloc, sign_input, manifests, files, ring)?;
-    finish_all(alloc, sign_input, manifests, next, contents, ring)
+    let halves = sign_contents(rt, alloc, sign_input, manifests, files, ring)?;
+    finish_all(rt, alloc, sign_input, manifests, next, halves, ring)
 }

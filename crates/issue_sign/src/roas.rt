@@ -1,7 +1,7 @@
 //! The second signatures: those of the certificates of ROAs (RFC 9582 section 3, RFC 6488 section
 //! 2).
 
-ghost use Rattle.std.specs.Prelude.{◌≡◌, ◌<◌, true, List, map, length, All, IfOk, IfErr};
+ghost use Rattle.std.specs.Prelude.{◌≡◌, ◌<◌, true, false, List, map, length, All, IfOk, IfErr};
 ghost use Rattle.signer_api.specs.State.{SignerState};
 ghost use Rattle.signer_ring.specs.Ring.{Keeps};
 ghost use Rattle.cert_obj.specs.Values.{IsCert, cert_value, is_uri};
@@ -11,21 +11,23 @@ ghost use Rattle.issue_drafts.specs.Views.{draft_of, kind_of};
 ghost use Rattle.issue_sign.specs.Objects.{roa_certificate};
 ghost use Rattle.issue_sign.specs.SignInput.{SignInputValue, IsSignInput, AreDrafts, CanSign, CanIssue, CanBeMade};
 ghost use Rattle.issue_sign.specs.Made.{answers_of, signed, of_drafts, AreMade, IsStop};
-ghost use Rattle.issue_sign.specs.inner.Steps.{IsHalfOfKind, IsHalf, IsDraft, IsFinished, IsFinishHalt, Pairs, AreHalves};
+ghost use Rattle.issue_sign.specs.inner.Steps.{is_route, is_content, is_begun, IsHalf, IsSecondOf, IsDraft, Pairs, Triples, AreHalves};
 
-use crate::firsts::Half;
-use crate::object::{Object, SignedContent};
+use crate::object::Object;
+use crate::objects::objects;
+use crate::phases::sign_steps;
 use crate::sign_input::SignInput;
-use crate::signed_objects::sign_object;
+use crate::steps::{Half, Pending, Step};
 use cert_obj::Cert;
 use cms_obj::ObjectKind;
-use issue_drafts::Draft;
+use issue_drafts::{Draft, DraftKind};
 use issue_keys::MakeFault;
 use issue_values::roa_certificate;
 use origins::Origin;
 use signer_api::{PublicKey, Signer};
 use signer_ring::{Ring, vouched_stays};
 use std::alloc::{AllocError, Global};
+use std::thread::Threads;
 
 /// The certificate of the key that signed the content of a ROA.
 fn certificate(
@@ -57,51 +59,72 @@ fn certificate(
     )
 }
 
-/// The object of a draft that was signed once.
-fn finish_draft<S: Signer>(
+/// What is signed for a draft behind its first signature.
+fn second(
     alloc: Global,
     sign_input: &SignInput<'_>,
     draft: &Draft<'_>,
     serial: u64,
     half: Half,
-    ring: &mut Ring<S>,
-) -> Result<Object, MakeFault>
+) -> Result<Pending, AllocError>
     requires sign { CanSign sign_input.now }
     requires draft { CanBeMade sign_input.now draft.now }
-    requires signer { draft.now.issuer.row.now.signer < length ring.old }
-    requires kind { IsHalfOfKind draft.now.kind half }
-    ensures finished { IfOk result (λ object. (b : SignInputValue) → IsSignInput sign_input.now b → IsDraft b draft.now serial
-        → IsHalf (input_of sign_input.now.input.now) b (draft_of draft.now) (kind_of draft.now.kind) half
-        → IsFinished (input_of sign_input.now.input.now) b (draft_of draft.now) (kind_of draft.now.kind) half object
-        ring.old ring.new) }
-    ensures stopped { IfErr result (λ fault. (b : SignInputValue) → IsSignInput sign_input.now b → IsDraft b draft.now serial
-        → IsHalf (input_of sign_input.now.input.now) b (draft_of draft.now) (kind_of draft.now.kind) half
-        → IsFinishHalt (input_of sign_input.now.input.now) b (draft_of draft.now) half ring.old ring.new fault) }
-    ensures kept { Keeps ring.old ring.new }
+    requires kind { is_begun half ≡ is_route draft.now.kind }
+    ensures made { IfOk result (λ p. is_content p ≡ false) }
+    ensures second { IfOk result (λ p. (b : SignInputValue) → IsSignInput sign_input.now b → IsDraft b draft.now serial
+        → IsSecondOf (input_of sign_input.now.input.now) b (draft_of draft.now) (kind_of draft.now.kind) half p) }
 {
     match half {
-        Half::Made { object } => Ok(object),
-        Half::Begun { origin, content } => {
-            let SignedContent { content, once } = content;
-            let cert = certificate(alloc, sign_input, draft, &origin, &once.key, serial)?;
-            let row = draft.issuer.row;
-            let signed = sign_object(
-                alloc,
-                ObjectKind::Roa,
-                &content,
-                &cert,
-                &once,
-                row.signer,
-                &row.key,
-                ring,
-            )?;
-            Ok(Object::new(signed, Some(once)))
+        Half::Made { object } => Ok(Pending::Whole { object }),
+        Half::Begun { content } => {
+            let DraftKind::Route { origin } = draft.kind else {
+                unreachable!()
+            };
+            let key = &content.once.key;
+            let cert = certificate(alloc, sign_input, draft, &origin, key, serial)?;
+            let tbs = cert.tbs(alloc)?;
+            let kind = ObjectKind::Roa;
+            Ok(Pending::Entity { kind, content, tbs })
         }
     }
 }
 
-/// Signs the certificates of the ROAs, in the drafts' order. All objects but the manifests are then made.
-pub fn finish_all<S: Signer>(
+/// What is signed behind the first signatures, in the drafts' order.
+fn seconds<'a>(
+    alloc: Global,
+    sign_input: &SignInput<'_>,
+    drafts: &[Draft<'a>],
+    serials: &[u64],
+    halves: Vec<Half>,
+) -> Result<Vec<Step<'a>>, AllocError>
+    requires sign { CanSign sign_input.now }
+    requires drafts { All (CanBeMade sign_input.now) drafts.now }
+    requires serials { length serials.now ≡ length drafts.now }
+    requires each { length halves.items ≡ length drafts.now }
+    requires kinds { Pairs (λ d h. is_begun h ≡ is_route d.kind) drafts.now halves.items }
+    ensures each { IfOk result (λ steps. length steps.items ≡ length drafts.now) }
+    ensures issuers { IfOk result (λ steps. Pairs (λ d st. st.issuer.now ≡ d.issuer.row.now) drafts.now steps.items) }
+    ensures made { IfOk result (λ steps. All (λ st. is_content st.pending ≡ false) steps.items) }
+    ensures seconds { IfOk result (λ steps. (b : SignInputValue)
+        → IsSignInput sign_input.now b → AreDrafts b drafts.now serials.now
+        → Triples (λ d h st. IsSecondOf (input_of sign_input.now.input.now) b (draft_of d) (kind_of d.kind) h st.pending)
+        drafts.now halves.items steps.items) }
+{
+    let mut steps = Vec::with_capacity(alloc, halves.len())?;
+    for half in halves {
+        let position = steps.len();
+        let draft = &drafts[position];
+        let pending = second(alloc, sign_input, draft, serials[position], half)?;
+        let issuer = draft.issuer.row;
+        steps.push(Step { issuer, pending })?;
+    }
+    Ok(steps)
+}
+
+/// Has the certificates of the ROAs signed, each signer its own in the drafts' order, all at the same time. All
+/// objects but the manifests are then made.
+pub fn finish_all<S: Signer + Send, R: Threads + Sync>(
+    rt: &R,
     alloc: Global,
     sign_input: &SignInput<'_>,
     drafts: &[Draft<'_>],
@@ -114,7 +137,7 @@ pub fn finish_all<S: Signer>(
     requires signers { All (λ d. d.issuer.row.now.signer < length ring.old) drafts.now }
     requires serials { length serials.now ≡ length drafts.now }
     requires each { length halves.items ≡ length drafts.now }
-    requires kinds { Pairs (λ d h. IsHalfOfKind d.kind h) drafts.now halves.items }
+    requires kinds { Pairs (λ d h. is_begun h ≡ is_route d.kind) drafts.now halves.items }
     ensures made { IfOk result (λ objects. (b : SignInputValue) (old : List SignerState)
         → IsSignInput sign_input.now b → AreDrafts b drafts.now serials.now
         → AreHalves (input_of sign_input.now.input.now) b drafts.now halves.items old ring.old
@@ -128,18 +151,9 @@ pub fn finish_all<S: Signer>(
     ensures kept { Keeps ring.old ring.new }
 {
     vouched_stays();
-    let mut objects = Vec::with_capacity(alloc, halves.len())?;
-    for half in halves {
-        let position = objects.len();
-        let object = finish_draft(
-            alloc,
-            sign_input,
-            &drafts[position],
-            serials[position],
-            half,
-            ring,
-        )?;
-        objects.push(object)?;
-    }
+    let steps = seconds(alloc, sign_input, drafts, serials, halves)?;
+    let moment = sign_input.input.work.moment;
+    let halves = sign_steps(rt, alloc, moment, steps, ring)?;
+    let objects = objects(alloc, halves)?;
     Ok(objects)
 }

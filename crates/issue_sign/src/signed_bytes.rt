@@ -1,16 +1,15 @@
-//! The signing of certificates (RFC 5280 section 4.1.1).
+//! Certificates and CRLs with their signatures (RFC 5280 sections 4.1.1 and 5.1.1).
 
-ghost use Rattle.std.specs.Prelude.{◌≡◌, ◌<◌, length, IfOk, IfErr};
-ghost use Rattle.signer_ring.specs.Ring.{Keeps};
-ghost use Rattle.cert_obj.specs.Values.{IsCert, cert_value};
+ghost use Rattle.std.specs.Prelude.{◌≡◌, IfOk};
+ghost use Rattle.cert_obj.specs.Values.{CertValue, IsCert};
 ghost use Rattle.cert_obj.specs.Formats as certificates;
-ghost use Rattle.issue_sign.specs.Signed.{framed, IsSigned, IsEnd, IsCertificate};
+ghost use Rattle.crl_obj.specs.Values.{CrlValue, IsCrl};
+ghost use Rattle.crl_obj.specs.Formats as crls;
+ghost use Rattle.issue_sign.specs.Signed.{framed, IsCertificate, IsCrlOf};
 
-use cert_obj::Cert;
 use pub_set::Content;
-use signer_api::{PublicKey, Signature, Signer};
-use signer_ring::{CallFault, Ring};
-use std::alloc::Global;
+use signer_api::Signature;
+use std::alloc::{AllocError, Global};
 
 /// An object that is signed, with the signature.
 #[derive(Debug, Drop)]
@@ -19,38 +18,34 @@ pub struct SignedBytes {
     pub signature: Signature,
 }
 
-/// What the type says: a signature is 256 bytes.
-pub fn is_whole(bytes: &[u8; 256])
-    ensures { length bytes.now ≡ 256 }
-{}
-
-/// A certificate that a key signs (RFC 5280 section 4.1).
-pub fn sign_certificate<S: Signer>(
+/// The certificate of the bytes that are signed, with the signature (RFC 5280 section 4.1).
+pub fn certificate(
     alloc: Global,
-    cert: &Cert,
-    signer: u32,
-    key: &PublicKey,
-    ring: &mut Ring<S>,
-) -> Result<SignedBytes, CallFault>
-    requires signer { signer < length ring.old }
-    requires cert { IsCert (cert_value cert.now) }
-
-    // The certificate with the key's signature, which is all that the signer did.
-    ensures bytes { IfOk result (λ made. made.bytes
-        ≡ framed (certificates.signed_bytes (cert_value cert.now)) made.signature.bytes) }
-    ensures spelled { IfOk result (λ made. IsCertificate (cert_value cert.now) made.signature.bytes) }
-    ensures signed { IfOk result (λ made. IsSigned signer key.now.bytes
-        (certificates.signed_bytes (cert_value cert.now)) ring.old ring.new made.signature.bytes) }
-
-    ensures stopped { IfErr result
-        (IsEnd signer key.now.bytes (certificates.signed_bytes (cert_value cert.now)) ring.old ring.new) }
-    ensures kept { Keeps ring.old ring.new }
+    tbs: &[u8],
+    signature: Signature,
+) -> Result<SignedBytes, AllocError>
+    ensures bytes { IfOk result (λ made. made.bytes ≡ framed tbs.now signature.bytes) }
+    ensures signature { IfOk result (λ made. made.signature ≡ signature) }
+    ensures spelled { IfOk result (λ made. (cert : CertValue) → IsCert cert
+        → tbs.now ≡ certificates.signed_bytes cert → IsCertificate cert signature.bytes) }
 {
-    let tbs = cert.tbs(alloc)?;
-    let signed = tbs.as_slice();
-    let signature = signer_ring::sign(alloc, ring, signer, key, signed)?;
-    is_whole(&signature.bytes);
-    let written = cert_obj::write(alloc, signed, &signature)?;
+    let written = cert_obj::write(alloc, tbs, &signature)?;
+    let bytes = Content::new(alloc, written)?;
+    Ok(SignedBytes { bytes, signature })
+}
+
+/// The CRL of the bytes that are signed, with the signature (RFC 5280 section 5.1).
+pub fn revocations(
+    alloc: Global,
+    tbs: &[u8],
+    signature: Signature,
+) -> Result<SignedBytes, AllocError>
+    ensures bytes { IfOk result (λ made. made.bytes ≡ framed tbs.now signature.bytes) }
+    ensures signature { IfOk result (λ made. made.signature ≡ signature) }
+    ensures spelled { IfOk result (λ made. (crl : CrlValue) → IsCrl crl
+        → tbs.now ≡ crls.signed_bytes crl → IsCrlOf crl signature.bytes) }
+{
+    let written = crl_obj::write(alloc, tbs, &signature)?;
     let bytes = Content::new(alloc, written)?;
     Ok(SignedBytes { bytes, signature })
 }

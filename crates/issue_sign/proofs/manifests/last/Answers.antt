@@ -1,0 +1,13 @@
+use Rattle.std.proofs.Common.{◌≡◌, refl, sym, ap, subst, ◌∙◌}
+use Rattle.cert_obj.specs.Values.{cert_value}
+use Rattle.issue_drafts.specs.IssueInput.{input_of}
+use Rattle.issue_drafts.specs.Views.{manifest_of}
+use Rattle.issue_sign.proofs.Manifested.{last-entity}
+use Rattle.issue_sign.proofs.manifests.last.Goals as goal
+
+pub returns-clause-last : goal.returns-clause-last
+returns-clause-last c =
+    λ b basis positioned serial.
+    last-entity (input_of c.args.sign_input.now.input.now) b (manifest_of c.args.manifest.now) c.args.half c.in-Begun.content
+    (cert_value c.in_ok-cert.cert) c.in_ok-tbs.tbs c.in-Begun.is (c.in_ok-cert.ensures.value b basis positioned serial)
+    c.in_ok-cert.ensures.spelled c.in_ok-tbs.ensures
