@@ -1,7 +1,7 @@
 -- The keys that were made and the objects over them are what the making answers.
 use Rattle.std.proofs.Common.{◌≡◌, ℕ, ◌≤◌, List, [], ◌∷◌, ◌++◌, length, map, take, drop, sym, ap, subst, ◌∙◌, arith}
 use Rattle.std.specs.List.{All}
-use Rattle.std.specs.List.Sorted.{IsPermutation}
+use Rattle.std.specs.List.Sorted.{IsPermutation, IsStableBy}
 use Rattle.std.proofs.lemmas.List.{take-append-drop}
 use Rattle.std.proofs.lemmas.List.Elements.{All-append, All-cons}
 use Rattle.signer_api.specs.State.{SignerState}
@@ -13,7 +13,7 @@ use Rattle.issue_keys.specs.Making.{making, AreMade}
 use Rattle.issue_drafts.specs.WorkKeys.{Keys, keys_at, all_keys}
 use Rattle.issue_drafts.specs.IssueInput.{IssueInput}
 use Rattle.issue_sign.specs.Calls.{first_calls, second_calls, content_calls, last_calls}
-use Rattle.issue_make.specs.Trace.{all_of, row_after}
+use Rattle.issue_make.specs.Trace.{all_of, row_after, is_before}
 use Rattle.issue_make.specs.declared.made.Made.{Made}
 use Rattle.issue_make.specs.inner.Naming.{CanName}
 use Rattle.issue_make.specs.CanMake.{CanMake}
@@ -63,5 +63,6 @@ is-made s live rows n old between new made are f =
       issued = f.outcome.issued;
       rows = subst (λ (l : List KeyRow). IsPermutation (map (row_after s c) l) made.rows) all f.outcome.after;
       sorted = f.outcome.sorted;
+      stable = subst (λ (l : List KeyRow). IsStableBy is_before (map (row_after s c) l) made.rows) all f.outcome.stable;
       signatures = f.outcome.signatures;
     }

@@ -217,7 +217,7 @@ plain-serial s trace d (Roa origin) e plain = rw e refl
 plain-serial s trace d Crl e plain = rw e refl
 plain-serial s trace d Manifest e plain = absurd cc
 
-plain-bytes : (s : IssueInput) (trace : IssuingTrace) (x : Signed) (k : Kind) → is_manifest k ≡ false
+pub plain-bytes : (s : IssueInput) (trace : IssuingTrace) (x : Signed) (k : Kind) → is_manifest k ≡ false
     → bytes_of s trace.keys (all_of s trace) trace.entries x ≡ final_bytes s trace x k
 plain-bytes s trace x (Certificate subject held) plain = refl
 plain-bytes s trace x (Roa origin) plain = refl
@@ -228,7 +228,7 @@ last-serial : (s : IssueInput) (trace : IssuingTrace) (d : Draft) (k : Kind) →
     → serial_behind (all_of s trace) d.issuer ≡ serial_of s trace d k
 last-serial s trace d k e = rw e refl
 
-last-bytes : (s : IssueInput) (trace : IssuingTrace) (x : Signed) (k : Kind) → k ≡ Manifest
+pub last-bytes : (s : IssueInput) (trace : IssuingTrace) (x : Signed) (k : Kind) → k ≡ Manifest
     → manifest_bytes s trace.keys (all_of s trace) trace.files x ≡ final_bytes s trace x k
 last-bytes s trace x k e = rw e refl
 

@@ -4,7 +4,7 @@ use Rattle.std.proofs.Common.{List, [], ◌∷◌, length, get_or, map, refl, sy
 use Rattle.std.specs.Cmp.{IsStrictWeakOrder}
 use Rattle.std.specs.Ordering.{is_lt, nat_cmp, ordering_then}
 use Rattle.std.specs.declared.cmp.Ordering.{Ordering}
-use Rattle.std.specs.List.Sorted.{IsPermutation}
+use Rattle.std.specs.List.Sorted.{IsPermutation, IsStableBy}
 use Rattle.std.specs.Simd.Lanes.{zip2}
 use Rattle.std.proofs.lemmas.Bool.Decides.{nat_tests}
 use Rattle.std.proofs.lemmas.List.MinMax.{IsStrictWeakOrder-by_number}
@@ -136,3 +136,12 @@ pub rows-after-are : (s : IssueInput) (trace : IssuingTrace) (moment : ℕ) (key
 rows-after-are s trace moment keys points next revoked rows ordered h is moved =
     subst (λ (l : List KeyRow). IsPermutation l ordered)
     (is ∙ rows-are s trace moment keys points next revoked h) moved
+
+pub rows-after-stand : (s : IssueInput) (trace : IssuingTrace) (moment : ℕ) (keys : List KeyRow) (points : List Bool)
+    (next : List ℕ) (revoked : List (List RevokedRow)) (rows ordered : List KeyRow)
+    → AreAfter s trace moment keys points next revoked
+    → rows ≡ rows_with moment keys points next revoked → IsStableBy is_before rows ordered
+    → IsStableBy is_before (map (row_after s trace) keys) ordered
+rows-after-stand s trace moment keys points next revoked rows ordered h is stands =
+    subst (λ (l : List KeyRow). IsStableBy is_before l ordered)
+    (is ∙ rows-are s trace moment keys points next revoked h) stands

@@ -1,8 +1,11 @@
+pub mod Alike
 pub mod Assembled
 pub mod ComesOut
 pub mod Coming
 pub mod Conditions
+pub mod Determined
 pub mod Found
+pub mod Issuers
 pub mod Issuing
 pub mod KeyOrder
 pub mod KeyRows
@@ -10,8 +13,13 @@ pub mod Listable
 pub mod Lists
 pub mod MakeStops
 pub mod Names
+pub mod OneOrder
 pub mod Parts
 pub mod Planned
+pub mod SameKeys
+pub mod SameLists
+pub mod SameObjects
+pub mod SameOutcome
 pub mod Signable
 pub mod Signed
 pub mod Stages

@@ -2,9 +2,9 @@
 use Rattle.std.proofs.Common.{inl, inr, List, [], ◌++◌, map, refl, sym, ap, subst, ◌∙◌, append-nil}
 use Rattle.std.specs.List.{All}
 use Rattle.std.proofs.lemmas.List.Elements.{All-nil, All-append}
-use Rattle.signer_api.specs.State.{SignerState, CountsFault}
-use Rattle.signer_ring.specs.Ring.{ChangesOne}
+use Rattle.signer_api.specs.State.{SignerState}
 use Rattle.signer_ring.specs.Calls.{Call, after_calls}
+use Rattle.signer_ring.specs.Jobs.{CountFaults}
 use Rattle.key_roll.specs.declared.rows.KeyRow.{KeyRow}
 use Rattle.key_roll.specs.declared.work.NewKey.{NewKey}
 use Rattle.issue_keys.specs.declared.fault.MakeFault.{MakeFault}
@@ -21,7 +21,7 @@ use Rattle.issue_make.specs.Made.{IsSigning, IsBegun, IsStop}
 use Rattle.issue_make.specs.inner.Signing.{sign_input_of, AreSigned, IsSigningStop}
 use Rattle.issue_make.specs.declared.plans.ObjectPlan.{ObjectPlan}
 use Rattle.issue_make.specs.declared.objects.Objects.{Objects}
-use Rattle.issue_make.proofs.Stops.{drafts-sign, manifests-sign, calls-on}
+use Rattle.issue_make.proofs.Stops.{drafts-sign, manifests-sign, one-counts, calls-on}
 
 -- ---- beginnings of the calls
 
@@ -59,7 +59,7 @@ pub stop-keys : (s : IssueInput) (live : List KeyRow) (old new : List SignerStat
 stop-keys s live old new (SignerFault n) stop = record {
   calls = map making stop.made;
   begun = only-keys s live stop.made stop.keys stop.apart;
-  fault = stop.fault;
+  fault = one-counts n (after_calls old (map making stop.made)) new stop.fault;
 }
 stop-keys s live old new (KeyClash id) stop = stop
 stop-keys s live old new Memory stop = inl stop
@@ -76,7 +76,7 @@ pub stop-signing : (s : IssueInput) (live : List KeyRow) (old between new : List
 stop-signing s live old between new fresh (SignerFault n) made stop = record {
   calls = map making fresh ++ stop.0;
   begun = behind-keys s live fresh stop.0 made.keys made.apart stop.1;
-  fault = subst (λ (ring : List SignerState). ChangesOne n CountsFault ring new)
+  fault = subst (λ (ring : List SignerState). CountFaults n ring new)
       (ap (λ (ring : List SignerState). after_calls ring stop.0) made.signers ∙ calls-on old (map making fresh) stop.0) stop.2;
 }
 stop-signing s live old between new fresh (KeyClash id) made stop = absurd stop

@@ -1,10 +1,14 @@
 -- Why the signing of objects stopped: behind calls that sign.
-use Rattle.std.proofs.Common.{◌≡◌, suc, List, [], ◌∷◌, ◌++◌, map, refl, sym, ap, subst, ◌∙◌, arith}
+use Rattle.std.proofs.Common.{◌≡◌, ◌≢◌, ℕ, suc, List, [], ◌∷◌, ◌++◌, Bool, true, false, cond, eqb, map, Option, Some, None, refl, sym, ap, subst, ◌∙◌, arith, inl, inr, ◌⊎◌}
+use Rattle.std.specs.Prelude.{slice_get}
 use Rattle.std.specs.List.{All, cons_option}
-use Rattle.std.proofs.lemmas.List.Elements.{All-append, All-cons}
+use Rattle.std.proofs.lemmas.Bool.{eq-eqb, cases_eq}
+use Rattle.std.proofs.lemmas.List.Elements.{All-nil, All-append, All-cons}
+use Rattle.items.specs.laws.ElementLaws.{set-same, set-other}
 use Rattle.signer_api.specs.State.{SignerState, CountsFault}
 use Rattle.signer_ring.specs.Ring.{ChangesOne}
-use Rattle.signer_ring.specs.Calls.{Call, after_call, after_calls}
+use Rattle.signer_ring.specs.Calls.{Call, signer_of, after_call, after_calls}
+use Rattle.signer_ring.specs.Jobs.{calls_on, MayCount, CountFaults}
 use Rattle.issue_keys.specs.declared.fault.MakeFault.{MakeFault}
 use Rattle.issue_keys.specs.declared.fault.MakeFault.TheVariants.{SignerFault, KeyClash, Memory}
 use Rattle.issue_drafts.specs.IssueInput.{IssueInput}
@@ -61,6 +65,70 @@ front [] ys all = λ k d lt. absurd (omega arith)
 front (x ∷ xs) ys all =
     All-cons IsSigning x xs (all 0 x (omega arith)) (front xs ys (λ k d lt. all (suc k) d (omega arith)))
 
+-- Calls of which each signer's are among calls that sign.
+own-front : (n : ℕ) (xs ys zs : List Call) → xs ++ ys ≡ calls_on n zs → All IsSigning zs → All IsSigning xs
+own-front n xs ys zs e all = front xs ys (subst (All IsSigning) (sym e) (own-signs n zs all))
+  where
+    one : (call : Call) (rest : List Call) (b : Bool) → IsSigning call → All IsSigning rest → All IsSigning (cond b (call ∷ rest) rest)
+    one call rest true signs all = All-cons IsSigning call rest signs all
+    one call rest false signs all = all
+
+    own-signs : (m : ℕ) (cs : List Call) → All IsSigning cs → All IsSigning (calls_on m cs)
+    own-signs m [] all = All-nil IsSigning
+    own-signs m (c ∷ cs) all =
+        one c (calls_on m cs) (eqb (signer_of c) m) (all 0 c (omega arith)) (own-signs m cs (λ k d lt. all (suc k) d (omega arith)))
+
+head-of : (c : Call) (rest : List Call) (b : Bool) → b ≡ true → All IsSigning (cond b (c ∷ rest) rest) → IsSigning c
+head-of c rest true is all = all 0 c (omega arith)
+head-of c rest false is all = absurd cc
+
+rest-of : (c : Call) (rest : List Call) (b : Bool) → All IsSigning (cond b (c ∷ rest) rest) → All IsSigning rest
+rest-of c rest true all = λ k d lt. all (suc k) d (omega arith)
+rest-of c rest false all = all
+
+each-signs : (cs : List Call) → ((n : ℕ) → All IsSigning (calls_on n cs)) → All IsSigning cs
+each-signs [] each = All-nil IsSigning
+each-signs (c ∷ cs) each =
+    All-cons IsSigning c cs
+    (head-of c (calls_on (signer_of c) cs) (eqb (signer_of c) (signer_of c)) (eq-eqb (signer_of c) (signer_of c) refl) (each (signer_of c)))
+    (each-signs cs (λ n. rest-of c (calls_on n cs) (eqb (signer_of c) n) (each n)))
+
+fronts-sign : (calls : List Call) (others : ℕ → List Call) (all : List Call) → ((n : ℕ) → calls_on n calls ++ others n ≡ calls_on n all)
+    → All IsSigning all → All IsSigning calls
+fronts-sign calls others all whole signs = each-signs calls (λ n. own-front n (calls_on n calls) (others n) all (whole n) signs)
+
+-- ---- the fault of one signer
+
+may-same : (o : Option SignerState) → MayCount o o
+may-same None = refl
+may-same (Some s) = inl refl
+
+-- Where one signer alone counted a fault, it is the least.
+pub one-counts : (n : ℕ) (old new : List SignerState) → ChangesOne n CountsFault old new → CountFaults n old new
+one-counts n old new one = record {
+  before = one.before;
+  after = one.after;
+  was = one.was;
+  is = at-own;
+  fault = one.changes;
+  least = λ m low. at-other m (λ e. absurd (omega (arith, low, e)));
+  others = λ m. by m (cases_eq m n);
+}
+  where
+    at-own : slice_get new n ≡ Some one.after
+    at-own = ap (λ (l : List SignerState). slice_get l n) one.is ∙ set-same old n one.before one.after one.was
+
+    at-other : (m : ℕ) → m ≢ n → slice_get new m ≡ slice_get old m
+    at-other m apart = ap (λ (l : List SignerState). slice_get l m) one.is ∙ set-other old m n one.after apart
+
+    by : (m : ℕ) → (m ≡ n) ⊎ (m ≢ n) → MayCount (slice_get old m) (slice_get new m)
+    by m (inl e) =
+        let both : MayCount (slice_get old n) (slice_get new n) =
+        subst (λ (o : Option SignerState). MayCount o (slice_get new n)) (sym one.was)
+        (subst (λ (o : Option SignerState). MayCount (Some one.before) o) (sym at-own) (inr one.changes)) in
+        subst (λ (k : ℕ). MayCount (slice_get old k) (slice_get new k)) (sym e) both
+    by m (inr apart) = subst (λ (o : Option SignerState). MayCount (slice_get old m) o) (sym (at-other m apart)) (may-same (slice_get old m))
+
 -- ---- one list of calls behind another
 
 pub calls-on : (ring : List SignerState) (xs ys : List Call) → after_calls (after_calls ring xs) ys ≡ after_calls ring (xs ++ ys)
@@ -76,15 +144,15 @@ pub stop-behind : (way : Way) (drafts : List Draft) (before : List Call) (old be
 stop-behind way drafts before old between new (SignerFault n) signs all is stop = (
   before ++ stop.calls,
   All-append IsSigning before stop.calls all
-      (front stop.calls _ (subst (All IsSigning) (sym stop.begun.whole) (signs stop.begun.made))),
-  subst (λ (ring : List SignerState). ChangesOne n CountsFault ring new)
+      (fronts-sign stop.calls stop.others (way.calls stop.begun.made) stop.begun.whole (signs stop.begun.made)),
+  subst (λ (ring : List SignerState). CountFaults n ring new)
       (ap (λ (ring : List SignerState). after_calls ring stop.calls) is ∙ calls-on old before stop.calls) stop.fault,
 )
 stop-behind way drafts before old between new (KeyClash id) signs all is stop = absurd stop
 stop-behind way drafts before old between new Memory signs all is stop = (
   before ++ stop.calls,
   All-append IsSigning before stop.calls all
-      (front stop.calls _ (subst (All IsSigning) (sym stop.begun.whole) (signs stop.begun.made))),
+      (fronts-sign stop.calls stop.others (way.calls stop.begun.made) stop.begun.whole (signs stop.begun.made)),
   stop.signers ∙ (ap (λ (ring : List SignerState). after_calls ring stop.calls) is ∙ calls-on old before stop.calls),
 )
 

@@ -15,7 +15,7 @@ use Rattle.issue_sign.specs.Objects.{Signed}
 use Rattle.issue_make.specs.Trace.{IssuingTrace, made_of, signatures_of}
 
 -- What is summed of images.
-sum-images : {A B : Type 0} (f : B → ℕ) (g : A → B) (xs : List A)
+pub sum-images : {A B : Type 0} (f : B → ℕ) (g : A → B) (xs : List A)
     → sum_by f (map g xs) ≡ sum_by (λ x. f (g x)) xs
 sum-images f g xs =
     sym (sum-map f (map g xs)) ∙ (ap sum (map-map f g xs) ∙ sum-map (λ x. f (g x)) xs)

@@ -1,13 +1,13 @@
 -- What the making of an edition's objects answers.
 use Rattle.std.specs.Prelude.{◌≡◌, ◌⊎◌, ⊤, ℕ, List, [], ◌++◌, map, sum_by, length, All, Any}
 use Rattle.std.specs.Prelude.{IsPermutation}
-use Rattle.std.specs.List.Sorted.{IsSortedBy}
+use Rattle.std.specs.List.Sorted.{IsSortedBy, IsStableBy}
 use Rattle.pub_set.specs.Changes.{uri_of, change_at}
 use Rattle.pub_set.specs.Objects.{Rise}
-use Rattle.signer_api.specs.State.{SignerState, CountsFault}
-use Rattle.signer_ring.specs.Ring.{ChangesOne}
+use Rattle.signer_api.specs.State.{SignerState}
 use Rattle.signer_ring.specs.Calls.{Call, after_calls, IsVouched}
 use Rattle.signer_ring.specs.Calls.Call.{Makes, Signs, Once}
+use Rattle.signer_ring.specs.Jobs.{CountFaults}
 use Rattle.key_roll.specs.declared.rows.KeyRow.{KeyRow}
 use Rattle.issue_keys.specs.declared.fault.MakeFault.{MakeFault}
 use Rattle.issue_keys.specs.declared.fault.MakeFault.TheVariants.{SignerFault, KeyClash, Memory}
@@ -34,8 +34,8 @@ pub record IsMade
     (s : IssueInput) (live : List KeyRow) (old new : List SignerState) (made : Made) : Type 0 where
   pub trace : IssuingTrace
   pub is_trace : IsIssuingTrace s live trace
-  -- the signers made these calls, one after another, and no others; what they signed they vouch
-  -- for
+  -- the signers made these calls and no others, each its own in this order; what they signed they
+  -- vouch for
   pub signers : new ≡ after_calls old (calls_of s trace)
   pub vouched : All (IsVouched new) (calls_of s trace)
   -- at each URI the change that is wanted, and what is put can be read
@@ -46,9 +46,10 @@ pub record IsMade
   pub listed : Rise (λ row. row.uri) made.issued
   pub count : length made.issued ≡ length (made_of trace)
   pub issued : All (λ x. Any (IsIssued s trace x) made.issued) (made_of trace)
-  -- the live keys, by desk and role
+  -- the live keys, by desk and role, and those of one desk and role as they stand
   pub rows : IsPermutation (map (row_after s trace) (all_keys trace.keys)) made.rows
   pub sorted : IsSortedBy is_before made.rows
+  pub stable : IsStableBy is_before (map (row_after s trace) (all_keys trace.keys)) made.rows
   pub signatures : made.signatures ≡ sum_by (λ x. signatures_of x.draft.kind) (made_of trace)
 
 -- ---- why it stopped
@@ -69,12 +70,13 @@ pub record IsBegun (s : IssueInput) (live : List KeyRow) (calls : List Call) : T
   pub signatures : All IsSigning signing
   pub after : (signing ≡ []) ⊎ AreFresh s.work.new_keys fresh
 
--- The fault of that signer was counted after such calls, and nothing else changed.
+-- The fault of that signer was counted after such calls. Each signer behind it may have counted
+-- one, too, and nothing else changed.
 pub record IsFault
     (s : IssueInput) (live : List KeyRow) (old new : List SignerState) (signer : ℕ) : Type 0 where
   pub calls : List Call
   pub begun : IsBegun s live calls
-  pub fault : ChangesOne signer CountsFault (after_calls old calls) new
+  pub fault : CountFaults signer (after_calls old calls) new
 
 -- Memory ran out while the keys were made, or behind such calls.
 abbrev pub IsOut : IssueInput → List KeyRow → List SignerState → List SignerState → Type 0

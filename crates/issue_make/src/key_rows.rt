@@ -1,7 +1,7 @@
 //! The rows of the keys after an edition.
 
 ghost use Rattle.std.specs.Prelude.{◌≡◌, ◌+◌, ◌<◌, ◌≤◌, ◌^◌, List, map, length, All, IsPermutation, IfOk};
-ghost use Rattle.std.specs.List.Sorted.{IsSortedBy};
+ghost use Rattle.std.specs.List.Sorted.{IsSortedBy, IsStableBy};
 ghost use Rattle.std.specs.Ordering.{is_lt};
 ghost use Rattle.issue_drafts.specs.Drafts.{serial_behind};
 ghost use Rattle.issue_drafts.specs.IssueInput.{IssueInput};
@@ -94,9 +94,9 @@ fn unordered(
     Ok(rows)
 }
 
-/// The rows of the keys after the edition, by desk and role: from whether each gets a CRL and a manifest, the serial
-/// that comes next under it, and the entries of its CRL. `moment` is in seconds since 1970; the lists have an item
-/// for each key.
+/// The rows of the keys after the edition, by desk and role, those of one desk and role in the keys' order: from whether
+/// each gets a CRL and a manifest, the serial that comes next under it, and the entries of its CRL. `moment` is in
+/// seconds since 1970; the lists have an item for each key.
 pub fn rows_after(
     alloc: Global,
     moment: u64,
@@ -116,6 +116,9 @@ pub fn rows_after(
         → AreAfter s trace moment keys.now points.now next.now revoked.items
         → IsPermutation (map (row_after s trace) keys.now) rows) }
     ensures sorted { IfOk result (λ rows. IsSortedBy is_before rows) }
+    ensures stable { IfOk result (λ rows. (s : IssueInput) (trace : IssuingTrace)
+        → AreAfter s trace moment keys.now points.now next.now revoked.items
+        → IsStableBy is_before (map (row_after s trace) keys.now) rows) }
 {
     let mut rows = unordered(alloc, moment, keys, points, next, revoked)?;
     rows.sort_by(|a, b| compare(a, b))?;

@@ -25,9 +25,11 @@ use key_roll::{Issued, KeyRow, Work};
 use signer_api::Signer;
 use signer_ring::{Ring, vouched_stays};
 use std::alloc::Global;
+use std::thread::Threads;
 
 /// Makes the objects of the work over the edition's keys.
-fn make_objects<S: Signer>(
+fn make_objects<S: Signer + Send, R: Threads + Sync>(
+    rt: &R,
     alloc: Global,
     input: &IssueParts<'_>,
     keys: &EditionKeys,
@@ -47,16 +49,18 @@ fn make_objects<S: Signer>(
     let rows = keys.rows.as_slice();
     let finder = KeyFinder::new(alloc, rows, keys.first_fresh)?;
     let plan = plan_objects(alloc, input, rows, &finder)?;
-    let objects = sign_objects(alloc, input, &plan, ring)?;
+    let objects = sign_objects(rt, alloc, input, &plan, ring)?;
     let made = outcome(alloc, input, rows, plan, objects)?;
     Ok(made)
 }
 
 /// Makes the objects of an edition's work.
 ///
-/// Keys are made first, by their desks. Then, each by rising URI: certificates, CRLs and the contents of ROAs are
-/// signed; the certificates of ROAs; the contents of manifests; their certificates.
-pub fn make<S: Signer>(
+/// Keys are made first, by their desks. Then are signed, by each signer its own by rising URI, and by all of them at
+/// the same time: certificates, CRLs and the contents of ROAs; the certificates of ROAs; the contents of manifests;
+/// their certificates.
+pub fn make<S: Signer + Send, R: Threads + Sync>(
+    rt: &R,
     alloc: Global,
     work: &Work,
     rows: &[KeyRow],
@@ -69,7 +73,7 @@ pub fn make<S: Signer>(
     requires { CanMake (input_with work.now names.now issued.now site.now) rows.now (length ring.old) }
 
     // The objects, the changes and the rows are those of the work, and the signers made the calls for
-    // them, in their order, and no others.
+    // them, each its own in their order, and no others.
     ensures made { IfOk result
         (IsMade (input_with work.now names.now issued.now site.now) rows.now ring.old ring.new) }
 
@@ -89,5 +93,5 @@ pub fn make<S: Signer>(
     };
     let keys = edition_keys(alloc, work, rows, ring)?;
     can_be_named(site);
-    make_objects(alloc, &input, &keys, ring)
+    make_objects(rt, alloc, &input, &keys, ring)
 }

@@ -16,6 +16,7 @@ use issue_sign::{Object, SignInput, sign_drafts, sign_manifests};
 use signer_api::Signer;
 use signer_ring::Ring;
 use std::alloc::{AllocError, Global};
+use std::thread::Threads;
 
 /// The objects of an edition.
 #[derive(Debug, Drop)]
@@ -38,7 +39,8 @@ fn hashes_of(alloc: Global, objects: &[Object]) -> Result<Vec<[u8; 32]>, AllocEr
 }
 
 /// Signs the objects of a plan: the manifests, which list the others, behind them.
-pub fn sign_objects<S: Signer>(
+pub fn sign_objects<S: Signer + Send, R: Threads + Sync>(
+    rt: &R,
     alloc: Global,
     input: &IssueParts<'_>,
     plan: &ObjectPlan<'_>,
@@ -65,10 +67,10 @@ pub fn sign_objects<S: Signer>(
         revoked: &plan.revoked,
     };
     let (given, next) = (&plan.serials.given, &plan.serials.next);
-    let drafted = sign_drafts(alloc, &sign_input, &plan.drafts, given, ring)?;
+    let drafted = sign_drafts(rt, alloc, &sign_input, &plan.drafts, given, ring)?;
     let hashes = hashes_of(alloc, &drafted)?;
     let (drafts, manifests) = (&plan.drafts, &plan.manifests);
     let files = files(alloc, input, drafts, &hashes, manifests, &plan.touched)?;
-    let listed = sign_manifests(alloc, &sign_input, manifests, next, files, ring)?;
+    let listed = sign_manifests(rt, alloc, &sign_input, manifests, next, files, ring)?;
     Ok(Objects { drafted, listed })
 }

@@ -1,7 +1,7 @@
 -- What the objects of a plan come to.
 use Rattle.std.specs.Prelude.{◌≡◌, ◌≢◌, ℕ, ◌+◌, ◌<◌, ◌^◌, List, ◌++◌, map, sum_by, length, slice_get}
 use Rattle.std.specs.Prelude.{Some, All, AllPairs, Any, IsPermutation}
-use Rattle.std.specs.List.Sorted.{IsSortedBy}
+use Rattle.std.specs.List.Sorted.{IsSortedBy, IsStableBy}
 use Rattle.sha2.specs.Sha256.{sha256}
 use Rattle.pub_set.specs.Changes.{uri_of, change_at}
 use Rattle.pub_set.specs.Objects.{Rise}
@@ -93,4 +93,5 @@ pub record IsOutcome (s : IssueInput) (rows : List KeyRow) (trace : IssuingTrace
   pub issued : All (λ x. Any (IsIssued s trace x) made.issued) (made_of trace)
   pub after : IsPermutation (map (row_after s trace) rows) made.rows
   pub sorted : IsSortedBy is_before made.rows
+  pub stable : IsStableBy is_before (map (row_after s trace) rows) made.rows
   pub signatures : made.signatures ≡ sum_by (λ x. signatures_of x.draft.kind) (made_of trace)

@@ -3,9 +3,9 @@ use Rattle.std.specs.Prelude.{◌≡◌, ◌<◌, ◌^◌, ℕ, true, List, ◌+
 use Rattle.std.specs.List.{HoldsAt, zip}
 use Rattle.cert_obj.specs.Values.{is_uri}
 use Rattle.pub_set.specs.Objects.{Rise}
-use Rattle.signer_api.specs.State.{SignerState, CountsFault}
-use Rattle.signer_ring.specs.Ring.{ChangesOne}
+use Rattle.signer_api.specs.State.{SignerState}
 use Rattle.signer_ring.specs.Calls.{Call, after_calls}
+use Rattle.signer_ring.specs.Jobs.{CountFaults}
 use Rattle.key_roll.specs.declared.rows.KeyRow.{KeyRow}
 use Rattle.issue_values.specs.Certificates.{IsEditionMoment}
 use Rattle.issue_values.specs.Bodies.{AreRevoked}
@@ -101,7 +101,7 @@ pub record AreSigned
 -- Behind calls that sign a signer counted a fault, or memory ran out.
 abbrev pub IsSigningStop : List SignerState → List SignerState → MakeFault → Type 0
 IsSigningStop old new (SignerFault signer) =
-    (calls : List Call) × All IsSigning calls × ChangesOne signer CountsFault (after_calls old calls) new
+    (calls : List Call) × All IsSigning calls × CountFaults signer (after_calls old calls) new
 IsSigningStop old new (KeyClash id) = ⊥
 IsSigningStop old new Memory =
     (calls : List Call) × All IsSigning calls × (new ≡ after_calls old calls)

@@ -42,12 +42,18 @@ make_objects-requires g c =
     let n = c.can_be_named.ensures in
     let work : CanMake s a.rows.now (length a.ring.now) =
     subst (λ (l : List IssuedRow). CanMake (record { work = a.work.now; names = a.names.now; issued = l; site = a.site.now })
-    a.rows.now (length a.ring.now)) (sym c.as_slice-issued.ensures) c.requires in record {
-      live = a.rows.now;
-      ready = are-ready s a.rows.now c.in_ok-keys.keys.rows.items c.in_ok-keys.keys.first_fresh a.ring.now c.edition_keys.new.ring work
-          c.edition_keys.ensures.signers k.inside k.kept k.made
-          (can-name a.site.now a.names.now n.anchor n.certificate n.roa c.requires.plain);
-    }
+    a.rows.now (length a.ring.now)) (sym c.as_slice-issued.ensures) c.requires in (
+      c.type_bounds.send-S,
+      (
+        c.type_bounds.sync-R,
+        record {
+          live = a.rows.now;
+          ready = are-ready s a.rows.now c.in_ok-keys.keys.rows.items c.in_ok-keys.keys.first_fresh a.ring.now c.edition_keys.new.ring work
+              c.edition_keys.ensures.signers k.inside k.kept k.made
+              (can-name a.site.now a.names.now n.anchor n.certificate n.roa c.requires.plain);
+        },
+      ),
+    )
 
 pub returns-clause-made : goal.returns-clause-made
 returns-clause-made g c =

@@ -37,7 +37,7 @@ sign_objects-requires g c =
     let signers = length c.args.ring.now in
     let ready = ready-at s c.requires.live keys.rows.items rows keys.first_fresh signers c.in_ok-finder.finder plan c.requires.ready
     c.as_slice-rows.ensures.value c.in_ok-finder.ensures c.in_ok-plan.ensures in
-    can-be-signed s c.requires.live rows keys.first_fresh signers plan ready
+    (c.type_bounds.send-S, (c.type_bounds.sync-R, can-be-signed s c.requires.live rows keys.first_fresh signers plan ready))
 
 pub outcome-requires : goal.outcome-requires
 outcome-requires g c =

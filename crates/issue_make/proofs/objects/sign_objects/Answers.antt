@@ -87,7 +87,7 @@ returns-in_err-files-clause-stopped g c =
     (are-drafts s keys rows entries (λ key. []) c.args.plan.now c.deref-3.result.now c.deref-4.result.now c.deref-3.ensures.value c.deref-4.ensures.value plan)).signers)
 
 pub sign_manifests-requires-clause-each : goal.sign_manifests-requires-clause-each
-sign_manifests-requires-clause-each g c =
+sign_manifests-requires-clause-each g c = λ lifetimes lives.
     let s = input_of c.args.input.now in
     let r = c.requires in
     let table = c.in_ok-files.ensures.lists (puts s r.keys) r.is_plan.touched in

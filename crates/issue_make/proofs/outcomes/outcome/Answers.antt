@@ -18,6 +18,13 @@ returns c = λ trace is keys. record {
         entries = keys.entries;
       });
   sorted = c.in_ok-rows.ensures.sorted;
+  stable = c.in_ok-rows.ensures.stable (input_of c.args.input.now) trace
+      (record {
+        at = refl;
+        pointed = c.deref-3.ensures.value ∙ keys.points;
+        behind = c.deref-4.ensures.value ∙ keys.next;
+        entries = keys.entries;
+      });
   signatures = c.signatures-signatures.ensures trace (is.drafts ∙ ap (map draft_of) (sym c.deref.ensures.value))
       (is.manifests ∙ ap (map manifest_of) (sym c.deref-2.ensures.value));
 }
