@@ -1,7 +1,9 @@
 pub mod OneKind
 pub mod Reading
 pub mod Firsts
+pub mod Fitting
 pub mod Standing
+pub mod Kept
 pub mod Given
 pub mod Numbers
 pub mod Views
@@ -10,6 +12,7 @@ pub mod Left
 pub mod Lives
 pub mod Tables
 pub mod Lasts
+pub mod Pointed
 pub mod Crls
 pub mod NewCrls
 pub mod Noted
@@ -28,3 +31,9 @@ pub mod MadeObjects
 pub mod Permuted
 pub mod MadeManifests
 pub mod Dated
+pub mod Alike
+pub mod ByWork
+pub mod Named
+pub mod Settled
+pub mod Sparing
+pub mod WantedBeside

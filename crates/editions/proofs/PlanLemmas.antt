@@ -2,10 +2,14 @@ pub mod Accepted
 pub mod After
 pub mod Anchor
 pub mod Beside
+pub mod Certified
 pub mod Certs
 pub mod Desks
 pub mod Drafted
 pub mod Entries
+pub mod FileNames
+pub mod Filing
+pub mod Fitted
 pub mod Free
 pub mod Held
 pub mod Makings

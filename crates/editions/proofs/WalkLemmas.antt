@@ -16,6 +16,12 @@ pub mod Canonical
 pub mod Serials
 pub mod Point
 pub mod Members
+pub mod Serving
+pub mod CertDrafts
+pub mod Serves
+pub mod Revoked
+pub mod Homes
+pub mod KeyDrafts
 pub mod Seats
 pub mod Stays
 pub mod Roas

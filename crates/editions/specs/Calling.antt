@@ -5,7 +5,8 @@ use Rattle.key_roll.specs.declared.rows.KeyRow.{KeyRow}
 use Rattle.key_roll.specs.declared.work.Work.{Work}
 use Rattle.issue_plan.specs.declared.keys.NextKey.{NextKey}
 use Rattle.issue_plan.specs.Work.{new_key_of, role_of, dropped}
-use Rattle.editions.specs.Due.{is_due, grows, steps_next}
+use Rattle.issue_plan.specs.Due.{is_due}
+use Rattle.editions.specs.Due.{grows, steps_next}
 use Rattle.editions.specs.PublishedState.{PublishedStateValue}
 
 -- Whether the list has an item.

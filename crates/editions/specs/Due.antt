@@ -1,29 +1,17 @@
 -- Whether there is something to publish.
-use Rattle.std.specs.Prelude.{◌≡◌, ℕ, ◌+◌, ◌==◌, Bool, false, not, ◌||◌, nat_lt, nat_le, is_some, List, [], ◌∷◌}
+use Rattle.std.specs.Prelude.{◌≡◌, ℕ, ◌==◌, Bool, false, not, ◌||◌, nat_lt, is_some, List, [], ◌∷◌}
 use Rattle.std.specs.List.{list_any}
 use Rattle.res_sets.specs.declared.holdings.Resources.{Resources}
 use Rattle.entitle.specs.Certified.{AreCertified}
 use Rattle.key_roll.specs.declared.issued.IssuedRow.{IssuedRow}
-use Rattle.key_roll.specs.declared.issued.What.{What}
-use Rattle.key_roll.specs.declared.issued.What.TheVariants.{Authority, Route, Point}
 use Rattle.key_roll.specs.declared.rows.KeyRow.{KeyRow}
 use Rattle.issue_plan.specs.declared.keys.NextKey.{NextKey}
+use Rattle.issue_plan.specs.Due.{is_due}
 use Rattle.issue_plan.specs.Keys.{id_of, next_keys}
 use Rattle.issue_plan.specs.Work.{new_key_of, role_of, goes_on}
 use Rattle.editions.specs.Edition.{Edition, State, state_after, set_after}
 use Rattle.editions.specs.Table.{IsTable}
 use Rattle.editions.specs.Step.{Premises, configs_at, basis_at}
-
--- How long before its end an object is issued again, in seconds: certificates and ROAs four weeks,
--- CRLs and manifests eight hours.
-abbrev pub margin_of : What → ℕ
-margin_of (Authority key held) = 2_419_200
-margin_of (Route origin) = 2_419_200
-margin_of Point = 28_800
-
--- What is left of its time at the moment is at most that.
-abbrev pub is_due : ℕ → IssuedRow → Bool
-is_due moment row = nat_le row.not_after (moment + margin_of row.what)
 
 -- A desk has commands behind the cut.
 abbrev pub grows : List ℕ → List ℕ → Bool

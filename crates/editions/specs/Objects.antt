@@ -1,5 +1,5 @@
 -- The objects of an edition: what each says, and who signed it.
-use Rattle.std.specs.Prelude.{◌≡◌, ⊤, ℕ, Bool, true, false, List, map, filter}
+use Rattle.std.specs.Prelude.{◌≡◌, ◌≢◌, ⊤, ℕ, Bool, true, false, List, map, filter, AllPairs}
 use Rattle.std.specs.Prelude.{Option, None, Some, option_map, IsSome, ◌↔◌, All, Any, IsPermutation}
 use Rattle.std.specs.List.{filter_map}
 use Rattle.sha1.specs.Sha1.{sha1}
@@ -128,9 +128,10 @@ abbrev pub IsDone : Issuance → Bool → Option Draft → Type 0
 IsDone m is_kept None = ⊤
 IsDone m is_kept (Some d) = IsLeft m d is_kept
 
--- Just what is wanted stands in the new set: at no other place there is an object, and of each that
--- is wanted the old one, where it is kept, or one that is made.
+-- Just what is wanted stands in the new set, each at a place of its own: at no other place there is
+-- an object, and of each that is wanted the old one, where it is kept, or one that is made.
 pub record IsNewSet (m : Issuance) : Type 0 where
+  pub apart : AllPairs (λ a b. a.uri ≢ b.uri) (all_objects m.plan_input m.keys)
   pub places : (uri : List ℕ) → IsSome (m.new uri)
       ↔ Any (λ d. d.uri ≡ uri) (all_objects m.plan_input m.keys)
   pub certificates : All (λ cert. IsDone m (keeps_certificate m.plan_input m.keys cert)

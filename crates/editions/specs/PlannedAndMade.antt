@@ -1,10 +1,11 @@
 -- An edition that was planned over what stands, and made by the signers.
-use Rattle.std.specs.Prelude.{◌≡◌, ⊤, ℕ, ◌+◌, ◌<◌, ◌^◌, List, length, All}
+use Rattle.std.specs.Prelude.{◌≡◌, ◌≢◌, ⊤, ℕ, ◌+◌, ◌<◌, ◌^◌, List, length, All, AllPairs}
 use Rattle.der.specs.Part.{IsInput}
 use Rattle.signer_api.specs.State.{SignerState}
 use Rattle.res_sets.specs.declared.holdings.Resources.{Resources}
 use Rattle.pub_set.specs.declared.steps.Change.{Change}
 use Rattle.pub_set.specs.declared.steps.Change.TheVariants.{Put, Withdraw}
+use Rattle.key_roll.specs.declared.rows.KeyRow.{KeyRow}
 use Rattle.key_roll.specs.declared.issued.IssuedRow.{IssuedRow}
 use Rattle.key_roll.specs.declared.work.Work.{Work}
 use Rattle.entitle.specs.declared.trees.Owed.{Owed}
@@ -19,6 +20,8 @@ use Rattle.issue_make.specs.Made.{IsMade, calls_of}
 use Rattle.editions.specs.Names.{AreTree}
 use Rattle.editions.specs.Edition.{Edition, state_after, set_after}
 use Rattle.editions.specs.Table.{IsTable}
+use Rattle.editions.specs.Keys.{AreNext}
+use Rattle.editions.specs.Wanted.{all_objects}
 use Rattle.editions.specs.Step.{Premises, IsCut, next_moment, plan_input_at}
 use Rattle.editions.specs.inner.PlanAndTable.{made_from}
 use Rattle.editions.specs.VouchedCalls.{IsVouchedBy}
@@ -36,6 +39,10 @@ pub record IsMadeByPlan (premises : Premises) (editions : List Edition) (edition
   pub tree : AreTree (names_of plan_input.basis.configs)
   pub certified : AreCertified plan_input.basis.configs plan_input.basis.sets
   pub owes : AreOwed plan_input.basis.configs plan_input.owed
+  -- no two objects that are wanted have one place
+  pub places : (keys : List KeyRow)
+      → AreNext plan_input.basis.rows (next_keys plan_input.basis) keys
+      → AllPairs (λ a b. a.uri ≢ b.uri) (all_objects plan_input keys)
   -- the work of the plan can be made
   pub work : Work
   pub planned : plan.IsWork plan_input (next_keys plan_input.basis) work

@@ -1,7 +1,6 @@
 -- What the set of an edition is to relying parties: sound, and the owed origins (RFC 9582).
 use Rattle.std.specs.Prelude.{◌≡◌, ◌<◌, ◌⊎◌, ℕ, List, map, Some, IsPermutation, AllPairs, ◌≢◌}
 use Rattle.authority_book.specs.declared.rows.NameRow.{NameRow}
-use Rattle.authority_book.specs.Settings.{Settings}
 use Rattle.entitle.specs.declared.trees.Owed.{Owed}
 use Rattle.entitle.specs.Certified.{names_of}
 use Rattle.entitle.specs.Owed.{AreOwed}

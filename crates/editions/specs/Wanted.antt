@@ -6,7 +6,8 @@ use Rattle.key_roll.specs.declared.work.RoaWork.{RoaWork}
 use Rattle.key_roll.specs.declared.work.PointWork.{PointWork}
 use Rattle.entitle.specs.Certified.{names_of}
 use Rattle.issue_plan.specs.Keys.{kept}
-use Rattle.issue_plan.specs.Wanted.{PlanInput, Certificate, Roa, Point, fits, point_of}
+use Rattle.issue_plan.specs.Fits.{fits}
+use Rattle.issue_plan.specs.Wanted.{PlanInput, Certificate, Roa, Point, point_of}
 use Rattle.issue_plan.specs.Wanted.{wanted_certificates, wanted_roas, wanted_points}
 use Rattle.issue_drafts.specs.WorkKeys.{Keys}
 use Rattle.issue_drafts.specs.IssueInput.{IssueInput}

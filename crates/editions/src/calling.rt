@@ -4,40 +4,20 @@ ghost use Rattle.std.specs.Prelude.{◌≡◌, ◌||◌, List, get_or};
 ghost use Rattle.std.specs.List.{list_any};
 ghost use Rattle.key_roll.specs.declared.rows.KeyRow.{KeyRow};
 ghost use Rattle.issue_plan.specs.declared.keys.NextKey.{NextKey};
+ghost use Rattle.issue_plan.specs.Due.{is_due};
 ghost use Rattle.editions.specs.Due as due;
 ghost use Rattle.editions.specs.Edition.{cut_at};
 ghost use Rattle.editions.specs.Calling as spec;
 ghost use Rattle.editions.specs.Calling.{has_some, LeadsTo};
 
 use crate::published_state::PublishedState;
+use issue_plan::is_due;
 use items::Items;
-use key_roll::{IssuedRow, What, Work};
-
-// How long before its end a certificate or a ROA is issued again: four weeks, in seconds.
-const CERTIFICATE_MARGIN: u64 = 2_419_200;
-
-// The same of a CRL or a manifest: eight hours.
-const POINT_MARGIN: u64 = 28_800;
-
-fn margin_of(what: &What) -> u64
-    ensures { result ≡ due.margin_of what.now }
-{
-    match what {
-        What::Authority { .. } | What::Route { .. } => CERTIFICATE_MARGIN,
-        What::Point => POINT_MARGIN,
-    }
-}
-
-// Whether what is left of the object's time at the moment is at most its margin.
-fn is_due(moment: u64, row: &IssuedRow) -> bool
-    ensures { result ≡ due.is_due moment row.now }
-{
-    row.not_after.saturating_sub(moment) <= margin_of(&row.what)
-}
+use key_roll::{IssuedRow, Work};
 
 // Whether one of the objects is due.
 fn any_due(moment: u64, issued: &[IssuedRow]) -> bool
-    ensures { result ≡ list_any (due.is_due moment) issued.now }
+    ensures { result ≡ list_any (is_due moment) issued.now }
 {
     issued.iter().any(|row| is_due(moment, row))
 }

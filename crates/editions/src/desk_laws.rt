@@ -18,6 +18,11 @@ ghost use Rattle.issue_plan.specs.Work.{IsWork, IsPlan};
 ghost use Rattle.issue_make.specs.ObjectPlan.{puts};
 ghost use Rattle.issue_make.specs.CanMake.{IsCertified};
 ghost use Rattle.editions.specs.Names.{AreTree};
+ghost use Rattle.names.specs.Name.{IsName};
+ghost use Rattle.entitle.specs.Certified.{names_of};
+ghost use Rattle.entitle.specs.Owed.{AreOwed};
+ghost use Rattle.editions.specs.inner.PlanAndTable.{made_from, AreOfPlan};
+ghost use Rattle.editions.specs.inner.Following.{CanBeNamed};
 ghost use Rattle.editions.specs.inner.PlannedWork.{AreThere, AreOfDesks, NamesAreOf, AreApart, AreNamed};
 
 /// The names that the trust anchor's accepted commands list begin with its own, and are pairwise different.
@@ -39,12 +44,14 @@ pub fn keys_are_of_desks()
         → NamesAreOf plan_input.basis s.names signers → AreOfDesks s plan_input.basis.rows signers }
 {}
 
-/// Each key that issues, but the trust anchor's, has its certificate made.
+/// Each key that issues, but the trust anchor's, has its certificate made, or it stands where a certificate can name it.
 pub fn issuers_are_certified()
-    ensures { (plan_input : PlanInput) (s : IssueInput) (keys : Keys)
-        → IsWork plan_input (next_keys plan_input.basis) s.work → AreNamed plan_input.basis
-        → AreApart plan_input.basis.rows → AreKeys s plan_input.basis.rows keys
-        → All (λ d. IsCertified s keys d.issuer) (puts s keys) }
+    ensures { (plan_input : PlanInput) (work : Work) (keys : Keys) (plan : AreOfPlan plan_input work keys)
+        → AreNamed plan_input.basis → AreOwed plan_input.basis.configs plan_input.owed
+        → AreApart plan_input.basis.rows → All (λ row. IsName row.name) (names_of plan_input.basis.configs)
+        → CanBeNamed plan_input.site
+        → All (λ d. IsCertified (made_from plan_input work) keys d.issuer)
+        (puts (made_from plan_input work) keys) }
 {}
 
 /// What a plan withdraws stands.

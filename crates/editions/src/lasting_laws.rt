@@ -69,7 +69,9 @@ pub fn new_manifests_are_lists()
 {
     certificates_have_own_serials();
     files_are_told_apart();
+    keys_are_told_apart();
     kinds_are_told_apart();
+    origins_are_told_apart();
     sets_are_inside_by_numbers();
     spans_are_had_by_numbers();
     accepted_objects_keep_the_rules();

@@ -17,6 +17,7 @@ mod plan_laws;
 mod published_laws;
 mod published_state;
 mod sheets;
+mod sparing_laws;
 mod standing;
 mod state_laws;
 mod step_laws;
@@ -43,12 +44,13 @@ pub use object_laws::{
 };
 pub use plan_laws::{
     made_keys_are_live, made_keys_have_signers, other_uris_are_clear, planned_work_can_be_made,
-    wanted_uris_are_put,
+    wanted_objects_are_apart, wanted_uris_have_objects,
 };
 pub use published_laws::{
     editions_are_in_profile, editions_are_published, keys_are_of_a_tree, wanted_objects_have_drafts,
 };
 pub use published_state::{PublishedNumbers, PublishedState, StateParts};
+pub use sparing_laws::{just_what_does_not_fit_is_put, signatures_are_of_the_work};
 pub use standing::{next_set, next_table};
 pub use state_laws::{
     called_for_by_what_stands, gathered_commands_are_taken_in, gathered_commands_go_on,

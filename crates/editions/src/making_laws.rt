@@ -14,7 +14,7 @@ use crate::object_laws::{
     puts_and_withdrawals_are_needed, rows_note_what_is_superseded, the_plans_keys_are_next,
     what_is_made_did_not_stand, what_is_put_stands,
 };
-use crate::plan_laws::wanted_uris_are_put;
+use crate::plan_laws::wanted_uris_have_objects;
 use crate::step_laws::editions_follow_one_another;
 
 /// An edition that was planned over what stands, and made by signers whose signatures are vouched, follows the
@@ -27,7 +27,7 @@ pub fn what_is_planned_and_made_follows()
 {
     editions_follow_one_another();
     the_plans_keys_are_next();
-    wanted_uris_are_put();
+    wanted_uris_have_objects();
     what_is_put_stands();
     all_that_is_made_is_new();
     what_is_made_did_not_stand();
@@ -48,7 +48,7 @@ pub fn the_table_goes_on()
 {
     editions_follow_one_another();
     the_plans_keys_are_next();
-    wanted_uris_are_put();
+    wanted_uris_have_objects();
     what_is_put_stands();
     all_that_is_made_is_new();
     what_is_made_did_not_stand();

@@ -1,7 +1,7 @@
 //! Laws of editions that follow one another. Among them: serials are a key's own (RFC 5280 section
 //! 4.1.2.2), and manifests rise (RFC 9286 section 4.2.1).
 
-ghost use Rattle.std.specs.Prelude.{◌≡◌, ◌<◌, ℕ, List, None, Some, [], ◌∷◌, ◌++◌, Contains, All, AllPairs, map, length, ◌≢◌};
+ghost use Rattle.std.specs.Prelude.{◌≡◌, ◌<◌, ℕ, List, None, Some, true, false, [], ◌∷◌, ◌++◌, Contains, All, AllPairs, map, length, ◌≢◌};
 ghost use Rattle.key_roll.specs.declared.rows.KeyRow.{KeyRow};
 ghost use Rattle.cert_obj.specs.Values.{SignedCert};
 ghost use Rattle.crl_obj.specs.Values.{SignedCrl};
@@ -24,13 +24,14 @@ ghost use Rattle.issue_make.specs.Trace.{
   is_before,
   row_after,
 };
-ghost use Rattle.issue_drafts.specs.Drafts.{Draft};
+ghost use Rattle.issue_drafts.specs.Drafts.{Draft, drafts};
 ghost use Rattle.issue_drafts.specs.Drafts.Kind.{Manifest};
 ghost use Rattle.issue_sign.specs.Calls.{content_calls, last_calls};
-ghost use Rattle.issue_drafts.specs.Files.{kept_files};
+ghost use Rattle.issue_drafts.specs.Files.{kept_files, folder_at, is_made_under};
+ghost use Rattle.issue_drafts.specs.Publishers.{publishing_of};
 ghost use Rattle.der.specs.Part.{IsInput};
 ghost use Rattle.rp_rules.specs.Certificates.{Vouched};
-ghost use Rattle.editions.specs.Objects.{Issuance, moment_of, IsObject};
+ghost use Rattle.editions.specs.Objects.{Issuance, moment_of, IsObject, file_of};
 ghost use Rattle.editions.specs.VouchedCalls.{IsVouchedBy};
 ghost use Rattle.editions.specs.inner.Vouched.{AreVouched};
 ghost use Rattle.issue_drafts.specs.WorkKeys.{Keys, all_keys};
@@ -48,6 +49,9 @@ ghost use Rattle.editions.specs.Held.{HaveOwnSerials};
 ghost use Rattle.editions.specs.Superseded.{ListsSuperseded, IsCrlOf};
 ghost use Rattle.editions.specs.Published.{ManifestsRise};
 ghost use Rattle.editions.specs.Step.{Premises, IsStep, AreSteps, counted};
+ghost use Rattle.editions.specs.Wanted.{there, whole, new_objects, keeps_point};
+ghost use Rattle.std.specs.Prelude.{filter};
+ghost use Rattle.std.specs.List.{filter_map};
 ghost use Rattle.editions.specs.inner.ByRows.{IsStepByRows, AreListed};
 
 /// No bytes read as two of a certificate, a CRL and a signed object.
@@ -147,6 +151,8 @@ pub fn issued_entries_are_told()
 pub fn issued_objects_are_new_ones()
     ensures { (vouched : Vouched) (plan_input : PlanInput) (work : Work) (trace : IssuingTrace)
         (old new : Contents) (plan : AreOfPlan plan_input work trace.keys)
+        → ((row : KeyRow) → publishing_of (made_from plan_input work) trace.keys row
+        ≡ publishing_of (whole plan_input plan.keys) (there plan.keys) row)
         → All (λ x. IsInput (final_bytes (made_from plan_input work) trace x x.draft.kind))
         trace.objects
         → All (λ x. IsSpelled (made_from plan_input work) trace x.draft x.draft.kind x.answers)
@@ -163,14 +169,23 @@ pub fn issued_objects_are_new_ones()
         trace.objects }
 {}
 
-/// All that is made for the work of a plan reads as an edition's objects, manifests among it, where nothing of before
-/// stays, all but manifests stands, and all signatures are vouched.
+/// All that is made for the work of a plan reads as an edition's objects, manifests among it, where each key has its
+/// certificate where it is wanted, what stays under a key and what is made under it are its files, all but manifests stands,
+/// and all signatures are vouched.
 pub fn all_that_is_made_is_new()
     ensures { (vouched : Vouched) (plan_input : PlanInput) (work : Work) (trace : IssuingTrace)
         (old new : Contents) (plan : AreOfPlan plan_input work trace.keys)
+        → ((row : KeyRow) → publishing_of (made_from plan_input work) trace.keys row
+        ≡ publishing_of (whole plan_input plan.keys) (there plan.keys) row)
         → IsIssuingTrace (made_from plan_input work) plan_input.basis.rows trace
-        → ((key : KeyRow) → kept_files (made_from plan_input work)
-        (puts_of (made_from plan_input work) trace) key ≡ [])
+        → ((key : KeyRow) → Contains plan.keys key → keeps_point plan_input plan.keys key ≡ false
+        → IsPermutation
+        (filter_map (file_of new (folder_at (whole plan_input plan.keys) key))
+        (filter (is_made_under (whole plan_input plan.keys) key)
+        (drafts (whole plan_input plan.keys) (there plan.keys))))
+        (kept_files (made_from plan_input work) (puts_of (made_from plan_input work) trace) key
+        ++ filter_map (file_of new (folder_at (whole plan_input plan.keys) key))
+        (filter (is_made_under (whole plan_input plan.keys) key) (new_objects plan_input plan.keys))))
         → All (λ x. new x.draft.uri
         ≡ Some (final_bytes (made_from plan_input work) trace x x.draft.kind)) trace.objects
         → All (λ x. IsInput (final_bytes (made_from plan_input work) trace x x.draft.kind))
@@ -212,10 +227,12 @@ pub fn what_is_put_stands()
 {}
 
 /// The rows that the making of an edition leaves, by desk and role, are those of the next keys, each
-/// counted on as an edition's are.
+/// counted on as an edition's are, where the keys whose points stay keep their entries.
 pub fn issued_rows_are_counted()
     ensures { (plan_input : PlanInput) (work : Work) (trace : IssuingTrace)
         (plan : AreOfPlan plan_input work trace.keys) (rows : List KeyRow)
+        → ((key : KeyRow) → Contains plan.keys key → keeps_point plan_input plan.keys key ≡ true
+        → trace.entries key ≡ key.revoked)
         → IsPermutation (map (row_after (made_from plan_input work) trace) (all_keys trace.keys)) rows
         → IsSortedBy is_before rows
         → rows ≡ map (counted plan_input plan.keys trace.entries) plan.keys }

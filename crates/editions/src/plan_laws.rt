@@ -1,21 +1,22 @@
 //! Works that are planned over what stands, and what stands after they are made.
 
-ghost use Rattle.std.specs.Prelude.{◌≡◌, ◌<◌, ℕ, List, All, Any};
+ghost use Rattle.std.specs.Prelude.{◌≡◌, ◌≢◌, ◌<◌, ℕ, List, All, AllPairs, Any};
 ghost use Rattle.key_ids.specs.Uris.{Bases};
 ghost use Rattle.key_roll.specs.declared.issued.IssuedRow.{IssuedRow};
 ghost use Rattle.key_roll.specs.declared.work.Work.{Work};
 ghost use Rattle.signer_api.specs.State.{SignerState};
+ghost use Rattle.entitle.specs.declared.trees.Owed.{Owed};
 ghost use Rattle.entitle.specs.Owed.{AreOwed};
+ghost use Rattle.key_roll.specs.declared.rows.KeyRow.{KeyRow};
+ghost use Rattle.editions.specs.Keys.{AreNext};
 ghost use Rattle.issue_drafts.specs.WorkKeys.{Keys};
 ghost use Rattle.issue_make.specs.declared.made.Made.{Made};
-ghost use Rattle.issue_make.specs.Trace.{AreKeys};
-ghost use Rattle.editions.specs.inner.PlanAndTable.{made_from};
+ghost use Rattle.editions.specs.Wanted.{all_objects};
+ghost use Rattle.editions.specs.inner.PlanAndTable.{AreOfPlan};
 ghost use Rattle.issue_plan.specs.Keys.{Basis, next_keys};
 ghost use Rattle.issue_plan.specs.Wanted.{PlanInput};
 ghost use Rattle.issue_plan.specs.Uris.{wanted_uris};
 ghost use Rattle.issue_plan.specs.Work.{IsPlan};
-ghost use Rattle.issue_plan.specs.Work as plan;
-ghost use Rattle.issue_make.specs.ObjectPlan.{puts};
 ghost use Rattle.issue_make.specs.CanMake.{CanMake};
 ghost use Rattle.issue_make.specs.Made.{IsMade};
 ghost use Rattle.editions.specs.PublishedState.{PublishedStateValue, IsConsistentState, AreLive};
@@ -30,16 +31,27 @@ use issue_values::{
     files_are_told_apart, keys_are_told_apart, kinds_are_told_apart, origins_are_told_apart,
 };
 
-/// At each place that is wanted and known the making of a planned work puts something.
-pub fn wanted_uris_are_put()
-    ensures { (plan_input : PlanInput) (work : Work) (keys : Keys)
-        → plan.IsWork plan_input (next_keys plan_input.basis) work
+/// At each place that is wanted and known an object is wanted: the making of a planned work puts it, or it stands and fits.
+pub fn wanted_uris_have_objects()
+    ensures { (plan_input : PlanInput) (work : Work) (keys : Keys) (plan : AreOfPlan plan_input work keys)
         → AreNamed plan_input.basis → AreOwed plan_input.basis.configs plan_input.owed → AreApart plan_input.basis.rows
-        → AreKeys (made_from plan_input work) plan_input.basis.rows keys
-        → All (λ uri. Any (λ d. d.uri ≡ uri) (puts (made_from plan_input work) keys))
+        → All (λ uri. Any (λ d. d.uri ≡ uri) (all_objects plan_input plan.keys))
         (wanted_uris plan_input.site plan_input.basis.configs (next_keys plan_input.basis) plan_input.owed) }
+{}
+
+/// No two objects that are wanted over what stands have one place.
+pub fn wanted_objects_are_apart()
+    ensures { (at : PublishedStateValue) (site : Bases) (signers : ℕ) (basis : Basis) (owed : List Owed) (keys : List KeyRow)
+        → IsConsistentState at → CanFollow at site signers basis → AreOwed basis.configs owed
+        → AreNext basis.rows (next_keys basis) keys
+        → AllPairs (λ a b. a.uri ≢ b.uri)
+        (all_objects (record { basis = basis; owed = owed; issued = at.issued; site = site }) keys) }
 {
-    the_plans_keys_are_next();
+    files_are_told_apart();
+    keys_are_told_apart();
+    kinds_are_told_apart();
+    origins_are_told_apart();
+    membership_is_by_equality();
 }
 
 /// The work that is planned over what stands can be made.

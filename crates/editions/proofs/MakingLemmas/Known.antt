@@ -1,5 +1,6 @@
 -- The laws that are built on, as they are said where they are proved.
-use Rattle.std.specs.Prelude.{◌≡◌, ◌≢◌, ◌<◌, ℕ, List, [], ◌++◌, map, All, AllPairs, Any, Some, IsPermutation}
+use Rattle.std.specs.Prelude.{◌≡◌, ◌≢◌, ◌<◌, ℕ, true, false, List, ◌++◌, map, filter, All, AllPairs, Any, Contains, Some, IsPermutation}
+use Rattle.std.specs.List.{filter_map}
 use Rattle.std.specs.List.Sorted.{IsSortedBy}
 use Rattle.der.specs.Part.{IsInput}
 use Rattle.key_roll.specs.declared.rows.KeyRow.{KeyRow}
@@ -12,19 +13,20 @@ use Rattle.entitle.specs.Owed.{AreOwed}
 use Rattle.issue_keys.specs.Keys.{id_of}
 use Rattle.issue_drafts.specs.WorkKeys.{Keys, all_keys}
 use Rattle.issue_drafts.specs.IssueInput.{IssueInput}
-use Rattle.issue_drafts.specs.Drafts.{Draft}
+use Rattle.issue_drafts.specs.Drafts.{Draft, drafts}
+use Rattle.issue_drafts.specs.Publishers.{publishing_of}
 use Rattle.issue_sign.specs.Calls.{content_calls, last_calls}
-use Rattle.issue_drafts.specs.Files.{kept_files}
+use Rattle.issue_drafts.specs.Files.{folder_at, kept_files, is_made_under}
 use Rattle.issue_make.specs.Trace.{IssuingTrace, AreKeys, IsIssuingTrace, all_of, made_of, puts_of, final_bytes, wanted_at, IsSpelled, is_before, row_after}
 use Rattle.issue_plan.specs.Keys.{next_keys}
 use Rattle.issue_plan.specs.Wanted.{PlanInput}
 use Rattle.issue_plan.specs.Work.{IsWork}
 use Rattle.issue_plan.specs.Uris.{wanted_uris}
-use Rattle.issue_make.specs.ObjectPlan.{puts}
 use Rattle.editions.specs.inner.PlannedWork.{AreApart, AreNamed}
 use Rattle.editions.specs.Edition.{Edition, state_after, state_from, set_after, AreChanges}
 use Rattle.editions.specs.Table.{IsTable}
-use Rattle.editions.specs.Objects.{Issuance, moment_of, IsObject}
+use Rattle.editions.specs.Wanted.{there, whole, all_objects, new_objects, keeps_point}
+use Rattle.editions.specs.Objects.{Issuance, moment_of, IsObject, file_of}
 use Rattle.editions.specs.Step.{Premises, IsStep, AreSteps, counted}
 use Rattle.editions.specs.inner.ByRows.{IsStepByRows, AreListed}
 use Rattle.editions.specs.inner.PlanAndTable.{made_from, AreOfPlan}
@@ -55,9 +57,17 @@ pub record Laws : Type 0 where
       → AreListed plan_input changes plan.keys trace.entries
   pub new : (vouched : Vouched) (plan_input : PlanInput) (work : Work) (trace : IssuingTrace)
       (old new : Contents) (plan : AreOfPlan plan_input work trace.keys)
+      → ((row : KeyRow) → publishing_of (made_from plan_input work) trace.keys row
+      ≡ publishing_of (whole plan_input plan.keys) (there plan.keys) row)
       → IsIssuingTrace (made_from plan_input work) plan_input.basis.rows trace
-      → ((key : KeyRow) → kept_files (made_from plan_input work)
-      (puts_of (made_from plan_input work) trace) key ≡ [])
+      → ((key : KeyRow) → Contains plan.keys key → keeps_point plan_input plan.keys key ≡ false
+      → IsPermutation
+      (filter_map (file_of new (folder_at (whole plan_input plan.keys) key))
+      (filter (is_made_under (whole plan_input plan.keys) key)
+      (drafts (whole plan_input plan.keys) (there plan.keys))))
+      (kept_files (made_from plan_input work) (puts_of (made_from plan_input work) trace) key
+      ++ filter_map (file_of new (folder_at (whole plan_input plan.keys) key))
+      (filter (is_made_under (whole plan_input plan.keys) key) (new_objects plan_input plan.keys))))
       → All (λ x. new x.draft.uri
       ≡ Some (final_bytes (made_from plan_input work) trace x x.draft.kind)) trace.objects
       → All (λ x. IsInput (final_bytes (made_from plan_input work) trace x x.draft.kind))
@@ -90,12 +100,13 @@ pub record Laws : Type 0 where
       ≡ Some (final_bytes s trace x x.draft.kind)) (made_of trace)
   pub counted : (plan_input : PlanInput) (work : Work) (trace : IssuingTrace)
       (plan : AreOfPlan plan_input work trace.keys) (rows : List KeyRow)
+      → ((key : KeyRow) → Contains plan.keys key → keeps_point plan_input plan.keys key ≡ true
+      → trace.entries key ≡ key.revoked)
       → IsPermutation (map (row_after (made_from plan_input work) trace) (all_keys trace.keys)) rows
       → IsSortedBy is_before rows
       → rows ≡ map (counted plan_input plan.keys trace.entries) plan.keys
   pub wanted : (plan_input : PlanInput) (work : Work) (keys : Keys)
-      → IsWork plan_input (next_keys plan_input.basis) work → AreNamed plan_input.basis
+      (plan : AreOfPlan plan_input work keys) → AreNamed plan_input.basis
       → AreOwed plan_input.basis.configs plan_input.owed → AreApart plan_input.basis.rows
-      → AreKeys (made_from plan_input work) plan_input.basis.rows keys
-      → All (λ uri. Any (λ d. d.uri ≡ uri) (puts (made_from plan_input work) keys))
+      → All (λ uri. Any (λ d. d.uri ≡ uri) (all_objects plan_input plan.keys))
       (wanted_uris plan_input.site plan_input.basis.configs (next_keys plan_input.basis) plan_input.owed)

@@ -1,21 +1,18 @@
 -- The rows of what was put are the table of what stands.
-use Rattle.std.proofs.Common.{◌≡◌, ◌≢◌, ℕ, ◌+◌, ◌≤◌, Bool, true, false, cond, Option, None, Some, List, ◌∷◌, length, map, refl, sym, ap, subst, ◌∙◌, arith, inl, inr}
+use Rattle.std.proofs.Common.{◌≡◌, ◌≢◌, ℕ, ◌+◌, ◌≤◌, Bool, true, false, cond, Option, None, Some, List, ◌∷◌, length, map, refl, sym, ap, subst, ◌∙◌, arith, ◌⊎◌, inl, inr}
 use Rattle.std.specs.Prelude.{AllPairs, Any, Contains, is_some}
-use Rattle.std.specs.Str.{bytes_eq}
 use Rattle.std.proofs.lemmas.Option.{same_Some, none-some}
 use Rattle.std.proofs.lemmas.List.{length-map}
 use Rattle.std.proofs.lemmas.List.Elements.{All-contains}
 use Rattle.std.proofs.lemmas.Slice.Eq.{bytes_eq-Decides}
 use Rattle.sha1.specs.Sha1.{sha1}
-use Rattle.sha2.specs.Sha256.{sha256}
 use Rattle.signer_api.specs.State.{SignerState}
 use Rattle.res_sets.specs.declared.holdings.Resources.{Resources}
 use Rattle.cert_obj.specs.Values.{CertValue, is_entity, sets_of}
 use Rattle.crl_obj.specs.Values.{CrlValue}
 use Rattle.pub_set.specs.declared.steps.Change.{Change}
-use Rattle.pub_set.specs.declared.steps.Change.TheVariants.{Put}
 use Rattle.pub_set.specs.Objects.{found_at}
-use Rattle.pub_set.specs.Changes.{Contents, change_at, difference}
+use Rattle.pub_set.specs.Changes.{Contents, change_at}
 use Rattle.key_roll.specs.declared.issued.IssuedRow.{IssuedRow}
 use Rattle.key_roll.specs.declared.issued.What.{What}
 use Rattle.key_roll.specs.declared.issued.What.TheVariants as Whats
@@ -25,7 +22,7 @@ use Rattle.issue_keys.specs.Keys.{id_of}
 use Rattle.issue_drafts.specs.WorkKeys.{Keys}
 use Rattle.issue_drafts.specs.IssueInput.{IssueInput}
 use Rattle.issue_drafts.specs.Publishers.{is_key, publishing_of}
-use Rattle.issue_drafts.specs.Drafts.{Draft, Kind, drafts, serial_at, serial_behind}
+use Rattle.issue_drafts.specs.Drafts.{Draft, Kind, serial_at, serial_behind}
 use Rattle.issue_drafts.specs.Drafts.Kind.{Certificate, Roa, Crl, Manifest}
 use Rattle.issue_drafts.specs.laws.UriOrder.{apart-from-rise, found-some, found-there}
 use Rattle.issue_sign.specs.Objects.{Signed}
@@ -42,10 +39,11 @@ use Rattle.editions.specs.PlannedAndMade.{IsPlannedAndMade}
 use Rattle.editions.proofs.MakingLemmas.Known.{Laws}
 use Rattle.items.specs.laws.ElementLaws.{first-or-rest, into-map, from-map, pairs-cons, no-more}
 use Rattle.editions.proofs.MakingLemmas.Puts.{uri_at}
-use Rattle.editions.proofs.MakingLemmas.Following.{plan_input, s, trace, before, behind, plan, m, own-places, stands-of, object-of, are-changes, drafted-at, made-for}
-use Rattle.editions.proofs.ObjectLemmas.Standing.{all-new}
-
--- ---- all that is wanted is new
+use Rattle.editions.proofs.MakingLemmas.Following.{plan_input, s, trace, before, behind, plan, over, m, own-places, stands-of, object-of, are-changes, drafted-at, made-for, objects, twos, kept-same, made-new}
+use Rattle.editions.proofs.MakingLemmas.Places.{no-difference}
+use Rattle.items.specs.laws.AmongLaws.{In, contains-in}
+use Rattle.editions.proofs.ObjectLemmas.Fitting.{IsKept}
+use Rattle.editions.proofs.PlanLemmas.Fitted.{new_puts, made-or-left}
 
 -- ---- what a certificate says
 
@@ -63,21 +61,6 @@ said-by : (b : Bool) (x y : CertValue) (key : List ℕ) (held : Resources) (issu
     → IsSaid y key held issuer serial end → IsSaid (cond b x y) key held issuer serial end
 said-by true x y key held issuer serial end one other = one refl
 said-by false x y key held issuer serial end one other = other
-
--- Nothing to change where nothing differs.
-no-difference : (uri : List ℕ) (held wanted : Option (List ℕ)) → difference uri held wanted ≡ None
-    → wanted ≡ held
-no-difference uri None None e = refl
-no-difference uri None (Some bytes) e = absurd cc
-no-difference uri (Some was) None e = absurd cc
-no-difference uri (Some was) (Some bytes) e = by-test (bytes_eq was bytes) refl e
-  where
-    by-test : (b : Bool) → bytes_eq was bytes ≡ b
-        → cond b None (Some (Put uri bytes (Some (sha256 was)))) ≡ None
-        → Some bytes ≡ Some was
-    by-test true same is =
-        ap (λ (l : List ℕ). Some l) (sym ((bytes_eq-Decides was bytes).0 same))
-    by-test false same is = absurd cc
 
 module _ (laws : Laws) (premises : Premises) (clock : ℕ) (editions : List Edition) (edition : Edition)
     (old new : List SignerState) (steps : AreSteps premises editions)
@@ -113,7 +96,7 @@ module _ (laws : Laws) (premises : Premises) (clock : ℕ) (editions : List Edit
   here-keys = there of-plan.keys
 
   all-same : all_of set way ≡ new_objects at-plan_input of-plan.keys
-  all-same = of-plan.drafts ∙ sym (all-new at-plan_input of-plan.keys)
+  all-same = of-plan.drafts
 
   -- ---- a row of what was put
 
@@ -337,22 +320,69 @@ module _ (laws : Laws) (premises : Premises) (clock : ℕ) (editions : List Edit
             ∙ (ap (λ (o : Option Change). row_after (row_at planned.issued row.uri) o
             (row_at put row.uri)) (sym there-found) ∙ e)))
 
-    row-there : (uri : List ℕ) → is_some (is uri) ≡ true
+    -- The row of what was put.
+    put-there : (uri : List ℕ) (d : Draft) → In d (new_puts at-plan_input of-plan.keys) → d.uri ≡ uri
         → (row : IssuedRow) × Contains issued row × (row.uri ≡ uri)
-    row-there uri some =
-        let d = drafted-at laws premises clock editions edition old new steps planned uri some in
-        let x = made-for laws premises clock editions edition old new steps planned d.1
-        (d.0, d.2, d.3) in
+    put-there uri d at place =
+        let x = made-for laws premises clock editions edition old new steps planned d at in
         let own = issued-of x.0 x.1 in
-        let at : own.0.uri ≡ uri = own.2.uri ∙ (ap (λ (e : Draft). e.uri) x.2 ∙ d.4) in
+        let at-uri : own.0.uri ≡ uri = own.2.uri ∙ (ap (λ (e : Draft). e.uri) x.2 ∙ place) in
         let found : row_at put uri ≡ Some own.0 =
-        ap (row_at put) (sym at)
+        ap (row_at put) (sym at-uri)
         ∙ found-there row_uri (λ (r : IssuedRow). r) put own.0 put-apart own.1 in
         let there-found : row_at issued uri ≡ Some own.0 =
         after.each uri
         ∙ ap (row_after (row_at planned.issued uri) (change_at edition.changes uri)) found in
         let r = found-some row_uri (λ (x : IssuedRow). x) issued uri own.0 there-found in
         (r.0, r.1, r.2)
+
+    -- Nothing is put where something is kept.
+    none-put : (d : Draft) → ((e : Draft) → In e (new_puts at-plan_input of-plan.keys) → e.uri ≢ d.uri)
+        → row_at put d.uri ≡ None
+    none-put d away = by-row (row_at put d.uri) refl
+      where
+        by-row : (o : Option IssuedRow) → row_at put d.uri ≡ o → row_at put d.uri ≡ None
+        by-row None found = found
+        by-row (Some row) found =
+            let r = found-some row_uri (λ (x : IssuedRow). x) put d.uri row found in
+            let x = object-at r.0 r.1 in
+            absurd (away x.0.draft (made-new laws premises clock editions edition old new steps planned x.0 x.1)
+            (x.2 ∙ r.2))
+
+    -- The row of what stays.
+    left-there : (uri : List ℕ) (d : Draft) → In d (objects laws premises clock editions edition old new steps planned)
+        → IsKept at-plan_input of-plan.keys d
+        → ((e : Draft) → In e (new_puts at-plan_input of-plan.keys) → e.uri ≢ d.uri) → d.uri ≡ uri
+        → (row : IssuedRow) × Contains issued row × (row.uri ≡ uri)
+    left-there uri d at kept away place =
+        let stays : change_at edition.changes d.uri ≡ None =
+        kept-same laws premises clock editions edition old new steps planned d at kept away in
+        let before-found : row_at planned.issued d.uri ≡ Some kept.row =
+        ap (row_at planned.issued) (sym kept.at)
+        ∙ found-there row_uri (λ (r : IssuedRow). r) planned.issued kept.row
+        (apart-from-rise row_uri planned.issued planned.made.table.rising) kept.among in
+        let found : row_at issued d.uri ≡ Some kept.row =
+        after.each d.uri
+        ∙ (ap (row_after (row_at planned.issued d.uri) (change_at edition.changes d.uri)) (none-put d away)
+        ∙ (ap (λ (o : Option Change). row_after (row_at planned.issued d.uri) o None) stays
+        ∙ ap (λ (o : Option IssuedRow). row_after o None None) before-found)) in
+        let r = found-some row_uri (λ (x : IssuedRow). x) issued d.uri kept.row found in
+        (r.0, r.1, r.2 ∙ place)
+
+    row-there : (uri : List ℕ) → is_some (is uri) ≡ true
+        → (row : IssuedRow) × Contains issued row × (row.uri ≡ uri)
+    row-there uri some =
+        let d = drafted-at laws premises clock editions edition old new steps planned uri some in
+        let at = contains-in d.1 (objects laws premises clock editions edition old new steps planned) (d.0, d.2, d.3) in
+        by-left d.1 at d.4 (made-or-left at-plan_input of-plan.keys (over laws premises clock editions edition old new steps planned)
+        (twos laws premises clock editions edition old new steps planned) d.1 at)
+      where
+        by-left : (d : Draft) → In d (objects laws premises clock editions edition old new steps planned) → d.uri ≡ uri
+            → In d (new_puts at-plan_input of-plan.keys)
+            ⊎ (IsKept at-plan_input of-plan.keys d × ((e : Draft) → In e (new_puts at-plan_input of-plan.keys) → e.uri ≢ d.uri))
+            → (row : IssuedRow) × Contains issued row × (row.uri ≡ uri)
+        by-left d at place (inl made) = put-there uri d made place
+        by-left d at place (inr left) = left-there uri d at left.0 left.1 place
 
     pub goes-on : IsTable is issued
     goes-on = record { rising = after.rising; each = one-row; all = row-there }

@@ -1,8 +1,10 @@
 -- The entries of an edition's CRLs are those that the rows and the table tell.
-use Rattle.std.proofs.Common.{◌≡◌, ℕ, Bool, true, false, cond, not, ◌&&◌, ◌||◌, ◌==◌, nat_le, Option, Some, None, List, [], ◌∷◌, ◌++◌, map, filter, get_or, refl, sym, ap, subst, ◌∙◌}
+use Rattle.std.proofs.Common.{◌≡◌, ℕ, Bool, true, false, cond, not, ◌&&◌, ◌||◌, ◌==◌, nat_le, Option, Some, None, List, [], ◌∷◌, ◌++◌, map, filter, get_or, refl, sym, ap, subst, ◌∙◌, arith}
 use Rattle.std.specs.Prelude.{Contains, option_map, is_some}
 use Rattle.std.specs.List.{list_any}
 use Rattle.std.specs.Str.{bytes_eq}
+use Rattle.std.proofs.lemmas.Bool.{true≢false, le-leb}
+use Rattle.std.proofs.lemmas.List.{append-nil}
 use Rattle.std.proofs.lemmas.Bool.Decides.{same_from_decides}
 use Rattle.std.proofs.lemmas.List.Elements.{All-contains, Contains-get_or, filter_agree}
 use Rattle.std.proofs.lemmas.List.Folds.{list_any-append}
@@ -25,14 +27,19 @@ use Rattle.issue_drafts.specs.IssueInput.{IssueInput}
 use Rattle.issue_drafts.specs.Drafts.{Draft, manifests}
 use Rattle.issue_drafts.specs.laws.UriOrder.{same-decides}
 use Rattle.issue_sign.specs.Objects.{Signed}
-use Rattle.issue_drafts.specs.Revoking.{revoked_row, is_listed, is_superseded, is_touched}
+use Rattle.issue_drafts.specs.Revoking.{revoked_row, has_point, is_listed, is_superseded, is_touched}
 use Rattle.issue_drafts.specs.Revoking as lists
 use Rattle.issue_make.specs.Trace.{IssuingTrace, IsIssuingTrace, all_of, puts_of, made_of, hash_at, put_of, withdrawal_at, or_else, wanted_at}
 use Rattle.issue_drafts.specs.Firsts.{AreFirsts}
 use Rattle.editions.specs.Table.{IsTable}
+use Rattle.editions.specs.Wanted.{keeps_point}
+use Rattle.crl_obj.specs.Values.{are_rising}
+use Rattle.issue_values.specs.Bodies.{crl_entry}
 use Rattle.editions.specs.inner.ByRows.{is_ended, with_ended, candidates, AreListed}
 use Rattle.editions.specs.inner.PlanAndTable.{made_from, AreOfPlan}
-use Rattle.items.specs.laws.ElementLaws.{here, there}
+use Rattle.items.specs.laws.ElementLaws.{here, there, filter-none, filter-all}
+use Rattle.editions.proofs.ObjectLemmas.Firsts.{firsts-same}
+use Rattle.editions.proofs.ObjectLemmas.Tables.{ends}
 use Rattle.editions.proofs.ObjectLemmas.Changing.{hash-is}
 
 filter-agree-in : {X : Type 0} (p q : X → Bool) (xs : List X)
@@ -129,9 +136,9 @@ module _ (plan_input : PlanInput) (work : Work) (trace : IssuingTrace) (old : Co
         ap (λ (b : Bool). bytes_eq row.issuer.bytes (id_of key) && not (row.serial == 0)
         && not (bytes_eq row.uri (anchor_uri plan_input.site)) && b) (touched row c))
 
-    same-candidates : (key : KeyRow) → Contains plan.keys key
+    same-candidates : (key : KeyRow) → Contains plan.keys key → keeps_point plan_input plan.keys key ≡ false
         → lists.candidates s trace.keys (puts_of s trace) key ≡ candidates plan_input changes key
-    same-candidates key c =
+    same-candidates key c isnt =
         let rows : List IssuedRow → ℕ → List RevokedRow = λ l n. key.revoked ++ map (revoked_row n) l in
         let inner : rows (filter (is_superseded s (puts_of s trace) key) plan_input.issued) work.moment
         ≡ with_ended plan_input changes key =
@@ -140,13 +147,48 @@ module _ (plan_input : PlanInput) (work : Work) (trace : IssuingTrace) (old : Co
         ap (filter (is_listed s trace.keys key)) inner
         ∙ filter_agree (is_listed s trace.keys key) (λ row. nat_le key.this_update row.not_after)
         (λ row. ap (λ (b : Bool). nat_le (cond b key.this_update 0) row.not_after)
-        (plan.pointed key c)) (with_ended plan_input changes key)
+        (plan.pointed key c ∙ ap not isnt)) (with_ended plan_input changes key)
 
     pub are-listed : AreListed plan_input changes plan.keys trace.entries
     are-listed = λ k d inside same.
         let key : KeyRow = get_or plan.keys k d in
         let c : Contains plan.keys key = Contains-get_or plan.keys k d inside in
-        subst (λ (l : List RevokedRow). AreFirsts l (trace.entries key)) (same-candidates key c)
+        subst (λ (l : List RevokedRow). AreFirsts l (trace.entries key)) (same-candidates key c same)
         (All-contains (λ (x : KeyRow). AreFirsts
         (lists.candidates s trace.keys (puts_of s trace) x) (trace.entries x))
         (all_keys trace.keys) key is.entries ((plan.same key).0 c))
+
+    -- A key with its point kept, under which nothing changes, keeps its entries.
+    pub entries-stay : (key : KeyRow) → Contains plan.keys key → keeps_point plan_input plan.keys key ≡ true
+        → are_rising (map crl_entry key.revoked) ≡ true
+        → ((row : IssuedRow) → Contains plan_input.issued row → row.issuer.bytes ≡ id_of key
+        → is_some (change_at changes row.uri) ≡ false)
+        → trace.entries key ≡ key.revoked
+    entries-stay key c keeps up same =
+        let none : filter (is_ended plan_input changes key) plan_input.issued ≡ [] =
+        filter-none (is_ended plan_input changes key) plan_input.issued (λ row inside. never row inside) in
+        let all : key.revoked ++ map (revoked_row work.moment)
+        (filter (is_superseded s (puts_of s trace) key) plan_input.issued) ≡ key.revoked =
+        ap (λ (l : List IssuedRow). key.revoked ++ map (revoked_row work.moment) l) (ended key ∙ none)
+        ∙ append-nil key.revoked in
+        let no_point : has_point s trace.keys key ≡ false = plan.pointed key c ∙ ap not keeps in
+        let candidates_are : lists.candidates s trace.keys (puts_of s trace) key ≡ key.revoked =
+        ap (filter (is_listed s trace.keys key)) all
+        ∙ (filter_agree (is_listed s trace.keys key) (λ row. true) (λ row.
+        ap (λ (b : Bool). nat_le (cond b key.this_update 0) row.not_after) no_point
+        ∙ le-leb 0 row.not_after (omega arith)) key.revoked
+        ∙ filter-all key.revoked) in
+        firsts-same key.revoked (trace.entries key) up
+        (subst (λ (l : List RevokedRow). AreFirsts l (trace.entries key)) candidates_are
+        (All-contains (λ (x : KeyRow). AreFirsts
+        (lists.candidates s trace.keys (puts_of s trace) x) (trace.entries x))
+        (all_keys trace.keys) key is.entries ((plan.same key).0 c)))
+      where
+        never : (row : IssuedRow) → Contains plan_input.issued row → is_ended plan_input changes key row ≡ false
+        never row inside = by (is_ended plan_input changes key row) refl
+          where
+            by : (b : Bool) → is_ended plan_input changes key row ≡ b → b ≡ false
+            by false e = refl
+            by true e =
+                let is_one = ends plan_input changes key row e in
+                absurd (true≢false (sym is_one.touched ∙ same row inside is_one.issuer))

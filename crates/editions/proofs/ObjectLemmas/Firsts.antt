@@ -1,7 +1,8 @@
 -- The first row of each serial.
-use Rattle.std.proofs.Common.{◌≡◌, ℕ, ◌<◌, ◌==◌, nat_lt, Bool, true, cond, Some, List, [], ◌∷◌, map, refl, sym, ap, subst, ◌∙◌, arith, inl, inr}
+use Rattle.std.proofs.Common.{◌≡◌, ◌≢◌, ℕ, ◌<◌, ◌≤◌, ◌==◌, nat_lt, Bool, true, cond, Some, None, List, [], ◌∷◌, map, refl, sym, ap, subst, ◌∙◌, arith, inl, inr}
 use Rattle.std.specs.List.{Contains}
-use Rattle.std.proofs.lemmas.Bool.{eqb-true, eq-eqb, ne_eqb, ltb-true, and_parts}
+use Rattle.std.proofs.lemmas.Bool.{cases_eq, cases_lt, eqb-true, eq-eqb, ne_eqb, ltb-true, and_parts}
+use Rattle.std.proofs.lemmas.Option.{same_Some, none-some}
 use Rattle.key_roll.specs.declared.rows.RevokedRow.{RevokedRow}
 use Rattle.crl_obj.specs.Values.{are_rising, rise_above}
 use Rattle.issue_values.specs.Bodies.{crl_entry}
@@ -64,3 +65,59 @@ has-entry rows entries row firsts c =
     let found = found-in (λ (r : RevokedRow). r.serial == row.serial) entries first.0
     (firsts.each row.serial ∙ first.1) in
     (first.0, found.0, eqb-true first.0.serial row.serial found.1)
+
+-- Rows that rise are the first of their serials.
+none-above : (n k : ℕ) (xs : List RevokedRow) → rise_above n (map crl_entry xs) ≡ true → k ≤ n → row_at xs k ≡ None
+none-above n k [] up least = refl
+none-above n k (x ∷ xs) up least =
+    let p = rise-parts n x xs up in
+    let more = p.0 in
+    ap (λ (b : Bool). cond b (Some x) (row_at xs k)) (ne_eqb x.serial k (λ e. omega (arith, least, more, e)))
+    ∙ none-above x.serial k xs p.1 (omega (arith, least, more))
+
+at-first : (x : RevokedRow) (xs : List RevokedRow) → row_at (x ∷ xs) x.serial ≡ Some x
+at-first x xs = ap (λ (b : Bool). cond b (Some x) (row_at xs x.serial)) (eq-eqb x.serial x.serial refl)
+
+at-other : (x : RevokedRow) (xs : List RevokedRow) (n : ℕ) → x.serial ≢ n → row_at (x ∷ xs) n ≡ row_at xs n
+at-other x xs n apart = ap (λ (b : Bool). cond b (Some x) (row_at xs n)) (ne_eqb x.serial n apart)
+
+-- The first of one list isn't behind that of the other.
+no-later : (x : RevokedRow) (xs ys : List RevokedRow) (y : RevokedRow) → are_rising (map crl_entry (y ∷ ys)) ≡ true
+    → row_at (y ∷ ys) x.serial ≡ Some x → y.serial ≤ x.serial
+no-later x xs ys y up e = elim (cases_lt x.serial y.serial) [
+  | inr least ↦ least
+  | inl less ↦
+      absurd (none-some x (sym (at-other y ys x.serial (λ same. omega (arith, less, same))
+      ∙ none-above y.serial x.serial ys (tail-up up) (omega (arith, less))) ∙ e))
+]
+  where
+    tail-up : are_rising (map crl_entry (y ∷ ys)) ≡ true → rise_above y.serial (map crl_entry ys) ≡ true
+    tail-up is = is
+
+pub firsts-same : (rows entries : List RevokedRow) → are_rising (map crl_entry rows) ≡ true → AreFirsts rows entries
+    → entries ≡ rows
+firsts-same rows entries up firsts = by rows entries up firsts.rising firsts.each
+  where
+    by : (rows entries : List RevokedRow) → are_rising (map crl_entry rows) ≡ true
+        → are_rising (map crl_entry entries) ≡ true
+        → ((serial : ℕ) → row_at entries serial ≡ row_at rows serial) → entries ≡ rows
+    by [] [] up rise each = refl
+    by [] (e ∷ es) up rise each = absurd (none-some e (sym (each e.serial) ∙ at-first e es))
+    by (r ∷ rs) [] up rise each = absurd (none-some r (each r.serial ∙ at-first r rs))
+    by (r ∷ rs) (e ∷ es) up rise each =
+        let low = no-later r rs es e rise (each r.serial ∙ at-first r rs) in
+        let high = no-later e es rs r up (sym (each e.serial) ∙ at-first e es) in
+        let serials : e.serial ≡ r.serial = omega (arith, low, high) in
+        let same : e ≡ r = same_Some e r
+        (sym (at-first e es) ∙ (each e.serial ∙ (ap (row_at (r ∷ rs)) serials ∙ at-first r rs))) in
+        let rest : es ≡ rs = by rs es (rises-behind r.serial rs up) (rises-behind e.serial es rise) (λ n.
+        elim (cases_eq n r.serial) [
+          | inl here ↦
+              let least : n ≤ e.serial = omega (arith, here, serials) in
+              none-above e.serial n es rise least
+              ∙ sym (none-above r.serial n rs up (omega (arith, here)))
+          | inr apart ↦
+              sym (at-other e es n (λ is. apart (omega (arith, is, serials))))
+              ∙ (each n ∙ at-other r rs n (λ is. apart (omega (arith, is))))
+        ]) in
+        ap (λ (l : List RevokedRow). e ∷ l) rest ∙ ap (λ (x : RevokedRow). x ∷ rs) same

@@ -1,5 +1,5 @@
 -- The certificates and the CRLs in the set of an edition: who issued them, with which serials.
-use Rattle.std.proofs.Common.{◌≡◌, ◌≢◌, ℕ, ◌<◌, ◌≤◌, Bool, true, false, cond, not, ◌&&◌, ◌==◌, Option, Some, None, List, [], ◌∷◌, ◌++◌, refl, sym, ap, subst, ◌∙◌, arith, ◌⊎◌, inl, inr, append_assoc}
+use Rattle.std.proofs.Common.{◌≡◌, ◌≢◌, ℕ, ◌+◌, ◌<◌, ◌≤◌, Bool, true, false, cond, not, ◌&&◌, ◌==◌, Option, Some, None, List, [], ◌∷◌, ◌++◌, refl, sym, ap, subst, ◌∙◌, arith, ◌⊎◌, inl, inr, append_assoc}
 use Rattle.std.specs.Prelude.{Contains, codes, count_by}
 use Rattle.std.specs.List.{list_all}
 use Rattle.std.specs.Ordering.{is_lt, is_eq, ordering_reverse}
@@ -28,13 +28,14 @@ use Rattle.issue_drafts.specs.Publishers.{is_key, name_at, publishing_of}
 use Rattle.issue_drafts.specs.Drafts.{Draft, Kind, has_serial, is_numbered, serial_at, serial_behind}
 use Rattle.issue_drafts.specs.Drafts.Kind.{Certificate, Roa, Crl, Manifest}
 use Rattle.pub_set.specs.laws.UriLaws.{same_is as same-is, uri_total}
-use Rattle.issue_sign.specs.Objects.{certificate_with}
+use Rattle.issue_sign.specs.Objects.{certificate_with, number_of}
 use Rattle.editions.specs.Held.{HasCertificate, certificate_inside}
-use Rattle.editions.specs.Wanted.{there, whole, new_objects}
-use Rattle.editions.specs.Objects.{Issuance, IsObject, IsNewSet}
+use Rattle.editions.specs.Wanted.{there, whole, new_objects, keeps_point}
+use Rattle.editions.specs.Objects.{Issuance, IsObject}
+use Rattle.editions.specs.Step.{counted}
 use Rattle.editions.proofs.ObjectLemmas.OneKind.{with-certificate, with-crl, certificate-no-crl, certificate-no-object}
 use Rattle.items.specs.laws.ElementLaws.{count-less}
-use Rattle.editions.proofs.ObjectLemmas.Standing.{IsPlacedAt, put-at}
+use Rattle.editions.proofs.ObjectLemmas.Standing.{IsPlacedAt, IsPut}
 
 -- ---- no file of a folder stands at the trust anchor's place
 
@@ -136,6 +137,7 @@ pub record IsBehindAt (m : Issuance) (uri : List ℕ) (issuer : KeyRow) (n : ℕ
   pub at : uri ≡ manifest_uri m.plan_input.site
       (name_at (names_of m.plan_input.basis.configs) issuer.desk) (id_of issuer)
   pub serial : n ≡ serial_behind (new_objects m.plan_input m.keys) issuer
+  pub fresh : keeps_point m.plan_input m.keys issuer ≡ false
 
 -- A certificate that the key issued in the edition.
 pub record IsGiven (m : Issuance) (uri : List ℕ) (c : SignedCert) : Type 0 where
@@ -182,8 +184,9 @@ entity-given m d c value live says issuer kind serial apart = record {
 given-by : (m : Issuance) (d : Draft) (kind : Kind) (bytes : List ℕ) (c : SignedCert)
     → d.kind ≡ kind → Contains m.keys d.issuer → IsPlacedAt m d kind → IsObject m d kind bytes
     → (has_serial kind ≡ true → Contains (new_objects m.plan_input m.keys) d)
+    → (has_serial kind ≡ false → keeps_point m.plan_input m.keys d.issuer ≡ false)
     → HasCertificate bytes c → IsGiven m d.uri c
-given-by m d (Certificate subject held) bytes c is live placed object among has =
+given-by m d (Certificate subject held) bytes c is live placed object among point has =
     let s : IssueInput = whole m.plan_input m.keys in
     let keys : Keys = there m.keys in
     let n : ℕ = serial_at (new_objects m.plan_input m.keys) d.issuer d.uri in
@@ -213,7 +216,7 @@ given-by m d (Certificate subject held) bytes c is live placed object among has 
       anchor = λ at. ap (λ (v : CertValue). not (is_issued v.kind)) says ∙ anchors.0 at;
       other = λ no. ap (λ (v : CertValue). not (is_issued v.kind)) says ∙ anchors.1 no;
     }
-given-by m d (Roa origin) bytes c is live placed object among has =
+given-by m d (Roa origin) bytes c is live placed object among point has =
     let s : IssueInput = whole m.plan_input m.keys in
     let read = roa-read bytes object.roa object.read in
     let same = inside-certificate bytes object.roa.object object.roa.certificate c read.object
@@ -233,11 +236,11 @@ given-by m d (Roa origin) bytes c is live placed object among has =
       serial = refl;
     }))
     (λ at. file-no-anchor s.site (name_at s.names d.issuer.desk) _ (sym placed ∙ at))
-given-by m d Crl bytes c is live placed object among (inl e) =
+given-by m d Crl bytes c is live placed object among point (inl e) =
     absurd (certificate-no-crl bytes c object.crl e object.read)
-given-by m d Crl bytes c is live placed object among (inr e) =
+given-by m d Crl bytes c is live placed object among point (inr e) =
     absurd (none-some c (sym (ap certificate_inside (with-crl bytes object.crl object.read).1) ∙ e))
-given-by m d Manifest bytes c is live placed object among has =
+given-by m d Manifest bytes c is live placed object among point has =
     let s : IssueInput = whole m.plan_input m.keys in
     let read = manifest-read bytes object.manifest object.read in
     let same = inside-certificate bytes object.manifest.object object.manifest.certificate c
@@ -248,18 +251,76 @@ given-by m d Manifest bytes c is live placed object among has =
     let says : c.cert ≡ value =
     ap (λ (x : SignedCert). x.cert) (sym same) ∙ object.signed.certificate.says in
     entity-given m d c value live says refl refl
-    (inr (record { at = placed; serial = refl }))
+    (inr (record { at = placed; serial = refl; fresh = point refl }))
     (λ at. file-no-anchor s.site (name_at s.names d.issuer.desk) _ (sym placed ∙ at))
 
-pub given : (m : Issuance) → IsNewSet m → (uri bytes : List ℕ) (c : SignedCert)
-    → m.new uri ≡ Some bytes → HasCertificate bytes c → IsGiven m uri c
-given m set uri bytes c stands has =
-    let put = put-at m set uri bytes stands in
-    let d : Draft = put.0 in
-    subst (λ (u : List ℕ). IsGiven m u c) put.1
-    (given-by m d d.kind bytes c refl put.2.live put.2.placed put.2.object put.2.among has)
+-- What the edition made.
+pub given : (m : Issuance) (d : Draft) (bytes : List ℕ) (c : SignedCert) → IsPut m d bytes
+    → HasCertificate bytes c → IsGiven m d.uri c
+given m d bytes c put has =
+    given-by m d d.kind bytes c refl put.live put.placed put.object put.among put.point has
+
+-- It's the draft's issuer.
+given-issuer : (m : Issuance) (d : Draft) (kind : Kind) (bytes : List ℕ) (c : SignedCert)
+    (is : d.kind ≡ kind) (live : Contains m.keys d.issuer) (placed : IsPlacedAt m d kind)
+    (object : IsObject m d kind bytes)
+    (among : has_serial kind ≡ true → Contains (new_objects m.plan_input m.keys) d)
+    (point : has_serial kind ≡ false → keeps_point m.plan_input m.keys d.issuer ≡ false)
+    (has : HasCertificate bytes c)
+    → (given-by m d kind bytes c is live placed object among point has).issuer ≡ d.issuer
+unfolding given-by entity-given
+given-issuer m d (Certificate subject held) bytes c is live placed object among point has = refl
+given-issuer m d (Roa origin) bytes c is live placed object among point has = refl
+given-issuer m d Crl bytes c is live placed object among point (inl e) =
+    absurd (certificate-no-crl bytes c object.crl e object.read)
+given-issuer m d Crl bytes c is live placed object among point (inr e) =
+    absurd (none-some c (sym (ap certificate_inside (with-crl bytes object.crl object.read).1) ∙ e))
+given-issuer m d Manifest bytes c is live placed object among point has = refl
+
+pub issued-by : (m : Issuance) (d : Draft) (bytes : List ℕ) (c : SignedCert) → IsPut m d bytes
+    → HasCertificate bytes c → c.cert.issuer ≡ id_of d.issuer
+unfolding given given-by
+issued-by m d bytes c put has =
+    (given m d bytes c put has).named
+    ∙ ap id_of (given-issuer m d d.kind bytes c refl put.live put.placed put.object put.among put.point has)
 
 -- ---- the serials that an edition gives
+
+-- What becomes of a key, as its point is kept or not.
+next-by : (b : Bool) (kept made : KeyRow) (n : ℕ) → kept.next_serial ≡ n → made.next_serial ≡ n + 1
+    → n ≤ (cond b kept made).next_serial
+next-by true kept made n one two = omega (arith, one)
+next-by false kept made n one two = omega (arith, two)
+
+-- A key with its point kept, and with a new one.
+abbrev pub kept_on : Issuance → KeyRow → KeyRow
+kept_on m key = record key { next_serial = serial_behind (new_objects m.plan_input m.keys) key }
+
+abbrev pub pointed_anew : Issuance → KeyRow → KeyRow
+pointed_anew m key = record key {
+  next_serial = serial_behind (new_objects m.plan_input m.keys) key + 1;
+  number = number_of key;
+  this_update = m.plan_input.basis.moment;
+  revoked = m.entries key;
+}
+
+pub counted-kept : (m : Issuance) (key : KeyRow) → keeps_point m.plan_input m.keys key ≡ true
+    → counted m.plan_input m.keys m.entries key ≡ kept_on m key
+counted-kept m key keeps = ap (λ (b : Bool). cond b (kept_on m key) (pointed_anew m key)) keeps
+
+pub counted-anew : (m : Issuance) (key : KeyRow) → keeps_point m.plan_input m.keys key ≡ false
+    → counted m.plan_input m.keys m.entries key ≡ pointed_anew m key
+counted-anew m key isnt = ap (λ (b : Bool). cond b (kept_on m key) (pointed_anew m key)) isnt
+
+pub behind-to : (m : Issuance) (key : KeyRow)
+    → serial_behind (new_objects m.plan_input m.keys) key ≤ (counted m.plan_input m.keys m.entries key).next_serial
+behind-to m key = next-by (keeps_point m.plan_input m.keys key) (kept_on m key) (pointed_anew m key)
+    (serial_behind (new_objects m.plan_input m.keys) key) refl refl
+
+behind-next : (m : Issuance) (key : KeyRow) → keeps_point m.plan_input m.keys key ≡ false
+    → (counted m.plan_input m.keys m.entries key).next_serial
+    ≡ serial_behind (new_objects m.plan_input m.keys) key + 1
+behind-next m key isnt = ap (λ (k : KeyRow). k.next_serial) (counted-anew m key isnt)
 
 pub serial-from : (m : Issuance) (uri : List ℕ) (issuer : KeyRow) (n : ℕ)
     → IsNumberedAt m uri issuer n ⊎ IsBehindAt m uri issuer n → issuer.next_serial ≤ n
@@ -288,12 +349,18 @@ numbered-below m uri issuer n is =
     let e = is.serial in
     omega (arith, e, less)
 
+-- A serial that is given is below the next one of the key behind the edition.
 pub serial-to : (m : Issuance) (uri : List ℕ) (issuer : KeyRow) (n : ℕ)
     → IsNumberedAt m uri issuer n ⊎ IsBehindAt m uri issuer n
-    → n ≤ serial_behind (new_objects m.plan_input m.keys) issuer
+    → n < (counted m.plan_input m.keys m.entries issuer).next_serial
 serial-to m uri issuer n (inl is) =
-    let less = numbered-below m uri issuer n is in omega (arith, less)
-serial-to m uri issuer n (inr is) = let e = is.serial in omega (arith, e)
+    let less = numbered-below m uri issuer n is in
+    let most = behind-to m issuer in
+    omega (arith, less, most)
+serial-to m uri issuer n (inr is) =
+    let e = is.serial in
+    let next = behind-next m issuer is.fresh in
+    omega (arith, e, next)
 
 pub is-less : (o : Ordering) → is_lt o ≡ true → o ≡ Less
 is-less Less e = refl

@@ -115,7 +115,7 @@ module _ (m : Issuance) where
   -- ---- each of all drafts
 
   -- What holds of the drafts of each kind holds of all.
-  each-draft : (P : Draft → Type 0)
+  pub each-draft : (P : Draft → Type 0)
       → ((d : Draft) → Contains (filter_map (certificate_draft s keys) (all_certificates m.plan_input m.keys)) d → P d)
       → ((d : Draft) → Contains (filter_map (roa_draft s keys) (all_roas m.plan_input m.keys)) d → P d)
       → ((d : Draft) → Contains (filter_map (crl_draft s keys) points) d → P d)

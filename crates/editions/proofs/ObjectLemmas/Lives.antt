@@ -27,14 +27,14 @@ use Rattle.editions.proofs.ObjectLemmas.History.{there-is, rows-before, shorter,
 same-itself : (row : KeyRow) → IsSameKey row row
 same-itself row = record { key = refl; desk = refl; signer = refl }
 
-same-then : (a b c : KeyRow) → IsSameKey a b → IsSameKey b c → IsSameKey a c
+pub same-then : (a b c : KeyRow) → IsSameKey a b → IsSameKey b c → IsSameKey a c
 same-then a b c one two = record {
   key = two.key ∙ one.key;
   desk = two.desk ∙ one.desk;
   signer = two.signer ∙ one.signer;
 }
 
-id-same : (one other : KeyRow) → IsSameKey one other → id_of other ≡ id_of one
+pub id-same : (one other : KeyRow) → IsSameKey one other → id_of other ≡ id_of one
 id-same one other same = ap (λ (key : PublicKey). sha1 key.bytes) same.key
 
 -- ---- one edition
@@ -43,7 +43,7 @@ counted-by : (b : Bool) (key one two : KeyRow) → IsSameKey key one → IsSameK
 counted-by true key one two first second = first
 counted-by false key one two first second = second
 
-counted-same : (m : Issuance) (key : KeyRow) → IsSameKey key (counted m.plan_input m.keys m.entries key)
+pub counted-same : (m : Issuance) (key : KeyRow) → IsSameKey key (counted m.plan_input m.keys m.entries key)
 counted-same m key = counted-by (keeps_point m.plan_input m.keys key) key
     (record key { next_serial = serial_behind (new_objects m.plan_input m.keys) key })
     (record key {
@@ -55,13 +55,13 @@ counted-same m key = counted-by (keeps_point m.plan_input m.keys key) key
     (record { key = refl; desk = refl; signer = refl }) (record { key = refl; desk = refl; signer = refl })
 
 -- A live key of before.
-record IsCarried (rows : List KeyRow) (key : KeyRow) : Type 0 where
-  row : KeyRow
-  live : Contains rows row
-  named : id_of row ≡ id_of key
-  same : IsSameKey row key
+pub record IsCarried (rows : List KeyRow) (key : KeyRow) : Type 0 where
+  pub row : KeyRow
+  pub live : Contains rows row
+  pub named : id_of row ≡ id_of key
+  pub same : IsSameKey row key
 
-abbrev IsOther : List KeyRow → KeyRow → Type 0
+abbrev pub IsOther : List KeyRow → KeyRow → Type 0
 IsOther rows key = All (λ live. id_of live ≢ id_of key) rows
 
 carried-by : (rows : List KeyRow) (next : NextKey) (name : KeyName) (key : KeyRow)
@@ -78,7 +78,7 @@ carried-by rows next (Live id) key on = inl (record {
 })
 carried-by rows next (Fresh desk) key new = inr new.apart
 
-each-carried : (rows : List KeyRow) (nexts : List NextKey) (keys : List KeyRow) (key : KeyRow)
+pub each-carried : (rows : List KeyRow) (nexts : List NextKey) (keys : List KeyRow) (key : KeyRow)
     → AreEach rows nexts keys → Contains keys key → IsCarried rows key ⊎ IsOther rows key
 each-carried rows [] [] key each c = absurd (none key c)
 each-carried rows [] (k ∷ keys) key each c = absurd each

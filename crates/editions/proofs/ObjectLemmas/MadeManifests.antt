@@ -1,10 +1,11 @@
 -- What is made is as an edition wants it: each manifest lists what stands under its key.
-use Rattle.std.proofs.Common.{◌≡◌, ◌≢◌, ℕ, Bool, true, false, cond, Option, None, Some, List, [], ◌∷◌, ◌++◌, map, get_or, refl, sym, ap, subst, ◌∙◌, inl, inr}
+use Rattle.std.proofs.Common.{◌≡◌, ◌≢◌, ℕ, Bool, true, false, not, cond, Option, None, Some, List, [], ◌∷◌, ◌++◌, map, get_or, refl, sym, ap, subst, ◌∙◌, inl, inr}
 use Rattle.std.specs.Prelude.{All, Contains, IsPermutation, filter, option_map, option_and_then}
 use Rattle.std.specs.List.{filter_map, cons_option}
-use Rattle.std.proofs.lemmas.Bool.{false≢true}
+use Rattle.std.proofs.lemmas.Bool.{false≢true, not-true}
+use Rattle.std.proofs.lemmas.Option.{same_Some}
 use Rattle.std.proofs.lemmas.List.Elements.{All-contains, Contains-get_or, Contains-append_left, Contains-append_right, Contains-append_cases}
-use Rattle.std.proofs.lemmas.List.Sorted.{IsPermutation-sym, IsPermutation-trans, Contains-permutation}
+use Rattle.std.proofs.lemmas.List.Sorted.{IsPermutation-sym, IsPermutation-trans, IsPermutation-append_right, Contains-permutation}
 use Rattle.sha2.specs.Sha256.{sha256}
 use Rattle.der.specs.Part.{IsInput}
 use Rattle.key_roll.specs.declared.rows.KeyRow.{KeyRow}
@@ -18,10 +19,13 @@ use Rattle.rp_rules.specs.Certificates.{Vouched}
 use Rattle.issue_values.specs.Publishers.{Publishing}
 use Rattle.issue_values.specs.Certificates as values
 use Rattle.issue_values.specs.Bodies.{manifest_value_of}
-use Rattle.issue_plan.specs.Wanted.{PlanInput}
+use Rattle.key_ids.specs.Uris.{manifest_uri}
+use Rattle.issue_plan.specs.Keys.{kept as kept_key}
+use Rattle.issue_plan.specs.Wanted.{PlanInput, point_of}
+use Rattle.issue_keys.specs.Keys.{id_of}
 use Rattle.issue_drafts.specs.WorkKeys.{Keys, key_named}
 use Rattle.issue_drafts.specs.IssueInput.{IssueInput}
-use Rattle.issue_drafts.specs.Publishers.{publishing_of, made_uri}
+use Rattle.issue_drafts.specs.Publishers.{publishing_of, made_uri, name_at}
 use Rattle.issue_drafts.specs.Drafts.{Draft, Kind, serial_behind, drafts, manifests, certificate_draft, roa_draft, crl_draft, manifest_draft, is_manifest}
 use Rattle.issue_drafts.specs.Drafts.Kind.{Certificate, Roa, Crl, Manifest}
 use Rattle.issue_sign.specs.Objects.{Signed, manifest_certificate, manifest_content, manifest_bytes, number_of, attributes}
@@ -29,14 +33,16 @@ use Rattle.issue_sign.specs.Calls.{content_calls, last_calls, by_once, by_issuer
 use Rattle.cert_obj.specs.Formats as certificates
 use Rattle.issue_drafts.specs.Files.{AreMerged, kept_files, made_files, made_file, folder_at, is_made_under, name_in}
 use Rattle.issue_make.specs.Trace.{IssuingTrace, IsIssuingTrace, all_of, made_of, hashed, puts_of, final_bytes, IsSpelled}
-use Rattle.editions.specs.Wanted.{there, whole, new_objects}
+use Rattle.editions.specs.Wanted.{there, whole, anew, new_points, new_objects, keeps_point}
 use Rattle.editions.specs.Objects.{Issuance, IsObject, AreFiles, file_of}
 use Rattle.editions.specs.inner.PlanAndTable.{made_from, AreOfPlan}
 use Rattle.editions.specs.VouchedCalls.{IsVouchedBy}
 use Rattle.editions.specs.inner.Vouched.{AreVouched}
-use Rattle.items.specs.laws.ElementLaws.{here, into-map, from-filter_map}
+use Rattle.items.specs.laws.ElementLaws.{here, into-map, from-map, from-filter, from-filter_map}
 use Rattle.items.specs.laws.ElementLaws.{there as there-of}
 use Rattle.editions.proofs.ObjectLemmas.Reading.{manifest-back}
+use Rattle.editions.proofs.ObjectLemmas.Named.{mapped-draft, self-named}
+use Rattle.editions.proofs.ObjectLemmas.Views.{apart-same}
 use Rattle.editions.proofs.ObjectLemmas.Permuted.{File, files-moved, passed-on}
 use Rattle.editions.proofs.ObjectLemmas.MadeObjects.{s, w, all, m, all-same, published, bytes-are, objects-made}
 
@@ -136,22 +142,29 @@ files-of p f g h own (x ∷ xs) each =
 
 module _ (vouched : Vouched) (plan_input : PlanInput) (work : Work) (trace : IssuingTrace)
     (old new : Contents) (plan : AreOfPlan plan_input work trace.keys)
+    (homes : (row : KeyRow) → publishing_of (made_from plan_input work) trace.keys row
+    ≡ publishing_of (whole plan_input plan.keys) (there plan.keys) row)
     (is_trace : IsIssuingTrace (made_from plan_input work) plan_input.basis.rows trace)
-    (none : (key : KeyRow) → kept_files (made_from plan_input work)
-    (puts_of (made_from plan_input work) trace) key ≡ [])
+    (kept : (key : KeyRow) → Contains plan.keys key → keeps_point plan_input plan.keys key ≡ false
+    → IsPermutation
+    (filter_map (file_of new (folder_at (whole plan_input plan.keys) key))
+    (filter (is_made_under (whole plan_input plan.keys) key) (drafts (whole plan_input plan.keys) (there plan.keys))))
+    (kept_files (made_from plan_input work) (puts_of (made_from plan_input work) trace) key
+    ++ filter_map (file_of new (folder_at (whole plan_input plan.keys) key))
+    (filter (is_made_under (whole plan_input plan.keys) key) (new_objects plan_input plan.keys))))
     (stand : All (λ x. new x.draft.uri
     ≡ Some (final_bytes (made_from plan_input work) trace x x.draft.kind)) trace.objects) where
   abbrev set : IssueInput
-  set = s vouched plan_input work trace old new plan
+  set = s vouched plan_input work trace old new plan homes
 
   abbrev wanted : IssueInput
-  wanted = w vouched plan_input work trace old new plan
+  wanted = w vouched plan_input work trace old new plan homes
 
   abbrev making : Issuance
-  making = m vouched plan_input work trace old new plan
+  making = m vouched plan_input work trace old new plan homes
 
   abbrev every : List Draft
-  every = all vouched plan_input work trace old new plan
+  every = all vouched plan_input work trace old new plan homes
 
   -- ---- what an object is
 
@@ -182,7 +195,7 @@ module _ (vouched : Vouched) (plan_input : PlanInput) (work : Work) (trace : Iss
   stands-file key x c =
       let held = All-contains (λ (y : Signed). new y.draft.uri
       ≡ Some (final_bytes set trace y y.draft.kind)) trace.objects x stand c in
-      let bytes = bytes-are vouched plan_input work trace old new plan x x.draft.kind refl
+      let bytes = bytes-are vouched plan_input work trace old new plan homes x x.draft.kind refl
       (no-manifest x.draft.kind (object-kind x c)) in
       let of : List ℕ → File = λ b. (name_in (folder_at set key) x.draft.uri, sha256 b) in
       ap (option_map of) held ∙ ap (λ (b : List ℕ). Some (of b)) bytes
@@ -195,31 +208,41 @@ module _ (vouched : Vouched) (plan_input : PlanInput) (work : Work) (trace : Iss
       files-of (is_made_under wanted key) (file_of new (folder_at wanted key)) (hashed set trace)
       (made_file (folder_at set key)) (λ x. refl) trace.objects (stands-file key)
 
-  are-files : (key : KeyRow) (files : List File)
-      → AreMerged (kept_files set (puts_of set trace) key)
-      (made_files set key (map (hashed set trace) trace.objects)) files
-      → AreFiles making key files
-  are-files key files merged =
+  -- What is new of it, among all that is new.
+  new-files : (key : KeyRow)
+      → IsPermutation (filter_map (file_of new (folder_at wanted key))
+      (filter (is_made_under wanted key) (new_objects plan_input plan.keys)))
+      (made_files set key (map (hashed set trace) trace.objects))
+  new-files key =
       let f : Draft → Option File = λ d.
       cond (is_made_under wanted key d) (file_of new (folder_at wanted key) d) None in
       let moved : IsPermutation (filter_map f every)
       (filter_map f (map (λ (x : Signed). x.draft) trace.objects)) =
       files-moved f every (map (λ (x : Signed). x.draft) trace.objects)
       is_trace.objects.permutation in
-      let whole : IsPermutation (made_files set key (map (hashed set trace) trace.objects)) files =
-      subst (λ (l : List File). IsPermutation
-      (l ++ made_files set key (map (hashed set trace) trace.objects)) files) (none key)
-      merged.permutation in
       let first : filter_map (file_of new (folder_at wanted key))
-      (filter (is_made_under wanted key) (drafts wanted (there plan.keys))) ≡ filter_map f every =
-      passed-on (is_made_under wanted key) (file_of new (folder_at wanted key))
-      (drafts wanted (there plan.keys))
+      (filter (is_made_under wanted key) (new_objects plan_input plan.keys)) ≡ filter_map f every =
+      passed-on (is_made_under wanted key) (file_of new (folder_at wanted key)) (new_objects plan_input plan.keys)
       ∙ ap (filter_map f) (sym plan.drafts) in
+      subst (λ (l : List File). IsPermutation l (made_files set key (map (hashed set trace) trace.objects))) (sym first)
+      (subst (IsPermutation (filter_map f every)) (files-same key) moved)
+
+  are-files : (key : KeyRow) (files : List File) → Contains plan.keys key
+      → keeps_point plan_input plan.keys key ≡ false
+      → AreMerged (kept_files set (puts_of set trace) key)
+      (made_files set key (map (hashed set trace) trace.objects)) files
+      → AreFiles making key files
+  are-files key files live isnt merged =
+      let all : List File = filter_map (file_of new (folder_at wanted key))
+      (filter (is_made_under wanted key) (drafts wanted (there plan.keys))) in
+      let of_new : List File = filter_map (file_of new (folder_at wanted key))
+      (filter (is_made_under wanted key) (new_objects plan_input plan.keys)) in
+      let old_ones : List File = kept_files set (puts_of set trace) key in
+      let made : List File = made_files set key (map (hashed set trace) trace.objects) in
       record {
-        all = subst (λ (l : List File). IsPermutation l files) (sym first)
-            (IsPermutation-trans (filter_map f every)
-            (made_files set key (map (hashed set trace) trace.objects)) files
-            (subst (IsPermutation (filter_map f every)) (files-same key) moved) whole);
+        all = IsPermutation-trans all (old_ones ++ of_new) files (kept key live isnt)
+            (IsPermutation-trans (old_ones ++ of_new) (old_ones ++ made) files
+            (IsPermutation-append_right old_ones of_new made (new-files key)) merged.permutation);
         rising = merged.rising;
       }
 
@@ -234,10 +257,10 @@ module _ (vouched : Vouched) (plan_input : PlanInput) (work : Work) (trace : Iss
       ap (λ (n : ℕ). of n (publishing_of set trace.keys d.issuer) (serial_behind every d.issuer))
       plan.moment
       ∙ (ap (λ (p : Publishing). of plan_input.basis.moment p (serial_behind every d.issuer))
-      (published vouched plan_input work trace old new plan d.issuer)
+      (published vouched plan_input work trace old new plan homes d.issuer)
       ∙ ap (λ (l : List Draft). of plan_input.basis.moment
       (publishing_of wanted (there plan.keys) d.issuer) (serial_behind l d.issuer))
-      (all-same vouched plan_input work trace old new plan))
+      (all-same vouched plan_input work trace old new plan homes))
 
   -- ---- the object
 
@@ -253,6 +276,37 @@ module _ (vouched : Vouched) (plan_input : PlanInput) (work : Work) (trace : Iss
   abbrev bytes-as : Signed → List ℕ
   bytes-as x = manifest_bytes set trace.keys every trace.files x
 
+  -- The key of a manifest that is made: its point doesn't fit.
+  listed-key : (x : Signed) → Contains trace.listed x
+      → Contains plan.keys x.draft.issuer × (keeps_point plan_input plan.keys x.draft.issuer ≡ false)
+  listed-key x c =
+      let a : IssueInput = anew plan_input plan.keys in
+      let ks : Keys = there plan.keys in
+      let inside : Contains (manifests a ks) x.draft =
+      subst (λ (l : List Draft). Contains l x.draft) plan.manifests
+      (Contains-permutation (map (λ (y : Signed). y.draft) trace.listed) (manifests set trace.keys) x.draft
+      (IsPermutation-sym (manifests set trace.keys) (map (λ (y : Signed). y.draft) trace.listed)
+      is_trace.listed.permutation)
+      (into-map (λ (y : Signed). y.draft) trace.listed x c)) in
+      let point = from-filter_map (manifest_draft a ks) (new_points plan_input plan.keys) x.draft inside in
+      let key = from-map (λ (k : KeyRow). point_of (kept_key k))
+      (filter (λ (k : KeyRow). not (keeps_point plan_input plan.keys k)) plan.keys) point.0 point.1 in
+      let passes = from-filter (λ (k : KeyRow). not (keeps_point plan_input plan.keys k)) plan.keys key.0 key.1 in
+      let parts = mapped-draft (λ issuer. record {
+        uri = manifest_uri a.site (name_at a.names issuer.desk) (id_of issuer);
+        issuer = issuer;
+        kind = Manifest;
+      }) (key_named ks (kept_key key.0).name) x.draft
+      (ap (manifest_draft a ks) key.2 ∙ point.2) in
+      let named = self-named plan.keys key.0 passes.0 in
+      let own : named.0 ≡ key.0 = apart-same plan.keys named.0 key.0 plan.next.apart named.2 passes.0 named.3 in
+      let is : parts.0 ≡ key.0 = same_Some parts.0 named.0 (sym parts.1 ∙ named.1) ∙ own in
+      let issuer : key.0 ≡ x.draft.issuer = sym is ∙ ap (λ (d : Draft). d.issuer) parts.2 in (
+        subst (Contains plan.keys) issuer passes.0,
+        subst (λ (k : KeyRow). keeps_point plan_input plan.keys k ≡ false) issuer
+            (not-true (keeps_point plan_input plan.keys key.0) passes.1),
+      )
+
   manifest-by : (x : Signed) → Contains trace.listed x → IsInput (bytes-as x)
       → IsSpelled set trace x.draft Manifest x.answers
       → IsVouchedBy vouched (content-call x) → IsVouchedBy vouched (last-call x)
@@ -265,7 +319,7 @@ module _ (vouched : Vouched) (plan_input : PlanInput) (work : Work) (trace : Iss
         read = manifest-back (manifest_value_of work.moment (number_of key) (trace.files key)) cert
             x.answers.last x.answers.once x.answers.content refl input spelled.1 spelled.0;
         files = trace.files key;
-        listed = are-files key (trace.files key)
+        listed = are-files key (trace.files key) (listed-key x c).0 (listed-key x c).1
             (All-contains (λ (y : Signed). AreMerged
             (kept_files set (puts_of set trace) y.draft.issuer)
             (made_files set y.draft.issuer (map (hashed set trace) trace.objects))
@@ -322,7 +376,7 @@ module _ (vouched : Vouched) (plan_input : PlanInput) (work : Work) (trace : Iss
     one-object x c =
         All-contains (λ (y : Signed). y.draft.kind ≢ Manifest
         → IsObject making y.draft y.draft.kind (final_bytes set trace y y.draft.kind)) trace.objects
-        x (objects-made vouched plan_input work trace old new plan (front (λ y.
+        x (objects-made vouched plan_input work trace old new plan homes (front (λ y.
         IsInput (final_bytes set trace y y.draft.kind)) inputs) (front (λ y.
         IsSpelled set trace y.draft y.draft.kind y.answers) spelled) are) c
         (no-manifest x.draft.kind (object-kind x c))

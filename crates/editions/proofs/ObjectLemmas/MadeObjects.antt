@@ -1,11 +1,10 @@
 -- The certificates, ROAs and CRLs that are made are those of an edition.
-use Rattle.std.proofs.Common.{◌≡◌, ◌≢◌, ℕ, ◌==◌, cond, Option, Some, List, get_or, refl, sym, ap, subst, ◌∙◌}
+use Rattle.std.proofs.Common.{◌≡◌, ◌≢◌, ℕ, cond, Option, Some, List, get_or, refl, sym, ap, subst, ◌∙◌}
 use Rattle.std.specs.Prelude.{All, Contains}
 use Rattle.std.proofs.lemmas.List.Elements.{All-contains, Contains-get_or}
 use Rattle.der.specs.Part.{IsInput}
 use Rattle.origins.specs.declared.Origin.{Origin}
 use Rattle.res_sets.specs.declared.holdings.Resources.{Resources}
-use Rattle.key_ids.specs.Uris.{anchor_uri}
 use Rattle.key_roll.specs.declared.rows.KeyRow.{KeyRow}
 use Rattle.key_roll.specs.declared.work.Work.{Work}
 use Rattle.cert_obj.specs.Values.{CertValue}
@@ -13,14 +12,13 @@ use Rattle.crl_obj.specs.Values.{CrlValue}
 use Rattle.pub_set.specs.Changes.{Contents}
 use Rattle.signer_ring.specs.Calls.{Call}
 use Rattle.rp_rules.specs.Certificates.{Vouched}
-use Rattle.entitle.specs.Certified.{names_of}
 use Rattle.issue_values.specs.Publishers.{Publishing}
 use Rattle.issue_values.specs.Certificates as values
 use Rattle.issue_values.specs.Bodies.{roa_of, crl_value_of}
 use Rattle.issue_plan.specs.Wanted.{PlanInput}
 use Rattle.issue_keys.specs.Keys.{id_of}
 use Rattle.issue_drafts.specs.IssueInput.{IssueInput}
-use Rattle.issue_drafts.specs.Publishers.{is_key, name_at, first_of, standing_for, publishing_of}
+use Rattle.issue_drafts.specs.Publishers.{is_key, publishing_of}
 use Rattle.issue_drafts.specs.Drafts.{Draft, Kind, serial_at}
 use Rattle.issue_drafts.specs.Drafts.Kind.{Certificate, Roa, Crl, Manifest}
 use Rattle.issue_sign.specs.Objects.{Signed, bytes_by, certificate, roa_certificate, crl_of, number_of}
@@ -32,11 +30,12 @@ use Rattle.editions.specs.inner.PlanAndTable.{made_from, AreOfPlan}
 use Rattle.editions.specs.VouchedCalls.{IsVouchedBy}
 use Rattle.editions.specs.inner.Vouched.{AreVouched}
 use Rattle.items.specs.laws.ElementLaws.{into-map, into-filter_map}
-use Rattle.editions.proofs.ObjectLemmas.Standing.{all-new}
 use Rattle.editions.proofs.ObjectLemmas.Reading.{signed_as, listed_as, certificate-back, crl-back, roa-back}
 
 module _ (vouched : Vouched) (plan_input : PlanInput) (work : Work) (trace : IssuingTrace)
-    (old new : Contents) (plan : AreOfPlan plan_input work trace.keys) where
+    (old new : Contents) (plan : AreOfPlan plan_input work trace.keys)
+    (homes : (row : KeyRow) → publishing_of (made_from plan_input work) trace.keys row
+    ≡ publishing_of (whole plan_input plan.keys) (there plan.keys) row) where
   abbrev pub s : IssueInput
   s = made_from plan_input work
 
@@ -57,19 +56,11 @@ module _ (vouched : Vouched) (plan_input : PlanInput) (work : Work) (trace : Iss
   }
 
   pub all-same : all ≡ new_objects plan_input plan.keys
-  all-same = plan.drafts ∙ sym (all-new plan_input plan.keys)
+  all-same = plan.drafts
 
   pub published : (row : KeyRow)
       → publishing_of s trace.keys row ≡ publishing_of w (there plan.keys) row
-  published row =
-      let of : Option (List ℕ) → Publishing = λ o. record {
-        key = row.key.bytes;
-        id = id_of row;
-        name = name_at (names_of plan_input.basis.configs) row.desk;
-        certificate = cond (row.desk == 0) (anchor_uri plan_input.site)
-            (first_of o (standing_for plan_input.issued row) (anchor_uri plan_input.site));
-      } in
-      ap of (plan.published row)
+  published = homes
 
   -- ---- values
 

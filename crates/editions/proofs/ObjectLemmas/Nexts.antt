@@ -1,5 +1,5 @@
 -- The next keys: by desk and role, no two of one name, each live one from a row of before.
-use Rattle.std.proofs.Common.{◌≡◌, ◌≢◌, ℕ, zero, suc, ◌+◌, ◌<◌, ◌==◌, ◌&&◌, Bool, true, false, cond, Option, Some, None, List, [], ◌∷◌, length, refl, sym, ap, subst, ◌∙◌, arith, ◌⊎◌, inl, inr}
+use Rattle.std.proofs.Common.{◌≡◌, ◌≢◌, ℕ, zero, suc, ◌+◌, ◌<◌, ◌==◌, ◌&&◌, Bool, true, false, cond, Option, Some, None, List, [], length, refl, sym, ap, subst, ◌∙◌, arith, ◌⊎◌, inl, inr}
 use Rattle.std.specs.Prelude.{AllPairs, Contains, slice_get}
 use Rattle.std.proofs.lemmas.Bool.{and_parts, eqb-true, false≢true}
 use Rattle.key_ids.specs.declared.identifier.KeyId.{KeyId}
@@ -18,7 +18,7 @@ use Rattle.issue_keys.specs.Keys.{id_of}
 use Rattle.issue_make.specs.Trace.{rank}
 use Rattle.issue_plan.specs.declared.keys.NextKey.{NextKey}
 use Rattle.issue_plan.specs.declared.keys.Asked.{Asked}
-use Rattle.issue_plan.specs.Keys.{Basis, row_of, kept, turned, made, keys_at_end, keys_after, holds_nothing, asked_at, keys_of, keys_at, keys_of_first, next_keys}
+use Rattle.issue_plan.specs.Keys.{Basis, row_of, kept, turned, keys_at_end, keys_after, holds_nothing, asked_at, keys_of, keys_at, keys_of_first, next_keys}
 use Rattle.key_roll.specs.Roles.{is_role}
 use Rattle.items.specs.laws.ElementLaws.{found-in}
 use Rattle.items.specs.laws.PairLaws.{Each, Twos, each-at, each-append, each-weaker, twos-append}

@@ -1,10 +1,13 @@
 -- What the rows of the live keys and the table note of certificates is what the editions before tell.
-use Rattle.std.proofs.Common.{◌≡◌, ◌≢◌, ℕ, ◌<◌, ◌≤◌, Bool, true, false, nat_le, Option, Some, List, [], ◌∷◌, ◌++◌, length, take, map, filter, refl, sym, ap, subst, ◌∙◌, arith, ◌⊎◌, inl, inr}
+use Rattle.std.proofs.Common.{◌≡◌, ◌≢◌, ℕ, suc, ◌+◌, ◌<◌, ◌≤◌, Bool, true, false, cond, nat_le, Option, None, Some, List, [], ◌∷◌, ◌++◌, length, take, map, filter, refl, sym, ap, subst, ◌∙◌, arith, ◌⊎◌, inl, inr}
 use Rattle.std.specs.Prelude.{Contains, is_some}
 use Rattle.std.specs.List.{slice_get}
-use Rattle.std.proofs.lemmas.Bool.{cases_eq, cases_lt, leb-true, le-leb, true≢false}
+use Rattle.std.proofs.lemmas.Bool.{cases_lt, leb-true, le-leb, true≢false}
 use Rattle.std.proofs.lemmas.Option.{same_Some, none-some, slice_get_within}
-use Rattle.std.proofs.lemmas.List.{length-take-le}
+use Rattle.std.specs.Str.{bytes_eq}
+use Rattle.std.proofs.lemmas.Slice.Eq.{bytes_eq-Decides}
+use Rattle.std.proofs.lemmas.List.{length-take-le, length-append, take-take}
+use Rattle.sha2.specs.Sha256.{sha256}
 use Rattle.std.proofs.lemmas.List.Elements.{All-contains, Contains-append_left, Contains-append_right, Contains-append_cases}
 use Rattle.key_roll.specs.declared.rows.KeyRow.{KeyRow}
 use Rattle.key_roll.specs.declared.rows.RevokedRow.{RevokedRow}
@@ -12,6 +15,8 @@ use Rattle.key_roll.specs.declared.issued.IssuedRow.{IssuedRow}
 use Rattle.key_ids.specs.Uris.{anchor_uri}
 use Rattle.cert_obj.specs.Values.{SignedCert}
 use Rattle.crl_obj.specs.Values.{CrlValue, SignedCrl}
+use Rattle.rp_rules.specs.Objects.{is_anchors}
+use Rattle.pub_set.specs.declared.steps.Change.TheVariants.{Put}
 use Rattle.pub_set.specs.Changes.{Contents, change_at, difference}
 use Rattle.issue_keys.specs.Keys.{id_of}
 use Rattle.issue_drafts.specs.Revoking.{revoked_row}
@@ -20,15 +25,18 @@ use Rattle.editions.specs.Edition.{Edition, state_after, set_after, is_live_in, 
 use Rattle.editions.specs.Held.{HasCertificate, IsHeld, Holds}
 use Rattle.editions.specs.Superseded.{IsCrlOf, IsSuperseded, IsEntryOf, AreSuperseded}
 use Rattle.editions.specs.Table.{IsTable}
-use Rattle.editions.specs.Objects.{Issuance, moment_of}
+use Rattle.editions.specs.Wanted.{keeps_point}
+use Rattle.editions.specs.Objects.{Issuance}
 use Rattle.editions.specs.Step.{Premises, AreSteps, counted}
 use Rattle.editions.specs.inner.ByRows.{is_ended, with_ended, candidates, AreListed}
 use Rattle.items.specs.laws.ElementLaws.{none, from-map, into-map, from-filter, into-filter}
 use Rattle.editions.proofs.ObjectLemmas.Firsts.{is-row, has-entry}
-use Rattle.editions.proofs.ObjectLemmas.Given.{IsGiven, given, serial-from}
+use Rattle.editions.proofs.ObjectLemmas.Given.{serial-from}
 use Rattle.editions.proofs.ObjectLemmas.Numbers.{listing, HasListing, has-listing}
-use Rattle.editions.proofs.ObjectLemmas.Views.{IsView, HasView, HasCome, IsMadeNew, live-row, row-live, came, row-key, key-row, held-from, carried}
-use Rattle.editions.proofs.ObjectLemmas.History.{take-next, rows-after, shorter, seen, positive, below, under, own}
+use Rattle.editions.proofs.ObjectLemmas.Views.{IsView, HasView, HasCome, IsMadeNew, live-row, row-live, came, row-key, key-row, id-counted, id-next, same-key, given-or-old, given-from, carried}
+use Rattle.editions.proofs.ObjectLemmas.History.{there-is, take-next, rows-after, shorter, joined, seen, positive, live-at, below, own, Stands, held-stands, IsGivenAt, given-at, one-uri, stays-there}
+use Rattle.editions.proofs.ObjectLemmas.Pointed.{HasPut, has-put}
+use Rattle.editions.proofs.StepLemmas.Until.{superseded_until}
 use Rattle.editions.proofs.ObjectLemmas.Tables.{Tells, told, dated, Ends, ends, is-ended, is-touched}
 use Rattle.editions.proofs.ObjectLemmas.Crls.{HadCrl, had-crl}
 use Rattle.editions.proofs.ObjectLemmas.Lasts.{HasLast, last-of, get-append, take-count, get-last, holds-now, holds-then, holds-more, holds-less, life-on, life-before}
@@ -57,12 +65,15 @@ module _ (premises : Premises) (editions : List Edition) (edition : Edition) (m 
   lives : (key : KeyRow) → Contains m.keys key → is_live_in (id_of key) edition ≡ true
   lives key among =
       row-live (id_of key) edition (counted m.plan_input m.keys m.entries key)
-      (key-row premises editions edition m view key among) refl
+      (key-row premises editions edition m view key among) (id-counted premises editions edition m view key)
 
-  firsts : (key : KeyRow) → Contains m.keys key → AreFirsts (rows_for key) (m.entries key)
-  firsts key among =
-      All-contains (λ (k : KeyRow). false ≡ false → AreFirsts (rows_for k) (m.entries k)) m.keys key
-      listed among refl
+  abbrev IsFresh : KeyRow → Type 0
+  IsFresh key = keeps_point m.plan_input m.keys key ≡ false
+
+  firsts : (key : KeyRow) → Contains m.keys key → IsFresh key → AreFirsts (rows_for key) (m.entries key)
+  firsts key among fresh =
+      All-contains (λ (k : KeyRow). IsFresh k → AreFirsts (rows_for k) (m.entries k)) m.keys key
+      listed among fresh
 
   -- ---- a row that is listed
 
@@ -130,60 +141,110 @@ module _ (premises : Premises) (editions : List Edition) (edition : Edition) (m 
     abbrev seen_last : HasView premises (take last.position editions) last.edition
     seen_last = seen premises editions steps last.position last.edition last.there
 
-    abbrev was : Issuance
-    was = seen_last.m
-
-    whole : take last.position editions ++ last.edition ∷ [] ≡ editions
-    whole = sym (take-next editions last.position last.edition last.there) ∙ last.whole
-
     rows-last : (state_after editions).rows ≡ last.edition.rows
     rows-last =
         ap (λ (l : List Edition). (state_after l).rows) (sym last.whole)
         ∙ rows-after editions last.position last.edition last.there
 
-    set-last : was.new ≡ set_after editions
-    set-last = seen_last.view.new ∙ ap (λ (l : List Edition). set_after l) whole
+    stands-last : (uri bytes : List ℕ) → set_after editions uri ≡ Some bytes
+        → Stands premises editions steps last.position uri bytes
+    stands-last uri bytes there =
+        let next : suc last.position ≡ last.position + 1 = omega arith in
+        ap (λ (n : ℕ). set_after (take n editions) uri) next
+        ∙ (ap (λ (l : List Edition). set_after l uri) last.whole ∙ there)
 
-    to-last : (id : List ℕ) (c : SignedCert) → IsHeld (set_after editions) id c
-        → IsHeld (set_after (take last.position editions ++ last.edition ∷ [])) id c
-    to-last id c held = subst (λ (l : List Edition). IsHeld (set_after l) id c) (sym whole) held
+    last-set : set_after (take (suc last.position) editions) ≡ set_after editions
+    last-set =
+        let next : suc last.position ≡ last.position + 1 = omega arith in
+        ap (λ (n : ℕ). set_after (take n editions)) next ∙ ap (λ (l : List Edition). set_after l) last.whole
+
+    last-within : last.position < length editions
+    last-within = let next = last.next in omega (arith, next)
 
     holds-last : (id : List ℕ) (c : SignedCert) → IsHeld (set_after editions) id c
         → Holds editions last.position id c
     holds-last id c held =
         subst (λ (l : List Edition). IsHeld (set_after l) id c) (sym last.whole) held
 
+    one-held : (id : List ℕ) (c : SignedCert) (one other : IsHeld (set_after editions) id c) → one.uri ≡ other.uri
+    one-held id c =
+        subst (λ (l : List Edition). (one other : IsHeld (set_after l) id c) → one.uri ≡ other.uri) last.whole
+        (one-uri premises editions steps last.position id c last-within)
+
     held-by : (id : List ℕ) (c : SignedCert) → Holds editions last.position id c
         → IsHeld (set_after editions) id c
     held-by id c held = subst (λ (l : List Edition). IsHeld (set_after l) id c) last.whole held
 
+    -- What gave a certificate that stands.
     given-last : (uri bytes : List ℕ) (c : SignedCert) → set_after editions uri ≡ Some bytes
-        → HasCertificate bytes c → IsGiven was uri c
+        → HasCertificate bytes c → IsGivenAt premises editions steps last.position uri bytes c
     given-last uri bytes c there has =
-        given was seen_last.view.set uri bytes c
-        (ap (λ (set : Contents). set uri) set-last ∙ there) has
+        given-at premises editions steps last.position uri bytes c (stands-last uri bytes there) has
 
-    same-site : was.plan_input.site ≡ m.plan_input.site
-    same-site = seen_last.view.site ∙ sym view.site
+    at-site : (position : ℕ) (e : Edition) (there : slice_get editions position ≡ Some e)
+        → (seen premises editions steps position e there).m.plan_input.site ≡ m.plan_input.site
+    at-site position e there = (seen premises editions steps position e there).view.site ∙ sym view.site
 
-    -- What the key issued in its life until the last edition isn't held any longer.
-    not-held : (key : KeyRow) → Contains m.keys key → (c : SignedCert) (from : ℕ)
+    -- It isn't the trust anchor's own just where it doesn't stand at that one's place.
+    anchor-by : (uri bytes : List ℕ) (c : SignedCert) → set_after editions uri ≡ Some bytes → HasCertificate bytes c
+        → (uri ≡ anchor_uri m.plan_input.site → is_anchors c ≡ true)
+        × (uri ≢ anchor_uri m.plan_input.site → is_anchors c ≡ false)
+    anchor-by uri bytes c there has =
+        let g = given-last uri bytes c there has in
+        let least = g.least in
+        let e = there-is editions g.position (omega (arith, least, last-within)) in
+        let giving = g.given e.0 e.1 in
+        let site = at-site g.position e.0 e.1 in (
+          λ same. giving.anchor (same ∙ sym (ap anchor_uri site)),
+          λ other. giving.other (λ same. other (same ∙ ap anchor_uri site)),
+        )
+
+    -- Its serial is at least 1.
+    serial-some : (uri bytes : List ℕ) (c : SignedCert) → set_after editions uri ≡ Some bytes → HasCertificate bytes c
+        → 1 ≤ c.cert.serial
+    serial-some uri bytes c there has =
+        let g = given-last uri bytes c there has in
+        let least = g.least in
+        let e = there-is editions g.position (omega (arith, least, last-within)) in
+        let giving = g.given e.0 e.1 in
+        let from = serial-from (seen premises editions steps g.position e.0 e.1).m uri giving.issuer c.cert.serial
+        giving.serial in
+        let some = positive premises editions steps g.position e.0 e.1 giving.issuer giving.live in
+        omega (arith, from, some)
+
+    -- What the key issued in its life until the last edition stood after that, if it is held.
+    still-held : (key : KeyRow) → Contains m.keys key → (c : SignedCert) (from : ℕ)
         → IsInLife (id_of key) editions from last.position → Holds editions from (id_of key) c
-        → IsHeld (set_after more) (id_of key) c → ⊥
-    not-held key among c from life held now =
+        → (now : IsHeld (set_after more) (id_of key) c) → set_after editions now.uri ≡ Some now.bytes
+    still-held key among c from life held now =
         let id : List ℕ = id_of key in
-        let live = live-row id last.edition
-        (life.unbroken last.position last.edition life.ordered (omega arith) last.there) in
-        let less = carried premises editions edition m view id c.cert.serial key among refl live.0
-        (subst (λ (l : List KeyRow). Contains l live.0) (sym rows-last) live.1) live.2
-        (λ r inside same. below premises editions steps last.position from id c life held last.edition
-        last.there r (subst (λ (l : List KeyRow). Contains l r) rows-last inside) same) in
-        let least = held-from premises editions edition m view id c key now among refl in
-        omega (arith, less, least)
+        elim (given-or-old premises editions edition m view now.uri now.bytes c now.there now.has) [
+          | inr old ↦ old.stood
+          | inl given ↦
+              let live = live-row id last.edition
+              (life.unbroken last.position last.edition life.ordered (omega arith) last.there) in
+              let less = carried premises editions edition m view id c.cert.serial key among refl live.0
+              (subst (λ (l : List KeyRow). Contains l live.0) (sym rows-last) live.1) live.2
+              (λ r inside same. below premises editions steps last.position from id c life held last.edition
+              last.there r (subst (λ (l : List KeyRow). Contains l r) rows-last inside) same) in
+              let least = given-from premises editions edition m view now.uri c key given among (sym now.issuer) in
+              absurd (omega (arith, less, least))
+        ]
+
+    held-still : (key : KeyRow) → Contains m.keys key → (c : SignedCert) (from : ℕ)
+        → IsInLife (id_of key) editions from last.position → Holds editions from (id_of key) c
+        → IsHeld (set_after more) (id_of key) c → Holds editions last.position (id_of key) c
+    held-still key among c from life held now = holds-last (id_of key) c (record {
+      uri = now.uri;
+      bytes = now.bytes;
+      there = still-held key among c from life held now;
+      has = now.has;
+      issuer = now.issuer;
+    })
 
     -- ---- a key that goes on
 
-    module _ (key : KeyRow) (among : Contains m.keys key)
+    module _ (key : KeyRow) (among : Contains m.keys key) (fresh : IsFresh key)
         (come : HasCome (state_after editions).rows key) where
       abbrev id : List ℕ
       id = id_of key
@@ -191,44 +252,64 @@ module _ (premises : Premises) (editions : List Edition) (edition : Edition) (m 
       kept : Contains last.edition.rows come.row
       kept = subst (λ (l : List KeyRow). Contains l come.row) rows-last come.live
 
-      -- The key in the last edition.
-      key_then : (k : KeyRow) × Contains was.keys k
-          × (counted was.plan_input was.keys was.entries k ≡ come.row)
-      key_then =
-          row-key premises (take last.position editions) last.edition was seen_last.view come.row kept
+      -- The edition that made its last CRL.
+      put : HasPut premises editions steps last.position id come.row
+      put = subst (λ (i : List ℕ). HasPut premises editions steps last.position i come.row) come.named
+          (has-put premises editions steps last.position last.edition last.there come.row kept)
 
-      named-then : id_of key_then.0 ≡ id
-      named-then = ap id_of key_then.2 ∙ come.named
+      abbrev put_view : HasView premises (take put.position editions) put.edition
+      put_view = seen premises editions steps put.position put.edition put.there
 
-      updated : moment_of was ≡ key.this_update
-      updated = ap (λ (k : KeyRow). k.this_update) key_then.2 ∙ sym come.this_update
+      updated : put.edition.moment ≡ key.this_update
+      updated = sym put.update ∙ sym come.this_update
 
-      noted : AreSuperseded editions last.position id key.revoked
+      put-within : put.position < length editions
+      put-within =
+          let least = put.least in
+          omega (arith, least, last-within)
+
+      noted : AreSuperseded editions put.position id key.revoked
       noted =
-          let next = last.next in
-          let at : length (take last.position editions) ≡ last.position =
-          length-take-le last.position editions (omega (arith, next)) in
-          let entries : was.entries key_then.0 ≡ key.revoked =
-          ap (λ (k : KeyRow). k.revoked) key_then.2 ∙ sym come.revoked in
-          let base : AreSuperseded (take last.position editions ++ last.edition ∷ [])
-          (length (take last.position editions)) (id_of key_then.0) (was.entries key_then.0) =
-          All-contains (λ (k : KeyRow). false ≡ false
-          → AreSuperseded (take last.position editions ++ last.edition ∷ [])
-          (length (take last.position editions)) (id_of k) (was.entries k)) was.keys key_then.0
-          seen_last.revoked key_then.1 refl in
-          subst (λ (l : List RevokedRow). AreSuperseded editions last.position id l) entries
-          (subst (λ (i : List ℕ). AreSuperseded editions last.position i (was.entries key_then.0)) named-then
-          (subst (λ (n : ℕ). AreSuperseded editions n (id_of key_then.0) (was.entries key_then.0)) at
-          (subst (λ (l : List Edition). AreSuperseded l (length (take last.position editions))
-          (id_of key_then.0) (was.entries key_then.0)) whole base)))
+          let until : length (take put.position editions) ≡ put.position =
+          length-take-le put.position editions (omega (arith, put-within)) in
+          let entries : put_view.m.entries put.key ≡ key.revoked = sym put.revoked ∙ sym come.revoked in
+          let front : List Edition = take put.position editions ++ put.edition ∷ [] in
+          let base : AreSuperseded front (length (take put.position editions)) (id_of put.key)
+          (put_view.m.entries put.key) =
+          All-contains (λ (k : KeyRow). keeps_point put_view.m.plan_input put_view.m.keys k ≡ false
+          → AreSuperseded front (length (take put.position editions))
+          (id_of k) (put_view.m.entries k)) put_view.m.keys put.key
+          put_view.revoked put.among put.fresh in
+          let here : AreSuperseded front put.position id key.revoked =
+          subst (λ (l : List RevokedRow). AreSuperseded front put.position id l) entries
+          (subst (λ (i : List ℕ). AreSuperseded front put.position i (put_view.m.entries put.key)) put.named
+          (subst (λ (n : ℕ). AreSuperseded front n (id_of put.key) (put_view.m.entries put.key)) until base)) in
+          let next : suc put.position ≡ put.position + 1 = omega arith in
+          let whole_front : take (put.position + 1) editions ≡ front =
+          take-next editions put.position put.edition put.there in
+          let long : length front ≡ length (take put.position editions) + 1 =
+          length-append (take put.position editions) (put.edition ∷ []) in
+          superseded_until front editions put.position (omega (arith, long, until)) put-within
+          (sym (ap (take (put.position + 1)) whole_front)
+          ∙ take-take-same put.position) id key.revoked here
+        where
+          take-take-same : (n : ℕ) → take (n + 1) (take (n + 1) editions) ≡ take (n + 1) editions
+          take-take-same n = take-take (n + 1) (n + 1) editions (omega arith)
 
-      crl : HasListing was key_then.0
-      crl = has-listing was seen_last.view.set key_then.0 key_then.1
+      key_last : (k : KeyRow) × Contains (seen_last).m.keys k
+          × (counted (seen_last).m.plan_input (seen_last).m.keys (seen_last).m.entries k ≡ come.row)
+      key_last = row-key premises (take last.position editions) last.edition (seen_last).m (seen_last).view come.row kept
+
+      crl : HasListing premises editions steps last.position (seen_last).m key_last.0
+      crl = has-listing premises editions steps last.position last.edition last.there key_last.0 key_last.1
 
       crl-stands : IsCrlOf (set_after editions) id crl.crl
       crl-stands =
-          subst (λ (set : Contents). IsCrlOf set id crl.crl) set-last
-          (subst (λ (i : List ℕ). IsCrlOf was.new i crl.crl) named-then crl.stands)
+          let named : id_of key_last.0 ≡ id =
+          id-next premises (take last.position editions) last.edition (seen_last).m (seen_last).view key_last.0 come.row
+          key_last.2 ∙ come.named in
+          subst (λ (set : Contents). IsCrlOf set id crl.crl) last-set
+          (subst (λ (i : List ℕ). IsCrlOf (set_after (take (suc last.position) editions)) i crl.crl) named crl.stands)
 
       crl-before : IsCrlOf (set_after (take count more)) id crl.crl
       crl-before =
@@ -239,11 +320,25 @@ module _ (premises : Premises) (editions : List Edition) (edition : Edition) (m 
       only-crl : (l : SignedCrl) → IsCrlOf (set_after (take count more)) id l
           → l.crl.this_update ≡ key.this_update
       only-crl l is =
-          let there : was.new is.uri ≡ Some is.bytes = ap (λ (set : Contents). set is.uri)
-          (set-last ∙ sym (ap (λ (e : List Edition). set_after e) (take-count editions edition)))
-          ∙ is.there in
-          let one = listing was seen_last.view.set is.uri is.bytes l there is.read in
-          ap (λ (v : CrlValue). v.this_update) one.says ∙ updated
+          let there : set_after editions is.uri ≡ Some is.bytes =
+          ap (λ (e : List Edition). set_after e is.uri) (sym (take-count editions edition)) ∙ is.there in
+          let one = listing premises editions steps last.position last.edition last.there is.uri is.bytes l
+          (stands-last is.uri is.bytes there) is.read in
+          let row : KeyRow = counted (seen_last).m.plan_input (seen_last).m.keys (seen_last).m.entries one.issuer in
+          let named : id_of one.issuer ≡ id =
+          sym (id-counted premises (take last.position editions) last.edition (seen_last).m (seen_last).view one.issuer)
+          ∙ (sym (ap (λ (v : CrlValue). v.issuer) one.says) ∙ is.issuer) in
+          let own : id_of key_last.0 ≡ id =
+          id-next premises (take last.position editions) last.edition (seen_last).m (seen_last).view key_last.0 come.row
+          key_last.2 ∙ come.named in
+          let same : one.issuer ≡ key_last.0 = same-key premises (take last.position editions) last.edition
+          (seen_last).m (seen_last).view one.issuer key_last.0 one.live key_last.1 (named ∙ sym own) in
+          ap (λ (v : CrlValue). v.this_update) one.says
+          ∙ (ap (λ (k : KeyRow). (counted (seen_last).m.plan_input (seen_last).m.keys (seen_last).m.entries k).this_update)
+          same ∙ (ap (λ (r : KeyRow). r.this_update) key_last.2 ∙ sym come.this_update))
+
+      put-life : (from : ℕ) → IsInLife id editions from put.position → IsInLife id editions from last.position
+      put-life from life = joined premises editions steps id from put.position last.position life put.life
 
       life-more : (from : ℕ) → IsInLife id editions from last.position → IsInLife id more from count
       life-more from life =
@@ -256,22 +351,25 @@ module _ (premises : Premises) (editions : List Edition) (edition : Edition) (m 
           holds-more editions edition id k c (omega (arith, next, inside)) held
 
       -- An entry of the last CRL that still counts.
-      old-entry : (entry : RevokedRow) (c : SignedCert) → IsEntryOf editions last.position id entry c
+      old-entry : (entry : RevokedRow) (c : SignedCert) → IsEntryOf editions put.position id entry c
           → key.this_update ≤ entry.not_after → IsEntryOf more count id entry c
       old-entry entry c is due =
           let s = is.superseded in
           let next = last.next in
           let before = s.before in
+          let least = put.least in
           let late = is.not_after in
           let moment : crl.crl.crl.this_update ≡ key.this_update = only-crl crl.crl crl-before in
+          let gone-last : ¬ Holds editions last.position id c = λ held. s.gone (put.stood c held) in
           let gone : ¬ Holds more count id c = λ held.
-          not-held key among c s.earlier s.life s.held (holds-now editions edition id c held) in
+          gone-last (held-still key among c s.earlier (put-life s.earlier s.life) s.held
+          (holds-now editions edition id c held)) in
           record {
             superseded = record {
               earlier = s.earlier;
-              before = omega (arith, before, next);
-              life = life-more s.earlier s.life;
-              held = more-held s.earlier c s.life.ordered s.held;
+              before = omega (arith, before, next, least);
+              life = life-more s.earlier (put-life s.earlier s.life);
+              held = more-held s.earlier c (omega (arith, before, least)) s.held;
               gone = gone;
               previous = crl.crl;
               listed = crl-before;
@@ -282,13 +380,17 @@ module _ (premises : Premises) (editions : List Edition) (edition : Edition) (m 
             when = record {
               last = is.when.last;
               next = is.when.next;
-              life = life-more is.when.last is.when.life;
-              held = more-held is.when.last c is.when.life.ordered is.when.held;
-              since = λ k least most held. elim (cases_lt k count) [
-                | inl inside ↦ is.when.since k least (omega (arith, inside, next))
-                    (holds-less editions edition id k c inside held)
+              life = life-more is.when.last (put-life is.when.last is.when.life);
+              held = let low = is.when.life.ordered in
+                  more-held is.when.last c (omega (arith, low, least)) is.when.held;
+              since = λ k low high held. elim (cases_lt k count) [
+                | inl inside ↦ elim (cases_lt put.position k) [
+                  | inr early ↦ is.when.since k low early (holds-less editions edition id k c inside held)
+                  | inl later ↦ gone-last (put.stays k (omega (arith, later)) (omega (arith, inside, next)) c
+                      (holds-less editions edition id k c inside held))
+                ]
                 | inr past ↦
-                    let here : k ≡ count = omega (arith, most, past) in
+                    let here : k ≡ count = omega (arith, high, past) in
                     gone (subst (λ (n : ℕ). Holds more n id c) here held)
               ];
             };
@@ -314,21 +416,47 @@ module _ (premises : Premises) (editions : List Edition) (edition : Edition) (m 
                 (row-live id last.edition come.row kept come.named);
           }
 
+      -- What stands as before isn't changed.
+      not-changed : (uri bytes : List ℕ) → set_after editions uri ≡ Some bytes → set_after more uri ≡ Some bytes
+          → is_some (change_at edition.changes uri) ≡ true → ⊥
+      not-changed uri bytes stood stands touched =
+          let none : change_at edition.changes uri ≡ None =
+          changes.each uri
+          ∙ (ap (λ (o : Option (List ℕ)). difference uri o (set_after more uri)) stood
+          ∙ (ap (difference uri (Some bytes)) stands
+          ∙ ap (λ (b : Bool). cond b None (Some (Put uri bytes (Some (sha256 bytes)))))
+          ((bytes_eq-Decides bytes bytes).1 refl))) in
+          true≢false (sym touched ∙ ap is_some none)
+
       -- An entry of a certificate that ends now.
       new-entry : (entry : RevokedRow) (is : IsOfEnded key entry)
           → key.this_update ≤ entry.not_after
           → IsEntryOf more count id entry (has-ended key is.row is.among is.is).tells.certificate
+      unfolding ended-held
       new-entry entry is due =
           let e = has-ended key is.row is.among is.is in
           let c : SignedCert = e.tells.certificate in
           let next = last.next in
           let held = holds-last id c (ended-held key is.row e) in
           let gone : ¬ Holds more count id c = λ now.
-          not-held key among c last.position life-last held (holds-now editions edition id c now) in
+          let at = holds-now editions edition id c now in
+          let stood = still-held key among c last.position life-last held at in
+          let then : IsHeld (set_after editions) id c = record {
+            uri = at.uri;
+            bytes = at.bytes;
+            there = stood;
+            has = at.has;
+            issuer = at.issuer;
+          } in
+          let uris : at.uri ≡ is.row.uri = one-held id c then (ended-held key is.row e) in
+          let bytes : at.bytes ≡ e.bytes = same_Some at.bytes e.bytes
+          (sym stood ∙ (ap (set_after editions) uris ∙ e.there)) in
+          let here : set_after more is.row.uri ≡ Some e.bytes =
+          ap (set_after more) (sym uris) ∙ (at.there ∙ ap (λ (b : List ℕ). Some b) bytes) in
+          not-changed is.row.uri e.bytes e.there here is.is.touched in
           let moment : crl.crl.crl.this_update ≡ key.this_update = only-crl crl.crl crl-before in
           let ended : entry.not_after ≡ c.cert.not_after =
           sym (ap (λ (r : RevokedRow). r.not_after) is.made) ∙ e.tells.dated.not_after in
-          let giving = given-last is.row.uri e.bytes c e.there e.tells.has in
           record {
             superseded = record {
               earlier = last.position;
@@ -339,7 +467,7 @@ module _ (premises : Premises) (editions : List Edition) (edition : Edition) (m 
               previous = crl.crl;
               listed = crl-before;
               due = omega (arith, moment, due, ended);
-              issued = giving.other (λ same. is.is.apart (same ∙ ap anchor_uri same-site));
+              issued = (anchor-by is.row.uri e.bytes c e.there e.tells.has).1 is.is.apart;
             };
             at = count;
             when = record {
@@ -362,7 +490,7 @@ module _ (premises : Premises) (editions : List Edition) (edition : Edition) (m 
           → (c : SignedCert) × IsEntryOf more count id entry c
       each entry c =
           let parts = candidate key entry
-          (is-row (rows_for key) (m.entries key) entry (firsts key among) c) in
+          (is-row (rows_for key) (m.entries key) entry (firsts key among fresh) c) in
           elim parts.1 [
             | inl old ↦
                 let was = noted.each entry old in
@@ -443,16 +571,13 @@ module _ (premises : Premises) (editions : List Edition) (edition : Edition) (m 
           let has : HasCertificate at.0 c =
           subst (λ (b : List ℕ). HasCertificate b c) bytes h.has in
           let says = dated at.0 row.0 row.0.what c at.2.told has in
-          let giving = given-last row.0.uri at.0 c at.1 has in
-          let from = serial-from was row.0.uri giving.issuer c.cert.serial giving.serial in
-          let some = positive premises editions steps last.position last.edition last.there giving.issuer
-          giving.live in
+          let some = serial-some row.0.uri at.0 c at.1 has in
           let serial = says.serial in
           let is : Ends m.plan_input edition.changes key row.0 = record {
             issuer = says.issuer ∙ h.issuer;
-            some = λ none. omega (arith, none, serial, from, some);
+            some = λ none. omega (arith, none, serial, some);
             apart = λ same. true≢false
-                (sym (giving.anchor (same ∙ sym (ap anchor_uri same-site))) ∙ s.issued);
+                (sym ((anchor-by row.0.uri at.0 c at.1 has).0 same) ∙ s.issued);
             touched = touched c row.0.uri at.0 at.1 has h.issuer s.gone;
           } in
           let made : RevokedRow = revoked_row m.plan_input.basis.moment row.0 in
@@ -463,34 +588,28 @@ module _ (premises : Premises) (editions : List Edition) (edition : Edition) (m 
           (is-ended m.plan_input edition.changes key row.0 is) row.1)))
           (is-due c s) says.serial says.not_after
 
-      -- A CRL of the key that stood before the last edition is earlier.
-      had : (from : ℕ) → from < last.position → IsInLife id editions from last.position
-          → HadCrl editions id last.position key.this_update
+      -- A CRL of the key that stood before the one of its row is earlier.
+      had : (from : ℕ) → from < put.position → IsInLife id editions from put.position
+          → HadCrl editions id put.position key.this_update
       had from less life =
-          let this : last.edition.moment ≡ key.this_update = sym seen_last.view.moment ∙ updated in
-          subst (λ (n : ℕ). HadCrl editions id last.position n) this
-          (had-crl premises editions steps id from last.position last.edition last.there less life)
+          subst (λ (n : ℕ). HadCrl editions id put.position n) updated
+          (had-crl premises editions steps id from put.position put.edition put.there less life)
 
       -- What had ended before stands on the last CRL.
-      from-notes : (c : SignedCert) (s : IsSuperseded more count id c) → s.earlier < last.position
-          → IsOnList c
-      from-notes c s less =
-          let life = life-then s.earlier (before-last c s) s.life in
+      from-notes : (c : SignedCert) (s : IsSuperseded more count id c) → s.earlier < put.position
+          → ¬ Holds editions put.position id c → IsOnList c
+      from-notes c s less gone =
+          let whole_life = life-then s.earlier (before-last c s) s.life in
+          let life = shorter id editions s.earlier last.position put.position (omega (arith, less)) put.least whole_life in
           let had = had s.earlier less life in
           let due = is-due c s in
           let earlier = had.earlier in
-          let superseded : IsSuperseded editions last.position id c = record {
+          let superseded : IsSuperseded editions put.position id c = record {
             earlier = s.earlier;
             before = less;
             life = life;
             held = held-then c s;
-            gone = λ held.
-                let above = under premises editions steps last.position s.earlier id c life less
-                (held-then c s) last.edition last.there key_then.0 key_then.1 named-then in
-                let least = held-from premises (take last.position editions) last.edition was
-                seen_last.view id c key_then.0 (to-last id c (held-by id c held)) key_then.1
-                named-then in
-                omega (arith, above, least);
+            gone = gone;
             previous = had.list;
             listed = had.stood;
             due = omega (arith, due, earlier);
@@ -501,17 +620,46 @@ module _ (premises : Premises) (editions : List Edition) (edition : Edition) (m 
           (Contains-append_left key.revoked (ended_rows key) entry.0 entry.1)
           due entry.2.serial entry.2.not_after
 
+      -- What was held in the life before that CRL: it stood then at its place, or it had ended.
+      by-place : (c : SignedCert) (s : IsSuperseded more count id c) → s.earlier < put.position → IsOnList c
+      by-place c s less = by (set_after (take (suc put.position) editions) first.uri) refl
+        where
+          first : Holds editions s.earlier id c
+          first = held-then c s
+
+          life : IsInLife id editions s.earlier put.position
+          life = shorter id editions s.earlier last.position put.position (omega (arith, less)) put.least
+              (life-then s.earlier (before-last c s) s.life)
+
+          -- It would stand there.
+          there-then : Holds editions put.position id c
+              → set_after (take (suc put.position) editions) first.uri ≡ Some first.bytes
+          there-then then = stays-there premises editions steps id c s.earlier put.position life first then put.position
+              (omega (arith, less)) (omega arith)
+
+          by-test : (bytes : List ℕ) → set_after (take (suc put.position) editions) first.uri ≡ Some bytes → (b : Bool)
+              → bytes_eq bytes first.bytes ≡ b → IsOnList c
+          by-test bytes was false other = from-notes c s less (λ then. true≢false
+              (sym ((bytes_eq-Decides bytes first.bytes).1 (same_Some bytes first.bytes (sym was ∙ there-then then)))
+              ∙ other))
+          by-test bytes was true same =
+              let is : bytes ≡ first.bytes = (bytes_eq-Decides bytes first.bytes).0 same in
+              let then : Holds editions put.position id c = held-stands premises editions steps put.position id c first.uri
+              first.bytes (was ∙ ap (λ (b : List ℕ). Some b) is) first.has first.issuer in
+              from-table c s (put.stays put.position (omega arith) put.least c then)
+
+          by : (o : Option (List ℕ)) → set_after (take (suc put.position) editions) first.uri ≡ o → IsOnList c
+          by None was = from-notes c s less (λ then. none-some first.bytes (sym was ∙ there-then then))
+          by (Some bytes) was = by-test bytes was (bytes_eq bytes first.bytes) refl
+
       all : (c : SignedCert) → IsSuperseded more count id c
           → (entry : RevokedRow) × Contains (m.entries key) entry × IsEntryOf more count id entry c
       all c s =
-          let on : IsOnList c = elim (cases_eq s.earlier last.position) [
-            | inl here ↦ from-table c s
-                (subst (λ (k : ℕ). Holds editions k id c) here (held-then c s))
-            | inr apart ↦
-                let le = before-last c s in
-                from-notes c s (omega (arith, apart, le))
+          let on : IsOnList c = elim (cases_lt s.earlier put.position) [
+            | inl less ↦ by-place c s less
+            | inr past ↦ from-table c s (put.stays s.earlier past (before-last c s) c (held-then c s))
           ] in
-          let entry = has-entry (rows_for key) (m.entries key) on.row (firsts key among) on.inside in
+          let entry = has-entry (rows_for key) (m.entries key) on.row (firsts key among fresh) on.inside in
           let is = each entry.0 entry.1 in
           let other : SignedCert = is.0 in
           let t : IsSuperseded more count id other = is.1.superseded in
@@ -547,28 +695,26 @@ module _ (premises : Premises) (editions : List Edition) (edition : Edition) (m 
         → Contains m.plan_input.issued row → Ends m.plan_input edition.changes key row → ⊥
     no-ended key new row among is =
         let e = has-ended key row among is in
-        let giving = given-last row.uri e.bytes e.tells.certificate e.there e.tells.has in
-        let named : id_of giving.issuer ≡ id_of key = sym giving.named ∙ e.issuer in
-        All-contains (λ (r : KeyRow). id_of r ≢ id_of key) (state_after editions).rows
-        (counted was.plan_input was.keys was.entries giving.issuer) new.apart
-        (subst (λ (l : List KeyRow). Contains l (counted was.plan_input was.keys was.entries giving.issuer))
-        (sym rows-last)
-        (key-row premises (take last.position editions) last.edition was seen_last.view giving.issuer
-        giving.live)) named
+        let c : SignedCert = e.tells.certificate in
+        let live = live-at premises editions steps last.position last.edition last.there row.uri e.bytes c
+        (stands-last row.uri e.bytes e.there) e.tells.has in
+        let was = live-row c.cert.issuer last.edition live in
+        All-contains (λ (r : KeyRow). id_of r ≢ id_of key) (state_after editions).rows was.0 new.apart
+        (subst (λ (l : List KeyRow). Contains l was.0) (sym rows-last) was.1) (was.2 ∙ e.issuer)
 
   -- ---- all of them
 
   -- A key under which nothing was issued before has no entry.
-  empty : (key : KeyRow) → Contains m.keys key → key.revoked ≡ []
+  empty : (key : KeyRow) → Contains m.keys key → IsFresh key → key.revoked ≡ []
       → ((row : IssuedRow) → Contains m.plan_input.issued row
       → Ends m.plan_input edition.changes key row → ⊥)
       → ((from : ℕ) → from < count → IsInLife (id_of key) more from count → ⊥)
       → AreSuperseded more count (id_of key) (m.entries key)
-  empty key among revoked ended life = record {
-    rising = (firsts key among).rising;
+  empty key among fresh revoked ended life = record {
+    rising = (firsts key among fresh).rising;
     each = λ entry c.
         let parts = candidate key entry
-        (is-row (rows_for key) (m.entries key) entry (firsts key among) c) in
+        (is-row (rows_for key) (m.entries key) entry (firsts key among fresh) c) in
         absurd (elim parts.1 [
           | inl old ↦ none entry (subst (λ (l : List RevokedRow). Contains l entry) revoked old)
           | inr new ↦ ended new.row new.among new.is
@@ -576,15 +722,15 @@ module _ (premises : Premises) (editions : List Edition) (edition : Edition) (m 
     all = λ c s. absurd (life s.earlier s.before s.life);
   }
 
-  pub superseded : (key : KeyRow) → Contains m.keys key
+  pub superseded : (key : KeyRow) → Contains m.keys key → IsFresh key
       → AreSuperseded more count (id_of key) (m.entries key)
-  superseded key among =
+  superseded key among fresh =
       elim (last-of editions) [
         | inl nothing ↦
             elim (came premises editions edition m view key among) [
               | inl come ↦ absurd (none come.row (subst (λ (l : List Edition).
                   Contains (state_after l).rows come.row) nothing come.live))
-              | inr new ↦ empty key among new.revoked
+              | inr new ↦ empty key among fresh new.revoked
                   (λ row c is.
                   let at = table.each row c in
                   none-some at.0
@@ -596,10 +742,10 @@ module _ (premises : Premises) (editions : List Edition) (edition : Edition) (m 
         | inr last ↦
             elim (came premises editions edition m view key among) [
               | inl come ↦ record {
-                rising = (firsts key among).rising;
-                each = each last key among come;
-                all = all last key among come;
+                rising = (firsts key among fresh).rising;
+                each = each last key among fresh come;
+                all = all last key among fresh come;
               }
-              | inr new ↦ empty key among new.revoked (no-ended last key new) (no-life last key new)
+              | inr new ↦ empty key among fresh new.revoked (no-ended last key new) (no-life last key new)
             ]
       ]

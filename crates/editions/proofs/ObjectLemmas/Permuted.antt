@@ -1,14 +1,16 @@
 -- Of two lists with the same elements the same files come.
-use Rattle.std.proofs.Common.{◌≡◌, ℕ, ◌+◌, ◌<◌, Bool, true, false, cond, ◌&&◌, Option, None, Some, List, [], ◌∷◌, remove, refl, sym, ap, ap₂, subst, ◌∙◌, arith}
+use Rattle.std.proofs.Common.{◌≡◌, ◌≢◌, ℕ, ◌+◌, ◌<◌, Bool, true, false, cond, ◌&&◌, Option, None, Some, List, [], ◌∷◌, map, remove, refl, sym, ap, ap₂, subst, ◌∙◌, arith, inl, inr}
 use Rattle.std.specs.Prelude.{Contains, IsPermutation, filter, sum_by}
 use Rattle.std.specs.List.{filter_map, cons_option}
 use Rattle.std.specs.Option.{option_map_or}
 use Rattle.std.specs.Str.{bytes_eq}
 use Rattle.std.proofs.lemmas.Bool.{and_parts, and_from}
 use Rattle.std.proofs.lemmas.List.Sums.{sum_by-cons}
-use Rattle.std.proofs.lemmas.List.Sorted.{IsPermutation-refl, IsPermutation-cons, IsPermutation-trans, IsPermutation-sym, IsPermutation-remove, sum_by-IsPermutation}
+use Rattle.std.proofs.lemmas.List.Sorted.{IsPermutation-refl, IsPermutation-cons, IsPermutation-trans, IsPermutation-sym, IsPermutation-remove, Contains-permutation, sum_by-IsPermutation}
 use Rattle.std.proofs.lemmas.Slice.Eq.{bytes_eq-Decides}
-use Rattle.items.specs.laws.ElementLaws.{here, there}
+use Rattle.issue_drafts.specs.laws.UriOrder.{apart-permuted}
+use Rattle.items.specs.laws.ElementLaws.{none, here, there, first-or-rest, into-map}
+use Rattle.items.specs.laws.PairLaws.{Twos, each-at, twos-from, twos-pairs}
 
 -- A file by its name, and its hash.
 abbrev pub File : Type 0
@@ -117,3 +119,33 @@ passed-on {X} {Y} p f (x ∷ xs) = by (p x) (passed-on p f xs)
         ≡ cons_option (cond b (f x) None) (filter_map (λ z. cond (p z) (f z) None) xs)
     by true rest = ap (λ (l : List Y). cons_option (f x) l) rest
     by false rest = rest
+
+-- ---- lists of the same elements
+
+-- Two lists of the same elements, each with keys of their own.
+pub same-members : {X : Type 0} (key : X → List ℕ) (xs ys : List X) → Twos (λ a b. a ≢ b) (map key xs)
+    → Twos (λ a b. a ≢ b) (map key ys) → ((x : X) → Contains xs x → Contains ys x)
+    → ((x : X) → Contains ys x → Contains xs x) → IsPermutation xs ys
+same-members key [] [] first second to from = IsPermutation-refl []
+same-members key [] (y ∷ ys) first second to from = absurd (none y (from y (here y ys)))
+same-members {X} key (x ∷ xs) ys first second to from =
+    let c = to x (here x xs) in
+    let rest : List X = remove ys c.0 in
+    let out : IsPermutation ys (x ∷ rest) = IsPermutation-remove ys c.0 x c.1 (sym c.2) in
+    let apart : Twos (λ a b. a ≢ b) (map key (x ∷ rest)) =
+    twos-from (λ (a b : List ℕ). a ≢ b) (map key (x ∷ rest))
+    (apart-permuted key ys (x ∷ rest) out (twos-pairs (λ (a b : List ℕ). a ≢ b) (map key ys) second)) in
+    let more : IsPermutation xs rest = same-members key xs rest first.1 apart.1
+    (λ z d. elim (first-or-rest x rest z (Contains-permutation ys (x ∷ rest) z out (to z (there x xs z d)))) [
+      | inl same ↦ absurd (each-at (λ (b : List ℕ). key x ≢ b) (map key xs) (key z) first.0 (into-map key xs z d)
+          (ap key same))
+      | inr later ↦ later
+    ])
+    (λ z d. elim (first-or-rest x xs z (from z (Contains-permutation (x ∷ rest) ys z
+    (IsPermutation-sym ys (x ∷ rest) out) (there x rest z d)))) [
+      | inl same ↦ absurd (each-at (λ (b : List ℕ). key x ≢ b) (map key rest) (key z) apart.0 (into-map key rest z d)
+          (ap key same))
+      | inr later ↦ later
+    ]) in
+    IsPermutation-trans (x ∷ xs) (x ∷ rest) ys (IsPermutation-cons x xs rest more)
+    (IsPermutation-sym ys (x ∷ rest) out)

@@ -19,7 +19,8 @@ use Rattle.key_roll.specs.declared.work.NewKey.{NewKey}
 use Rattle.key_roll.specs.declared.work.RoleWork.{RoleWork}
 use Rattle.issue_plan.specs.declared.keys.NextKey.{NextKey}
 use Rattle.issue_plan.specs.Keys as plan
-use Rattle.issue_plan.specs.Work.{new_key_of, new_key_by, role_of, role_by, is_live, goes_on, dropped}
+use Rattle.issue_plan.specs.Keys.{is_live}
+use Rattle.issue_plan.specs.Work.{new_key_of, new_key_by, role_of, role_by, goes_on, dropped}
 use Rattle.issue_keys.specs.Keys.{id_of, is_dropped, with_role, kept_rows, fresh_row, AreFresh}
 use Rattle.issue_keys.specs.Keys as rowed
 use Rattle.issue_keys.specs.Making.{AreApart}

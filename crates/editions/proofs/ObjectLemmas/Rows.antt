@@ -1,22 +1,20 @@
 -- The rows of the making are those of the edition's keys, counted on.
-use Rattle.std.proofs.Common.{◌≡◌, ℕ, ◌+◌, Bool, true, false, cond, List, [], ◌∷◌, map, refl, sym, ap, ◌∙◌}
+use Rattle.std.proofs.Common.{◌≡◌, ℕ, ◌+◌, Bool, true, false, not, cond, List, [], ◌∷◌, map, refl, ap, ◌∙◌}
 use Rattle.std.specs.Prelude.{Contains, IsPermutation}
 use Rattle.std.specs.List.Sorted.{IsSortedBy}
 use Rattle.key_roll.specs.declared.rows.KeyRow.{KeyRow}
 use Rattle.key_roll.specs.declared.work.Work.{Work}
 use Rattle.issue_plan.specs.Wanted.{PlanInput}
-use Rattle.issue_keys.specs.Keys.{id_of}
 use Rattle.issue_drafts.specs.WorkKeys.{all_keys}
 use Rattle.issue_drafts.specs.IssueInput.{IssueInput}
 use Rattle.issue_drafts.specs.Drafts.{Draft, serial_behind}
-use Rattle.issue_drafts.specs.Revoking.{has_point}
 use Rattle.issue_make.specs.Trace.{IssuingTrace, all_of, row_after, is_before}
 use Rattle.editions.specs.laws.RowLaws.{keeps}
-use Rattle.editions.specs.Wanted.{new_objects}
+use Rattle.key_roll.specs.declared.rows.RevokedRow.{RevokedRow}
+use Rattle.editions.specs.Wanted.{new_objects, keeps_point}
 use Rattle.editions.specs.Step.{counted}
-use Rattle.editions.specs.inner.PlanAndTable.{made_from, KeepsUri, AreOfPlan}
+use Rattle.editions.specs.inner.PlanAndTable.{made_from, AreOfPlan}
 use Rattle.items.specs.laws.ElementLaws.{here, there}
-use Rattle.editions.proofs.ObjectLemmas.Standing.{all-new}
 
 map-agree-in : {X Y : Type 0} (f g : X → Y) (xs : List X)
     → ((x : X) → Contains xs x → f x ≡ g x) → map f xs ≡ map g xs
@@ -48,18 +46,29 @@ module _ (plan_input : PlanInput) (work : Work) (trace : IssuingTrace)
   either_row key b =
       cond b (with_point key (serial_behind (all_of s trace) key + 1) work.moment) (without key)
 
-  row-same : (key : KeyRow) → Contains plan.keys key
-      → row_after s trace key ≡ counted plan_input plan.keys trace.entries key
-  row-same key c =
-      ap (either_row key) (plan.pointed key c)
-      ∙ (ap (λ (l : List Draft). with_point key (serial_behind l key + 1) work.moment)
-      (plan.drafts ∙ sym (all-new plan_input plan.keys))
-      ∙ ap (with_point key (serial_behind (new_objects plan_input plan.keys) key + 1)) plan.moment)
+  module _ (stay : (key : KeyRow) → Contains plan.keys key → keeps_point plan_input plan.keys key ≡ true
+      → trace.entries key ≡ key.revoked) where
+    row-by : (key : KeyRow) → Contains plan.keys key → (b : Bool) → keeps_point plan_input plan.keys key ≡ b
+        → either_row key (not b) ≡ cond b (record key { next_serial = serial_behind (new_objects plan_input plan.keys) key })
+        (with_point key (serial_behind (new_objects plan_input plan.keys) key + 1) plan_input.basis.moment)
+    row-by key c false isnt =
+        ap (λ (l : List Draft). with_point key (serial_behind l key + 1) work.moment) plan.drafts
+        ∙ ap (with_point key (serial_behind (new_objects plan_input plan.keys) key + 1)) plan.moment
+    row-by key c true keeps =
+        let of : ℕ → List RevokedRow → KeyRow = λ n revoked. record key { next_serial = n; revoked = revoked } in
+        ap (λ (l : List Draft). of (serial_behind l key) (trace.entries key)) plan.drafts
+        ∙ ap (of (serial_behind (new_objects plan_input plan.keys) key)) (stay key c keeps)
 
-  pub rows-counted : (rows : List KeyRow)
-      → IsPermutation (map (row_after s trace) (all_keys trace.keys)) rows
-      → IsSortedBy is_before rows
-      → rows ≡ map (counted plan_input plan.keys trace.entries) plan.keys
-  rows-counted rows moved sorted =
-      plan.ordered (row_after s trace) (keeps s trace) rows moved sorted
-      ∙ map-agree-in (row_after s trace) (counted plan_input plan.keys trace.entries) plan.keys row-same
+    row-same : (key : KeyRow) → Contains plan.keys key
+        → row_after s trace key ≡ counted plan_input plan.keys trace.entries key
+    row-same key c =
+        ap (either_row key) (plan.pointed key c)
+        ∙ (row-by key c (keeps_point plan_input plan.keys key) refl)
+
+    pub rows-counted : (rows : List KeyRow)
+        → IsPermutation (map (row_after s trace) (all_keys trace.keys)) rows
+        → IsSortedBy is_before rows
+        → rows ≡ map (counted plan_input plan.keys trace.entries) plan.keys
+    rows-counted rows moved sorted =
+        plan.ordered (row_after s trace) (keeps s trace) rows moved sorted
+        ∙ map-agree-in (row_after s trace) (counted plan_input plan.keys trace.entries) plan.keys row-same

@@ -6,10 +6,12 @@ use Rattle.key_roll.specs.declared.rows.KeyRow.{KeyRow}
 use Rattle.issue_keys.specs.Keys.{id_of}
 use Rattle.editions.specs.Edition.{Edition, state_after, set_after}
 use Rattle.editions.specs.Superseded.{AreSuperseded}
+use Rattle.editions.specs.Wanted.{keeps_point}
 use Rattle.editions.specs.Objects.{Issuance}
 use Rattle.editions.specs.Step.{Premises, IsStep, AreSteps, AreRevoked, plan_input_at}
 use Rattle.editions.specs.inner.ByRows.{IsStepByRows}
 use Rattle.editions.proofs.ObjectLemmas.Views.{IsView}
+use Rattle.editions.proofs.WalkLemmas.Rows.{live-apart}
 use Rattle.editions.proofs.ObjectLemmas.Noted.{superseded}
 
 module _ (premises : Premises) (clock : ℕ) (editions : List Edition) (edition : Edition)
@@ -30,6 +32,9 @@ module _ (premises : Premises) (clock : ℕ) (editions : List Edition) (edition 
     rows = step.made.rows;
     set = step.made.set;
     new = refl;
+    old = refl;
+    table = step.made.table;
+    over = record { next = step.made.next; apart = live-apart premises editions steps };
     next = step.made.next;
     moment = refl;
     site = refl;
@@ -38,10 +43,10 @@ module _ (premises : Premises) (clock : ℕ) (editions : List Edition) (edition 
   revoked : AreRevoked (editions ++ edition ∷ []) (length editions) m.plan_input m.keys m.entries
   revoked = All-weaker
       (λ (key : KeyRow). Contains m.keys key)
-      (λ (key : KeyRow). false ≡ false
+      (λ (key : KeyRow). keeps_point m.plan_input m.keys key ≡ false
       → AreSuperseded (editions ++ edition ∷ []) (length editions) (id_of key) (m.entries key))
       (λ key among is. superseded premises editions edition m steps view step.made.table
-      step.made.listed step.changes key among)
+      step.made.listed step.changes key among is)
       m.keys (All-contains_itself m.keys)
 
   pub step-by : IsStep premises clock editions edition

@@ -52,7 +52,7 @@ told bytes row Point (inr is) some =
       dated = is.dated;
     }
 
-no-certificate : (bytes : List ℕ) (l : SignedCrl) (c : SignedCert) → crl_in bytes ≡ Some l
+pub no-certificate : (bytes : List ℕ) (l : SignedCrl) (c : SignedCert) → crl_in bytes ≡ Some l
     → HasCertificate bytes c → ⊥
 no-certificate bytes l c read (inl e) = certificate-no-crl bytes c l e read
 no-certificate bytes l c read (inr e) =

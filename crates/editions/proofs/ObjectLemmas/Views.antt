@@ -1,8 +1,9 @@
 -- What an edition tells of its keys, over the ones before it.
-use Rattle.std.proofs.Common.{◌≡◌, ◌≢◌, ℕ, ◌+◌, ◌<◌, ◌≤◌, true, List, [], ◌∷◌, ◌++◌, length, map, get_or, refl, sym, ap, subst, ◌∙◌, arith, ◌⊎◌, inl, inr}
+use Rattle.std.proofs.Common.{◌≡◌, ◌≢◌, ℕ, ◌<◌, ◌≤◌, Bool, true, false, cond, Some, List, [], ◌∷◌, ◌++◌, length, map, get_or, refl, sym, ap, subst, ◌∙◌, arith, ◌⊎◌, inl, inr}
 use Rattle.std.specs.Prelude.{All, AllPairs, Contains}
 use Rattle.std.specs.Str.{bytes_eq}
 use Rattle.std.proofs.lemmas.Bool.{cases_order}
+use Rattle.std.proofs.lemmas.Option.{same_Some}
 use Rattle.std.proofs.lemmas.List.{get_or_default}
 use Rattle.std.proofs.lemmas.List.Elements.{All-contains}
 use Rattle.std.proofs.lemmas.List.Folds.{Any-from_list_any, list_any-from_Any}
@@ -15,15 +16,18 @@ use Rattle.pub_set.specs.Changes.{Contents}
 use Rattle.issue_plan.specs.declared.keys.NextKey.{NextKey}
 use Rattle.issue_plan.specs.Keys.{next_keys}
 use Rattle.issue_keys.specs.Keys.{id_of}
-use Rattle.issue_drafts.specs.Drafts.{serial_behind}
 use Rattle.editions.specs.Edition.{Edition, state_after, set_after, is_live_in}
-use Rattle.editions.specs.Held.{IsHeld}
+use Rattle.editions.specs.Held.{HasCertificate}
 use Rattle.editions.specs.Keys.{IsNextBy, AreEach, AreNext}
-use Rattle.editions.specs.Wanted.{new_objects}
+use Rattle.editions.specs.Table.{IsTable}
+use Rattle.editions.specs.Wanted.{keeps_point}
 use Rattle.editions.specs.Objects.{Issuance, IsNewSet}
 use Rattle.editions.specs.Step.{Premises, IsStep, AreRevoked, counted}
 use Rattle.items.specs.laws.ElementLaws.{none, there, first-or-rest, from-map, into-map}
-use Rattle.editions.proofs.ObjectLemmas.Given.{IsGiven, given, serial-from, serial-to}
+use Rattle.editions.proofs.ObjectLemmas.Kept.{IsOver}
+use Rattle.editions.proofs.ObjectLemmas.Standing.{left-at}
+use Rattle.editions.proofs.ObjectLemmas.Given.{IsGiven, given, serial-from, serial-to, behind-to, kept_on, pointed_anew}
+use Rattle.editions.proofs.ObjectLemmas.Tables.{dated}
 
 -- ---- an edition
 
@@ -32,6 +36,9 @@ pub record IsView (premises : Premises) (before : List Edition) (edition : Editi
   pub rows : edition.rows ≡ map (counted m.plan_input m.keys m.entries) m.keys
   pub set : IsNewSet m
   pub new : m.new ≡ set_after (before ++ edition ∷ [])
+  pub old : m.old ≡ set_after before
+  pub table : IsTable m.old m.plan_input.issued
+  pub over : IsOver m.plan_input m.keys
   pub next : AreNext (state_after before).rows (next_keys m.plan_input.basis) m.keys
   pub moment : m.plan_input.basis.moment ≡ edition.moment
   pub site : m.plan_input.site ≡ premises.site
@@ -43,13 +50,17 @@ pub record HasView (premises : Premises) (before : List Edition) (edition : Edit
       AreRevoked (before ++ edition ∷ []) (length before) m.plan_input m.keys m.entries
 
 pub view-of : (premises : Premises) (clock : ℕ) (before : List Edition) (edition : Edition)
-    → IsStep premises clock before edition → HasView premises before edition
-view-of premises clock before edition step = record {
+    → AllPairs (λ a b. id_of a ≢ id_of b) (state_after before).rows → IsStep premises clock before edition
+    → HasView premises before edition
+view-of premises clock before edition apart step = record {
   m = _;
   view = record {
     rows = step.made.rows;
     set = step.made.set;
     new = refl;
+    old = refl;
+    table = step.made.table;
+    over = record { next = step.made.next; apart = apart };
     next = step.made.next;
     moment = refl;
     site = refl;
@@ -102,6 +113,7 @@ pub record HasCome (rows : List KeyRow) (key : KeyRow) : Type 0 where
 pub record IsMadeNew (rows : List KeyRow) (key : KeyRow) : Type 0 where
   pub apart : All (λ live. id_of live ≢ id_of key) rows
   pub serial : key.next_serial ≡ 1
+  pub this_update : key.this_update ≡ 0
   pub revoked : key.revoked ≡ []
 
 come-by : (rows : List KeyRow) (next : NextKey) (name : KeyName) (key : KeyRow)
@@ -118,10 +130,11 @@ come-by rows next (Live id) key on = inl (record {
 come-by rows next (Fresh desk) key new = inr (record {
   apart = new.apart;
   serial = ap (λ (k : KeyRow). k.next_serial) new.row;
+  this_update = ap (λ (k : KeyRow). k.this_update) new.row;
   revoked = ap (λ (k : KeyRow). k.revoked) new.row;
 })
 
-each-come : (rows : List KeyRow) (nexts : List NextKey) (keys : List KeyRow) (key : KeyRow)
+pub each-come : (rows : List KeyRow) (nexts : List NextKey) (keys : List KeyRow) (key : KeyRow)
     → AreEach rows nexts keys → Contains keys key → HasCome rows key ⊎ IsMadeNew rows key
 each-come rows [] [] key each c = absurd (none key c)
 each-come rows [] (k ∷ keys) key each c = absurd each
@@ -140,9 +153,6 @@ module _ (premises : Premises) (before : List Edition) (edition : Edition) (m : 
   abbrev pub live_rows : List KeyRow
   live_rows = (state_after before).rows
 
-  abbrev pub behind : KeyRow → ℕ
-  behind key = serial_behind (new_objects m.plan_input m.keys) key
-
   pub came : (key : KeyRow) → Contains m.keys key → HasCome live_rows key ⊎ IsMadeNew live_rows key
   came key c = each-come live_rows (next_keys m.plan_input.basis) m.keys key view.next.each c
 
@@ -159,17 +169,18 @@ module _ (premises : Premises) (before : List Edition) (edition : Edition) (m : 
       subst (λ (rows : List KeyRow). Contains rows (counted m.plan_input m.keys m.entries key))
       (sym view.rows) (into-map (counted m.plan_input m.keys m.entries) m.keys key c)
 
-  pub number-next : (key row : KeyRow) → counted m.plan_input m.keys m.entries key ≡ row
-      → key.number + 1 ≡ row.number
-  number-next key row e = ap (λ (r : KeyRow). r.number) e
+  id-by : (b : Bool) (key kept made : KeyRow) → id_of kept ≡ id_of key → id_of made ≡ id_of key
+      → id_of (cond b kept made) ≡ id_of key
+  id-by true key kept made one two = one
+  id-by false key kept made one two = two
+
+  pub id-counted : (key : KeyRow) → id_of (counted m.plan_input m.keys m.entries key) ≡ id_of key
+  id-counted key =
+      id-by (keeps_point m.plan_input m.keys key) key (kept_on m key) (pointed_anew m key) refl refl
 
   pub id-next : (key row : KeyRow) → counted m.plan_input m.keys m.entries key ≡ row
       → id_of key ≡ id_of row
-  id-next key row e = ap id_of e
-
-  pub update-next : (key row : KeyRow) → counted m.plan_input m.keys m.entries key ≡ row
-      → m.plan_input.basis.moment ≡ row.this_update
-  update-next key row e = ap (λ (r : KeyRow). r.this_update) e
+  id-next key row e = sym (id-counted key) ∙ ap id_of e
 
   pub same-key : (a b : KeyRow) → Contains m.keys a → Contains m.keys b → id_of a ≡ id_of b → a ≡ b
   same-key a b one two e = apart-same m.keys a b view.next.apart one two e
@@ -184,33 +195,66 @@ module _ (premises : Premises) (before : List Edition) (edition : Edition) (m : 
             (All-contains (λ r. id_of r ≢ id_of key) live_rows row new.apart live named)
       ]
 
-  -- What is held in the edition.
-  pub held-given : (id : List ℕ) (c : SignedCert)
-      → (held : IsHeld (set_after (before ++ edition ∷ [])) id c) → IsGiven m held.uri c
-  held-given id c held =
-      given m view.set held.uri held.bytes c
-      (ap (λ (set : Contents). set held.uri) view.new ∙ held.there) held.has
+  -- What stood before, and stays: of a key that is live.
+  pub record IsOld (uri bytes : List ℕ) (c : SignedCert) : Type 0 where
+    pub issuer : KeyRow
+    pub live : Contains m.keys issuer
+    pub named : c.cert.issuer ≡ id_of issuer
+    pub stood : set_after before uri ≡ Some bytes
 
-  -- It has a serial that the key gave in the edition.
-  pub held-from : (id : List ℕ) (c : SignedCert) (key : KeyRow)
-      → IsHeld (set_after (before ++ edition ∷ [])) id c → Contains m.keys key
-      → id_of key ≡ id → key.next_serial ≤ c.cert.serial
-  held-from id c key held live named =
-      let is = held-given id c held in
-      let same : is.issuer ≡ key = same-key is.issuer key is.live live
-      (sym is.named ∙ (held.issuer ∙ sym named)) in
+  -- What is held in the edition was given in it, or stood before.
+  pub given-or-old : (uri bytes : List ℕ) (c : SignedCert)
+      → set_after (before ++ edition ∷ []) uri ≡ Some bytes → HasCertificate bytes c
+      → IsGiven m uri c ⊎ IsOld uri bytes c
+  given-or-old uri bytes c stands has =
+      let left = left-at m view.over view.set uri bytes (ap (λ (set : Contents). set uri) view.new ∙ stands) in
+      elim (left.3) [
+        | inl put ↦ inl (subst (λ (u : List ℕ). IsGiven m u c) left.2 (given m left.0 bytes c put has))
+        | inr old ↦
+            let row = old.fit.row in
+            let at = view.table.each row old.fit.among in
+            let same : at.0 ≡ bytes = same_Some at.0 bytes
+            (sym at.1 ∙ (ap m.old old.fit.at ∙ old.stood)) in
+            let says = dated at.0 row row.what c at.2.told
+            (subst (λ (b : List ℕ). HasCertificate b c) (sym same) has) in
+            inr (record {
+              issuer = left.0.issuer;
+              live = old.live;
+              named = sym says.issuer ∙ old.fit.issuer;
+              stood = ap (λ (set : Contents). set uri) (sym view.old) ∙ (ap m.old (sym left.2) ∙ old.stood);
+            })
+      ]
+
+  -- The key that issued it is live either way.
+  pub record HasIssuer (c : SignedCert) : Type 0 where
+    pub issuer : KeyRow
+    pub live : Contains m.keys issuer
+    pub named : c.cert.issuer ≡ id_of issuer
+
+  pub issuer-of : (uri bytes : List ℕ) (c : SignedCert)
+      → set_after (before ++ edition ∷ []) uri ≡ Some bytes → HasCertificate bytes c → HasIssuer c
+  issuer-of uri bytes c stands has = elim (given-or-old uri bytes c stands has) [
+    | inl given ↦ record { issuer = given.issuer; live = given.live; named = given.named }
+    | inr old ↦ record { issuer = old.issuer; live = old.live; named = old.named }
+  ]
+
+  -- What is given in the edition has a serial that the key gave in it.
+  pub given-from : (uri : List ℕ) (c : SignedCert) (key : KeyRow) → IsGiven m uri c → Contains m.keys key
+      → id_of key ≡ c.cert.issuer → key.next_serial ≤ c.cert.serial
+  given-from uri c key is live named =
+      let same : is.issuer ≡ key = same-key is.issuer key is.live live (sym is.named ∙ sym named) in
       subst (λ (k : KeyRow). k.next_serial ≤ c.cert.serial) same
-      (serial-from m held.uri is.issuer c.cert.serial is.serial)
+      (serial-from m uri is.issuer c.cert.serial is.serial)
 
-  pub held-to : (id : List ℕ) (c : SignedCert) (key : KeyRow)
-      → IsHeld (set_after (before ++ edition ∷ [])) id c → Contains m.keys key
-      → id_of key ≡ id → c.cert.serial ≤ behind key
-  held-to id c key held live named =
-      let is = held-given id c held in
-      let same : is.issuer ≡ key = same-key is.issuer key is.live live
-      (sym is.named ∙ (held.issuer ∙ sym named)) in
-      subst (λ (k : KeyRow). c.cert.serial ≤ behind k) same
-      (serial-to m held.uri is.issuer c.cert.serial is.serial)
+  pub given-to : (uri : List ℕ) (c : SignedCert) (row : KeyRow) → IsGiven m uri c → Contains edition.rows row
+      → id_of row ≡ c.cert.issuer → c.cert.serial < row.next_serial
+  given-to uri c row is inside named =
+      let key = row-key row inside in
+      let same : is.issuer ≡ key.0 = same-key is.issuer key.0 is.live key.1
+      (sym is.named ∙ (sym named ∙ sym (id-next key.0 row key.2))) in
+      subst (λ (k : KeyRow). c.cert.serial < k.next_serial)
+      (ap (counted m.plan_input m.keys m.entries) same ∙ key.2)
+      (serial-to m uri is.issuer c.cert.serial is.serial)
 
   -- A serial below the next ones of the key before is below its next one in the edition.
   pub carried : (id : List ℕ) (n : ℕ) (key : KeyRow) → Contains m.keys key → id_of key ≡ id
@@ -223,21 +267,14 @@ module _ (premises : Premises) (before : List Edition) (edition : Edition) (m : 
       let same = come.serial in
       omega (arith, less, same)
 
-  -- The rows of the edition are behind all serials that it gave.
-  pub row-behind : (id : List ℕ) (n : ℕ) (row : KeyRow) → Contains edition.rows row → id_of row ≡ id
-      → ((key : KeyRow) → Contains m.keys key → id_of key ≡ id → n ≤ behind key)
-      → n < row.next_serial
-  row-behind id n row c is to =
-      let key = row-key row c in
-      let same : id_of key.0 ≡ id = ap id_of key.2 ∙ is in
-      let next : behind key.0 + 1 ≡ row.next_serial = ap (λ (k : KeyRow). k.next_serial) key.2 in
-      let le = to key.0 key.1 same in
-      omega (arith, next, le)
-
-  -- The next serial of a row is above that of its key.
+  -- The next serial of a row is no less than that of its key.
   pub row-above : (id : List ℕ) (n : ℕ) (row : KeyRow) → Contains edition.rows row → id_of row ≡ id
       → ((key : KeyRow) → Contains m.keys key → id_of key ≡ id → n < key.next_serial)
       → n < row.next_serial
   row-above id n row c is above =
-      row-behind id n row c is (λ key live named.
-      let less = above key live named in omega (arith, less))
+      let key = row-key row c in
+      let less = above key.0 key.1 (id-next key.0 row key.2 ∙ is) in
+      let most = behind-to m key.0 in
+      let same : (counted m.plan_input m.keys m.entries key.0).next_serial ≡ row.next_serial =
+      ap (λ (k : KeyRow). k.next_serial) key.2 in
+      omega (arith, less, most, same)

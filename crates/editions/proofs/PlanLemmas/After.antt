@@ -1,5 +1,5 @@
 -- What stands after the making of a planned work.
-use Rattle.std.proofs.Common.{◌≡◌, ◌≢◌, ℕ, ◌+◌, ◌<◌, ◌≤◌, ◌||◌, suc, eqb, Bool, true, false, cond, not, Option, None, Some, List, [], ◌∷◌, ◌++◌, map, filter, length, refl, sym, ap, subst, ◌∙◌, arith, ◌⊎◌, inl, inr}
+use Rattle.std.proofs.Common.{◌≡◌, ◌≢◌, ℕ, ◌<◌, ◌≤◌, suc, eqb, Bool, true, false, cond, not, Option, None, Some, List, [], ◌∷◌, ◌++◌, map, filter, length, refl, sym, ap, subst, ◌∙◌, arith, ◌⊎◌, inl, inr}
 use Rattle.std.specs.List.{All, AllPairs, Any, Contains, list_any}
 use Rattle.std.specs.List.Sorted.{IsPermutation, IsSortedBy}
 use Rattle.std.specs.Option.{option_map}
@@ -35,14 +35,14 @@ use Rattle.issue_values.specs.Bodies.{AreRevoked}
 use Rattle.issue_keys.specs.Keys.{id_of, is_dropped, with_role, role_of, fresh_row, fresh_rows}
 use Rattle.issue_drafts.specs.WorkKeys.{all_keys}
 use Rattle.issue_drafts.specs.IssueInput.{IssueInput}
-use Rattle.issue_drafts.specs.Drafts.{Draft, drafts, manifests, serial_behind}
+use Rattle.issue_drafts.specs.Drafts.{Draft, drafts, manifests}
 use Rattle.issue_drafts.specs.laws.UriOrder.{same-decides, apart-permuted, apart-from-rise, found-some, found-there}
 use Rattle.pub_set.specs.laws.UriLaws.{same_is as same-is, uri_total}
 use Rattle.issue_drafts.specs.Revoking.{has_point, is_listed, is_superseded, is_touched, revoked_row, candidates}
 use Rattle.issue_sign.specs.Objects.{Signed}
-use Rattle.issue_make.specs.Trace.{IssuingTrace, AreKeys, IsIssuingTrace, all_of, puts_of, made_of, put_of, hash_at, withdrawal_at, or_else, wanted_at, IsIssued, row_after, is_before}
+use Rattle.issue_make.specs.Trace.{IssuingTrace, AreKeys, IsIssuingTrace, puts_of, made_of, put_of, hash_at, withdrawal_at, or_else, wanted_at, IsIssued, row_after, is_before}
 use Rattle.editions.specs.laws.RowLaws.{either_row, keeps}
-use Rattle.editions.specs.inner.PlanAndTable.{made_from, KeepsUri, AreOfPlan}
+use Rattle.editions.specs.inner.PlanAndTable.{made_from, AreOfPlan}
 use Rattle.issue_plan.specs.declared.keys.NextKey.{NextKey}
 use Rattle.issue_plan.specs.Keys.{next_keys}
 use Rattle.issue_plan.specs.Wanted.{PlanInput}
@@ -119,8 +119,10 @@ module _ (s : IssueInput) (trace : IssuingTrace) where
       by true = refl
       by false = refl
 
-  updated : (key : KeyRow) → has_point s trace.keys key ≡ true → (row_after s trace key).this_update ≡ s.work.moment
-  updated key e = ap (λ (b : Bool). (either_row s trace key b).this_update) e
+  updated : (key : KeyRow) (b : Bool) → has_point s trace.keys key ≡ b
+      → (row_after s trace key).this_update ≡ cond b s.work.moment key.this_update
+  updated key true e = ap (λ (b : Bool). (either_row s trace key b).this_update) e
+  updated key false e = ap (λ (b : Bool). (either_row s trace key b).this_update) e
 
   same-signer : (row : KeyRow) (r : Option RoleWork) → (with_role row r).signer ≡ row.signer
   same-signer row None = refl
@@ -221,10 +223,30 @@ module _ (plan_input : PlanInput) (work : Work) (trace : IssuingTrace) (plan : A
       dated = all-of IsDated (trace.entries k) (λ r at. entry-dated k here r at);
     }
 
+    -- A CRL is of the moment, or was made before.
+    row-dated : All (λ row. row.this_update ≤ last) plan_input.basis.rows → (k : KeyRow) → In k ks
+        → (after k).this_update ≤ plan_input.basis.moment
+    row-dated dated k here = by (has_point s trace.keys k) refl (beside k here).2.dated
+      where
+        by : (b : Bool) → has_point s trace.keys k ≡ b
+            → ((row : KeyRow) × In row plan_input.basis.rows × (k.this_update ≡ row.this_update)) ⊎ (k.this_update ≡ 0)
+            → (after k).this_update ≤ plan_input.basis.moment
+        by true e old =
+            let now : (after k).this_update ≡ plan_input.basis.moment = updated s trace k true e ∙ plan.moment in
+            omega (arith, now)
+        by false e (inl old) =
+            let same : (after k).this_update ≡ old.0.this_update = updated s trace k false e ∙ old.2 in
+            let until : old.0.this_update ≤ last =
+            in-all (λ (row : KeyRow). row.this_update ≤ last) old.0 plan_input.basis.rows dated old.1 in
+            omega (arith, same, until, later)
+        by false e (inr new) =
+            let none : (after k).this_update ≡ 0 = updated s trace k false e ∙ new in
+            omega (arith, none)
+
     -- The keys are live at the moment.
-    pub are-live : (rows : List KeyRow) → IsPermutation (map after (all_keys trace.keys)) rows → IsSortedBy is_before rows
+    pub are-live : All (λ row. row.this_update ≤ last) plan_input.basis.rows → (rows : List KeyRow) → IsPermutation (map after (all_keys trace.keys)) rows → IsSortedBy is_before rows
         → AreLive plan_input.basis.moment rows
-    are-live rows moved sorted =
+    are-live dated rows moved sorted =
         subst (AreLive plan_input.basis.moment) (sym (rows-are rows moved sorted)) (record {
           apart = ids-apart;
           revoked = all-in (λ (row : KeyRow). AreRevoked plan_input.basis.moment row.revoked) (map after ks) (λ row here.
@@ -233,9 +255,7 @@ module _ (plan_input : PlanInput) (work : Work) (trace : IssuingTrace) (plan : A
               (subst (AreRevoked plan_input.basis.moment) (sym (has-entries s trace w.0)) (entries-good w.0 w.1)));
           dated = all-in (λ (row : KeyRow). row.this_update ≤ plan_input.basis.moment) (map after ks) (λ row here.
               let w = map-in after row ks here in
-              let now : (after w.0).this_update ≡ plan_input.basis.moment =
-              updated s trace w.0 (plan.pointed w.0 (in-contains w.0 ks w.1)) ∙ plan.moment in
-              subst (λ (r : KeyRow). r.this_update ≤ plan_input.basis.moment) w.2 (omega (arith, now)));
+              subst (λ (r : KeyRow). r.this_update ≤ plan_input.basis.moment) w.2 (row-dated dated w.0 w.1));
         })
 
   -- ---- what is issued is put
@@ -282,34 +302,32 @@ module _ (plan_input : PlanInput) (work : Work) (trace : IssuingTrace) (plan : A
     -- ---- what stands afterwards is put
 
     module _ (rising : Rise (λ row. row.uri) plan_input.issued)
-        (touched : (row : IssuedRow) → In row plan_input.issued → is_touched s (puts s trace.keys) row.uri ≡ true)
+        (wanted_in : (d : Draft) → In d (puts s trace.keys) → In d (all_puts plan_input ks))
+        (touched : (row : IssuedRow) → In row plan_input.issued → (is_touched s (puts s trace.keys) row.uri ≡ true)
+        ⊎ ((d : Draft) × In d (all_puts plan_input ks) × (d.uri ≡ row.uri)))
         (changes : List Change) (wanted : (uri : List ℕ) → change_at changes uri ≡ wanted_at s trace uri)
         (new : List IssuedRow) (is_table : IsTableAfter plan_input.issued changes issued new) where
       abbrev IsPut : List ℕ → Type 0
-      IsPut uri = (d : Draft) × In d (puts s trace.keys) × (d.uri ≡ uri)
+      IsPut uri = (d : Draft) × In d (all_puts plan_input ks) × (d.uri ≡ uri)
 
       from-issued : (uri : List ℕ) (row : IssuedRow) → row_at issued uri ≡ Some row → IsPut uri
       from-issued uri row e =
           let f = found-some (λ (r : IssuedRow). r.uri) (λ (r : IssuedRow). r) issued uri row e in
           let p = row-put f.0 (contains-in f.0 issued f.1) in
-          (p.0, p.1, p.2 ∙ f.2)
+          (p.0, wanted_in p.0 p.1, p.2 ∙ f.2)
 
       from-old : (uri : List ℕ) (row : IssuedRow) → row_at plan_input.issued uri ≡ Some row → change_at changes uri ≡ None → IsPut uri
       from-old uri row e none =
           let f = found-some (λ (r : IssuedRow). r.uri) (λ (r : IssuedRow). r) plan_input.issued uri row e in
           let here : In f.0 plan_input.issued = contains-in f.0 plan_input.issued f.1 in
-          let touches : (list_any (λ (d : Draft). bytes_eq d.uri uri) (puts s trace.keys)
-          || list_any (λ (w : List ℕ). bytes_eq w uri) work.withdrawn) ≡ true =
-          subst (λ (u : List ℕ). is_touched s (puts s trace.keys) u ≡ true) f.2 (touched f.0 here) in
-          by (or_cases (list_any (λ (d : Draft). bytes_eq d.uri uri) (puts s trace.keys))
-          (list_any (λ (w : List ℕ). bytes_eq w uri) work.withdrawn) touches) f.0 f.1 f.2
+          either f.0 f.1 f.2 (touched f.0 here)
         where
           by : (list_any (λ (d : Draft). bytes_eq d.uri uri) (puts s trace.keys) ≡ true)
               ⊎ (list_any (λ (w : List ℕ). bytes_eq w uri) work.withdrawn ≡ true) → (old : IssuedRow)
               → Contains plan_input.issued old → old.uri ≡ uri → IsPut uri
           by (inl put) old c is =
               let w = in-any (λ (d : Draft). bytes_eq d.uri uri) (puts s trace.keys) put in
-              (w.0, w.1, (bytes_eq-Decides w.0.uri uri).0 w.2)
+              (w.0, wanted_in w.0 w.1, (bytes_eq-Decides w.0.uri uri).0 w.2)
           by (inr gone) old c is =
               let stands : hash_at s uri ≡ Some old.hash =
               subst (λ (u : List ℕ). hash_at s u ≡ Some old.hash) is
@@ -320,6 +338,15 @@ module _ (plan_input : PlanInput) (work : Work) (trace : IssuingTrace) (plan : A
               ∙ ap (λ (o : Option (List ℕ)). option_map (λ (hash : List ℕ). Withdraw uri hash) o) stands in
               absurd (not-none (found_at (λ x. x.draft.uri) (put_of s trace) (made_of trace) uri) (withdrawal_at s uri)
               (Withdraw uri old.hash) goes (sym (wanted uri) ∙ none))
+
+          either : (old : IssuedRow) → Contains plan_input.issued old → old.uri ≡ uri
+              → (is_touched s (puts s trace.keys) old.uri ≡ true) ⊎ ((d : Draft) × In d (all_puts plan_input ks) × (d.uri ≡ old.uri))
+              → IsPut uri
+          either old c is (inl touches) =
+              by (or_cases (list_any (λ (d : Draft). bytes_eq d.uri uri) (puts s trace.keys))
+              (list_any (λ (w : List ℕ). bytes_eq w uri) work.withdrawn)
+              (subst (λ (u : List ℕ). is_touched s (puts s trace.keys) u ≡ true) is touches)) old c is
+          either old c is (inr stays) = (stays.0, stays.1, stays.2 ∙ is)
 
       stands-put : (uri : List ℕ) (row : IssuedRow) → row_at new uri ≡ Some row → IsPut uri
       stands-put uri row e =
@@ -341,7 +368,7 @@ module _ (plan_input : PlanInput) (work : Work) (trace : IssuingTrace) (plan : A
       -- ---- nothing stands at the places of other keys
 
       module _ (plain : All (λ row. IsName row.name) (names_of plan_input.basis.configs)) (told : AreTold) (ends : HaveEnds)
-          (puts-are : puts s trace.keys ≡ all_puts plan_input ks) (id : List ℕ) (bytes : AreBytes id)
+          (id : List ℕ) (bytes : AreBytes id)
           (other : (k : KeyRow) → In k ks → id_of k ≢ id) where
         abbrev site : Bases
         site = plan_input.site
@@ -438,17 +465,16 @@ module _ (plan_input : PlanInput) (work : Work) (trace : IssuingTrace) (plan : A
         off-all =
             all-in (λ (row : IssuedRow). IsElsewhere site id row.uri) new (λ row here.
             let p = table-put row here in
-            subst (IsElsewhere site id) p.2 (off-put p.0 (subst (In p.0) puts-are p.1)))
+            subst (IsElsewhere site id) p.2 (off-put p.0 p.1))
 
       pub is-clear : (plain : All (λ row. IsName row.name) (names_of plan_input.basis.configs)) → AreTold → HaveEnds
-          → puts s trace.keys ≡ all_puts plan_input ks
           → ((next : NextKey) → In next (next_keys plan_input.basis) → next.desk ≡ 0 → next.role ≡ Current)
           → (rows : List KeyRow) → IsPermutation (map after (all_keys trace.keys)) rows → IsSortedBy is_before rows
           → IsClear plan_input.site rows new
-      is-clear plain told ends puts-are anchor rows moved_rows sorted =
+      is-clear plain told ends anchor rows moved_rows sorted =
           subst (λ (l : List KeyRow). IsClear plan_input.site l new) (sym (rows-are rows moved_rows sorted)) (record {
             places = λ id bytes other.
-                off-all plain told ends puts-are id bytes (λ k here same.
+                off-all plain told ends id bytes (λ k here same.
                 in-all (λ (key : KeyRow). id_of key ≢ id) (after k) (map after ks) other (in-map after k ks here)
                 ((keeps s trace).key k ∙ same));
             anchor = all-in (λ (key : KeyRow). key.desk ≡ 0 → key.role ≡ Current) (map after ks) (λ row here at.

@@ -1,5 +1,5 @@
 -- The keys of an edition beside the next ones that they are.
-use Rattle.std.proofs.Common.{◌≡◌, ◌≢◌, Some, List, [], ◌∷◌, refl, sym, ap, subst, ◌∙◌, inl, inr}
+use Rattle.std.proofs.Common.{◌≡◌, ◌≢◌, Some, List, [], ◌∷◌, refl, sym, ap, subst, ◌∙◌, ◌⊎◌, inl, inr}
 use Rattle.std.proofs.lemmas.Option.{same_Some}
 use Rattle.key_ids.specs.declared.identifier.KeyId.{KeyId}
 use Rattle.key_roll.specs.declared.rows.KeyRow.{KeyRow}
@@ -28,6 +28,7 @@ pub record IsBeside (rows : List KeyRow) (next : NextKey) (key : KeyRow) : Type 
   pub role : key.role ≡ next.role
   pub named : IsNamed rows key next.name
   pub entries : (r : RevokedRow) → In r key.revoked → (row : KeyRow) × In row rows × In r row.revoked
+  pub dated : ((row : KeyRow) × In row rows × (key.this_update ≡ row.this_update)) ⊎ (key.this_update ≡ 0)
 
 module _ (rows : List KeyRow) (apart : AreApart rows) where
   is-beside : (next : NextKey) (key : KeyRow) (name : KeyName) → next.name ≡ name → Names rows next.desk name
@@ -41,6 +42,7 @@ module _ (rows : List KeyRow) (apart : AreApart rows) where
         named = subst (IsNamed rows key) (sym e) (sym is.named ∙ sym (ap id_of is.same));
         entries = λ r here.
             (is.row, contains-in is.row rows is.live, subst (In r) (ap (λ (k : KeyRow). k.revoked) is.same) here);
+        dated = inl (is.row, contains-in is.row rows is.live, ap (λ (k : KeyRow). k.this_update) is.same);
       }
   is-beside next key (Fresh desk) e named is =
       let asked : NewKey = record {
@@ -57,6 +59,7 @@ module _ (rows : List KeyRow) (apart : AreApart rows) where
         role = ap (λ (r : KeyRow). r.role) is.row ∙ sym (ap (λ (n : NewKey). n.role) made);
         named = subst (IsNamed rows key) (sym e) is.apart;
         entries = λ r here. absurd (subst (In r) (ap (λ (k : KeyRow). k.revoked) is.row) here);
+        dated = inr (ap (λ (k : KeyRow). k.this_update) is.row);
       }
 
   pub are-beside : (nexts : List NextKey) (keys : List KeyRow)

@@ -21,7 +21,8 @@ use Rattle.issue_plan.specs.declared.keys.NextKey.{NextKey}
 use Rattle.issue_plan.specs.Keys as plan
 use Rattle.issue_plan.specs.Keys.{next_keys}
 use Rattle.issue_plan.specs.Wanted.{PlanInput}
-use Rattle.issue_plan.specs.Work.{IsWork, new_key_of, goes_on, is_live}
+use Rattle.issue_plan.specs.Keys.{is_live}
+use Rattle.issue_plan.specs.Work.{IsWork, new_key_of, goes_on}
 use Rattle.editions.specs.inner.PlannedWork.{AreApart, NamesAreOf, AreOfDesks}
 use Rattle.items.specs.laws.AmongLaws.{In, in-map, in-filter, filter-in, all-given, all-in, in-all, any-in, in-any}
 use Rattle.editions.proofs.PlanLemmas.NextKeys.{all-keys}

@@ -23,7 +23,7 @@ use Rattle.issue_keys.specs.Keys.{id_of}
 use Rattle.issue_drafts.specs.WorkKeys.{Keys, all_keys, key_named}
 use Rattle.issue_drafts.specs.IssueInput.{IssueInput}
 use Rattle.issue_drafts.specs.Publishers.{is_key, name_at, made_uri}
-use Rattle.issue_drafts.specs.Drafts.{Draft, certificate_draft, roa_draft, crl_draft, manifest_draft, drafts, manifests}
+use Rattle.issue_drafts.specs.Drafts.{Draft, Kind, certificate_draft, roa_draft, crl_draft, manifest_draft, drafts, manifests}
 use Rattle.issue_drafts.specs.Drafts.Kind.{Certificate, Roa, Crl, Manifest}
 use Rattle.issue_plan.specs.declared.keys.NextKey.{NextKey}
 use Rattle.issue_plan.specs.Keys as plan
@@ -136,16 +136,20 @@ pub record HasIssuer (plan_input : PlanInput) (ks : List KeyRow) (k : KeyRow) : 
 pub record HasCert (plan_input : PlanInput) (ks : List KeyRow) (k : KeyRow) : Type 0 where
   pub draft : Draft
   pub is : cert_for plan_input ks k ≡ Some draft
+  pub held : Resources
+  pub kind : draft.kind ≡ Certificate k held
   pub anchor : k.desk ≡ 0 → draft.uri ≡ anchor_uri plan_input.site
   pub below : k.desk ≢ 0
       → (parent : List ℕ) × (parent_of (slice_get plan_input.basis.configs k.desk) ≡ Some parent)
       × IsListed plan_input.basis.configs parent × (draft.uri ≡ cert_uri plan_input.site parent (id_of k))
 
 -- A key's CRL, or its manifest, at the URI of its authority's name and its identifier.
-pub record HasPoint (plan_input : PlanInput) (given : Option Draft) (uri_of : List ℕ → List ℕ → List ℕ) (k : KeyRow)
-    : Type 0 where
+pub record HasPoint (plan_input : PlanInput) (given : Option Draft) (of : Kind) (uri_of : List ℕ → List ℕ → List ℕ)
+    (k : KeyRow) : Type 0 where
   pub draft : Draft
   pub is : given ≡ Some draft
+  pub issuer : draft.issuer ≡ k
+  pub kind : draft.kind ≡ of
   pub name : NameRow
   pub called : slice_get (names_of plan_input.basis.configs) k.desk ≡ Some name
   pub uri : draft.uri ≡ uri_of name.name (id_of k)
@@ -289,6 +293,8 @@ module _ (plan_input : PlanInput) (ks : List KeyRow) (known : AreKnown plan_inpu
               issuer = i.issuer;
               kind = Certificate subject set;
             }) o) (self-named k at)));
+        held = set;
+        kind = refl;
         anchor = λ anchor.
             ap (λ (x : KeyRow). made_uri plan_input.site names x k) (i.own anchor)
             ∙ ap (λ (b : Bool). cond b (anchor_uri plan_input.site) (cert_uri plan_input.site (name_at names k.desk) (id_of k)))
@@ -308,7 +314,7 @@ module _ (plan_input : PlanInput) (ks : List KeyRow) (known : AreKnown plan_inpu
             );
       }
 
-  pub crl-of-key : (k : KeyRow) → In k ks → HasPoint plan_input (crl_for plan_input ks k) (crl_uri plan_input.site) k
+  pub crl-of-key : (k : KeyRow) → In k ks → HasPoint plan_input (crl_for plan_input ks k) Crl (crl_uri plan_input.site) k
   crl-of-key k at =
       let d = desk-of-key k at in
       record {
@@ -318,13 +324,15 @@ module _ (plan_input : PlanInput) (ks : List KeyRow) (known : AreKnown plan_inpu
           issuer = issuer;
           kind = Crl;
         }) o) (self-named k at);
+        issuer = refl;
+        kind = refl;
         name = d.0;
         called = d.1.named;
         uri = ap (λ (n : List ℕ). crl_uri plan_input.site n (id_of k)) (name-is k.desk k.desk d.0 refl d.1.named);
       }
 
   pub manifest-of-key : (k : KeyRow) → In k ks
-      → HasPoint plan_input (manifest_for plan_input ks k) (manifest_uri plan_input.site) k
+      → HasPoint plan_input (manifest_for plan_input ks k) Manifest (manifest_uri plan_input.site) k
   manifest-of-key k at =
       let d = desk-of-key k at in
       record {
@@ -334,6 +342,8 @@ module _ (plan_input : PlanInput) (ks : List KeyRow) (known : AreKnown plan_inpu
           issuer = issuer;
           kind = Manifest;
         }) o) (self-named k at);
+        issuer = refl;
+        kind = refl;
         name = d.0;
         called = d.1.named;
         uri = ap (λ (n : List ℕ). manifest_uri plan_input.site n (id_of k)) (name-is k.desk k.desk d.0 refl d.1.named);

@@ -17,6 +17,7 @@ use Rattle.entitle.specs.Certified.{names_of}
 use Rattle.key_roll.specs.declared.rows.KeyRow.{KeyRow}
 use Rattle.issue_keys.specs.Keys.{id_of}
 use Rattle.issue_drafts.specs.Drafts.{Draft}
+use Rattle.issue_drafts.specs.Drafts.Kind.{Crl, Manifest}
 use Rattle.issue_plan.specs.Keys.{next_keys}
 use Rattle.issue_plan.specs.Wanted.{PlanInput}
 use Rattle.issue_values.specs.UriEndings.{last_byte}
@@ -62,14 +63,14 @@ module _ (plan_input : PlanInput) (ks : List KeyRow) (known : AreKnown plan_inpu
       (w.0, w.1, h, same_Some h.draft d (sym h.is ∙ w.2))
 
   pub crl-from : (d : Draft) → In d (all_crls plan_input ks)
-      → (k : KeyRow) × In k ks × (h : HasPoint plan_input (crl_for plan_input ks k) (crl_uri plan_input.site) k) × (h.draft ≡ d)
+      → (k : KeyRow) × In k ks × (h : HasPoint plan_input (crl_for plan_input ks k) Crl (crl_uri plan_input.site) k) × (h.draft ≡ d)
   crl-from d at =
       let w = filter-map-in (crl_for plan_input ks) d ks at in
       let h = crl-of-key plan_input ks known w.0 w.1 in
       (w.0, w.1, h, same_Some h.draft d (sym h.is ∙ w.2))
 
   pub manifest-from : (d : Draft) → In d (all_manifests plan_input ks)
-      → (k : KeyRow) × In k ks × (h : HasPoint plan_input (manifest_for plan_input ks k) (manifest_uri plan_input.site) k) × (h.draft ≡ d)
+      → (k : KeyRow) × In k ks × (h : HasPoint plan_input (manifest_for plan_input ks k) Manifest (manifest_uri plan_input.site) k) × (h.draft ≡ d)
   manifest-from d at =
       let w = filter-map-in (manifest_for plan_input ks) d ks at in
       let h = manifest-of-key plan_input ks known w.0 w.1 in

@@ -114,6 +114,15 @@ rise-twos {X} at (x ∷ xs) rise = (
   rise-twos at xs (sorted_tail (on at uri_cmp) x xs rise),
 )
 
+-- What tells things apart tells which they are.
+pub one-of : {X Y : Type 0} (f : X → Y) (xs : List X) (a b : X) → Twos (λ x y. f x ≢ f y) xs → In a xs → In b xs
+    → f a ≡ f b → a ≡ b
+one-of f [] a b twos at there same = absurd at
+one-of f (x ∷ xs) a b twos (inl p) (inl q) same = sym p ∙ q
+one-of f (x ∷ xs) a b twos (inl p) (inr q) same = absurd (twos.0 b q (ap f p ∙ same))
+one-of f (x ∷ xs) a b twos (inr p) (inl q) same = absurd (twos.0 a p (ap f q ∙ sym same))
+one-of f (x ∷ xs) a b twos (inr p) (inr q) same = one-of f xs a b twos.1 p q same
+
 -- ---- side by side
 
 pub right-of : {X Y : Type 0} (R : X → Y → Type 0) (xs : List X) (ys : List Y) (x : X) → Sides R xs ys → In x xs

@@ -27,8 +27,10 @@ use Rattle.issue_plan.specs.declared.keys.NextKey.{NextKey}
 use Rattle.issue_plan.specs.Keys as plan
 use Rattle.issue_plan.specs.Keys.{next_keys}
 use Rattle.key_roll.specs.Roles.{is_role}
-use Rattle.issue_plan.specs.Wanted.{PlanInput, Certificate, Roa, Point, fits, current_of, current_at, parents_desk, issuer_of, certificate, certificate_of, roa_by, roa_of, point_of, wanted_certificates, wanted_roas, wanted_points}
-use Rattle.issue_plan.specs.Work.{IsWork, new_key_by, new_key_of, goes_on, is_live}
+use Rattle.issue_plan.specs.Wanted.{PlanInput, Certificate, Roa, Point, current_of, current_at, parents_desk, issuer_of, certificate, certificate_of, roa_by, roa_of, point_of, wanted_certificates, wanted_roas, wanted_points}
+use Rattle.issue_plan.specs.Keys.{is_live}
+use Rattle.issue_plan.specs.Fits.{fits}
+use Rattle.issue_plan.specs.Work.{IsWork, new_key_by, new_key_of, goes_on}
 use Rattle.issue_make.specs.CanMake.{IsThere}
 use Rattle.editions.specs.inner.PlannedWork.{AreThere}
 use Rattle.items.specs.laws.AmongLaws.{In, in-front, in-map, in-filter, filter-in, in-filter-map, all-given, all-in, in-all, in-permuted, found-in, any-in, in-any, found-some}

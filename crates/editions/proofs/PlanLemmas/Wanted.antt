@@ -15,6 +15,7 @@ use Rattle.key_roll.specs.declared.work.KeyName.{KeyName}
 use Rattle.key_roll.specs.declared.work.KeyName.TheVariants.{Live, Fresh}
 use Rattle.issue_keys.specs.Keys.{id_of}
 use Rattle.issue_drafts.specs.Drafts.{Draft}
+use Rattle.issue_drafts.specs.Drafts.Kind.{Crl, Manifest}
 use Rattle.issue_plan.specs.declared.keys.NextKey.{NextKey}
 use Rattle.issue_plan.specs.Keys.{next_keys}
 use Rattle.issue_plan.specs.Wanted.{PlanInput, parent_of}
@@ -72,7 +73,7 @@ module _ (plan_input : PlanInput) (ks : List KeyRow) (known : AreKnown plan_inpu
     refl,
   )
 
-  crl-put : (k : KeyRow) → In k ks → (h : HasPoint plan_input (crl_for plan_input ks k) (crl_uri site) k) → IsPut h.draft.uri
+  crl-put : (k : KeyRow) → In k ks → (h : HasPoint plan_input (crl_for plan_input ks k) Crl (crl_uri site) k) → IsPut h.draft.uri
   crl-put k at h = (
     h.draft,
     in-front h.draft ((all_certs plan_input ks ++ all_roas plan_input ks) ++ all_crls plan_input ks) (all_manifests plan_input ks)
@@ -81,7 +82,7 @@ module _ (plan_input : PlanInput) (ks : List KeyRow) (known : AreKnown plan_inpu
     refl,
   )
 
-  manifest-put : (k : KeyRow) → In k ks → (h : HasPoint plan_input (manifest_for plan_input ks k) (manifest_uri site) k)
+  manifest-put : (k : KeyRow) → In k ks → (h : HasPoint plan_input (manifest_for plan_input ks k) Manifest (manifest_uri site) k)
       → IsPut h.draft.uri
   manifest-put k at h = (
     h.draft,
@@ -132,10 +133,10 @@ module _ (plan_input : PlanInput) (ks : List KeyRow) (known : AreKnown plan_inpu
       → In uri (point_uris site (slice_get names next.desk) next.name) → IsPut uri
   wanted-point next k at beside uri there = by (slice_get names next.desk) next.name refl beside.named there
     where
-      c : HasPoint plan_input (crl_for plan_input ks k) (crl_uri site) k
+      c : HasPoint plan_input (crl_for plan_input ks k) Crl (crl_uri site) k
       c = crl-of-key plan_input ks known k at
 
-      m : HasPoint plan_input (manifest_for plan_input ks k) (manifest_uri site) k
+      m : HasPoint plan_input (manifest_for plan_input ks k) Manifest (manifest_uri site) k
       m = manifest-of-key plan_input ks known k at
 
       by : (o : Option NameRow) (name : KeyName) → slice_get names next.desk ≡ o → IsNamed plan_input.basis.rows k name

@@ -6,7 +6,8 @@ use Rattle.res_sets.specs.declared.holdings.Resources.{Resources}
 use Rattle.key_roll.specs.declared.rows.KeyRow.{KeyRow}
 use Rattle.issue_plan.specs.Keys.{next_keys}
 use Rattle.editions.specs.Due as due
-use Rattle.editions.specs.Due.{is_due, grows, steps_next}
+use Rattle.issue_plan.specs.Due.{is_due}
+use Rattle.editions.specs.Due.{grows, steps_next}
 use Rattle.editions.specs.Edition.{State, cut_at}
 use Rattle.editions.specs.Step.{Premises, basis_at}
 use Rattle.editions.specs.PublishedState.{PublishedStateValue}

@@ -129,6 +129,7 @@ module _ (m : Issuance) (more : Vouched) (vouches : VouchesMore m.vouched more) 
 
   pub set_then : IsNewSet m → IsNewSet at_more
   set_then set = record {
+    apart = set.apart;
     places = set.places;
     certificates = all_done (keeps_certificate m.plan_input m.keys)
         (certificate_draft (whole m.plan_input m.keys) (there m.keys))

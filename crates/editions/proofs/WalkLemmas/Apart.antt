@@ -30,9 +30,10 @@ use Rattle.issue_keys.specs.Keys.{id_of}
 use Rattle.issue_drafts.specs.Publishers.{name_at, is_key}
 use Rattle.editions.specs.Held.{IsHeld}
 use Rattle.editions.specs.Keys.{AreNext}
-use Rattle.editions.specs.Objects.{Issuance, IsNewSet}
+use Rattle.editions.specs.Objects.{Issuance}
+use Rattle.editions.proofs.WalkLemmas.Serving.{IsServed}
 use Rattle.editions.specs.Names.{AreTree}
-use Rattle.items.specs.laws.AmongLaws.{In, in-parts, in-behind, in-map, map-in, filter-in, flat-map-in, any-in}
+use Rattle.items.specs.laws.AmongLaws.{In, in-contains, in-parts, in-behind, in-map, map-in, filter-in, flat-map-in, any-in}
 use Rattle.items.specs.laws.PairLaws.{Twos}
 use Rattle.editions.proofs.WalkLemmas.Elements.{one-of, pairs-twos, twos-map, twos-from, each-from, each-in}
 use Rattle.editions.proofs.WalkLemmas.Moved.{filter-all, classes, twos-moved, twos-front, twos-across, twos-flat}
@@ -42,8 +43,8 @@ use Rattle.editions.proofs.WalkLemmas.Levelled.{name-is}
 use Rattle.editions.proofs.WalkLemmas.Inside.{HaveSpans, AreInsides}
 use Rattle.editions.proofs.WalkLemmas.Point.{crl_listed}
 use Rattle.editions.proofs.WalkLemmas.Walks.{AreApart}
-use Rattle.editions.proofs.WalkLemmas.Seats as seats
-use Rattle.editions.proofs.WalkLemmas.Stands as stands
+use Rattle.editions.proofs.WalkLemmas.Homes as homes
+use Rattle.editions.proofs.WalkLemmas.KeyDrafts as drawn
 use Rattle.editions.proofs.WalkLemmas.Files as files
 use Rattle.editions.proofs.WalkLemmas.Build as build
 use Rattle.editions.proofs.WalkLemmas.Build.{AreKinds}
@@ -65,13 +66,13 @@ module _ (m : Issuance) (tree : AreTree (names_of m.plan_input.basis.configs))
     (are : AreCertified m.plan_input.basis.configs m.plan_input.basis.sets)
     (before : AllPairs (λ a b. id_of a ≢ id_of b) m.plan_input.basis.rows)
     (next : AreNext m.plan_input.basis.rows (next_keys m.plan_input.basis) m.keys)
-    (set : IsNewSet m) (anchor : List ℕ) (owes : AreOwed m.plan_input.basis.configs m.plan_input.owed)
+    (set : IsServed m) (anchor : List ℕ) (owes : AreOwed m.plan_input.basis.configs m.plan_input.owed)
     (apart : (site : Bases) (a f : List ℕ) → anchor_uri site ≢ file_uri site a f) (kinds : AreKinds)
     (spans : HaveSpans) (insides : AreInsides)
     (folders : (k : KeyRow) → In k m.keys → is_folder m.plan_input.site
     (folder_of m.plan_input.site (name_at (names_of m.plan_input.basis.configs) k.desk)) ≡ true)
-    (unrevoked : (k : KeyRow) → In k m.keys → (c : SignedCert) → IsHeld m.new (id_of k) c
-    → is_revoked (map crl_entry (m.entries k)) c.cert.serial ≡ false)
+    (unrevoked : (k : KeyRow) (at : In k m.keys) (c : SignedCert) → IsHeld m.new (id_of k) c
+    → is_revoked (map crl_entry (set.points k (in-contains k m.keys at)).revoked) c.cert.serial ≡ false)
     (told : AreTold)
     (plain : (k : KeyRow) → In k m.keys
     → IsName (name_at (names_of m.plan_input.basis.configs) k.desk)) where
@@ -119,7 +120,7 @@ module _ (m : Issuance) (tree : AreTree (names_of m.plan_input.basis.configs))
 
   cert-at : (k c : K) → is_below k c ≡ true → key_uri c ≡ cert_uri site (name k.0) (id_of c.0)
   cert-at k c so =
-      seats.certificate-at m tree are before next set c.0 c.1
+      homes.certificate-at m tree are before next c.0 c.1
       ∙ files.below-place m tree are before next set anchor owes apart k c so
 
   roa-at : (k : K) (o : O) → is_under k o ≡ true → place o ≡ roa_uri site (name k.0) o.0.origin
@@ -172,8 +173,8 @@ module _ (m : Issuance) (tree : AreTree (names_of m.plan_input.basis.configs))
   module _ (k l : K) (other : id_of k.0 ≢ id_of l.0) where
     desks : name k.0 ≡ name l.0 → k.0.desk ≡ l.0.desk
     desks same =
-        let one = seats.placed m tree are before next set k.0 k.1 in
-        let two = seats.placed m tree are before next set l.0 l.1 in
+        let one = homes.placed m tree are before next k.0 k.1 in
+        let two = homes.placed m tree are before next l.0 l.1 in
         one-place names k.0.desk l.0.desk one.name two.name tree.apart one.is.named two.is.named
         (sym (name-is m tree are before next set k) ∙ (same ∙ name-is m tree are before next set l))
 
@@ -194,16 +195,16 @@ module _ (m : Issuance) (tree : AreTree (names_of m.plan_input.basis.configs))
         let first = files.under-is m tree are before next set anchor owes apart k o a in
         let second = files.under-is m tree are before next set anchor owes apart l p b in
         let desk-k : o.0.desk ≡ k.0.desk =
-        sym (stands.signer-desk m tree are before next set anchor owes o.0 o.1)
+        sym (drawn.signer-desk m tree are before next owes o.0 o.1)
         ∙ ap (λ (r : KeyRow). r.desk) first in
         let desk-l : p.0.desk ≡ l.0.desk =
-        sym (stands.signer-desk m tree are before next set anchor owes p.0 p.1)
+        sym (drawn.signer-desk m tree are before next owes p.0 p.1)
         ∙ ap (λ (r : KeyRow). r.desk) second in
         let desk : o.0.desk ≡ p.0.desk = desk-k ∙ (desks same ∙ sym desk-l) in
         let signers : signer o ≡ signer p = same_Some (signer o) (signer p)
-        (sym (stands.signer-current m tree are before next set anchor owes o.0 o.1)
+        (sym (drawn.signer-current m tree are before next owes o.0 o.1)
         ∙ (ap (λ (d : ℕ). row_of m.keys d Current) desk
-        ∙ stands.signer-current m tree are before next set anchor owes p.0 p.1)) in
+        ∙ drawn.signer-current m tree are before next owes p.0 p.1)) in
         other (ap id_of (sym first ∙ (signers ∙ second)))
 
     clash : (uri : List ℕ) (one : IsAt k uri) (two : IsAt l uri) → ⊥
@@ -437,7 +438,7 @@ module _ (m : Issuance) (tree : AreTree (names_of m.plan_input.basis.configs))
   pub issued : (o : O) → In o (members m.plan_input.owed)
       → (k : K) × In k (members m.keys) × (is_under k o ≡ true)
   issued o at =
-      let e = member-of (signer o) m.keys (stands.signer-at m tree are before next set anchor owes o.0 o.1) in (
+      let e = member-of (signer o) m.keys (drawn.signer-at m tree are before next owes o.0 o.1) in (
         e.0,
         e.1,
         ap (is_key (signer o)) e.2 ∙ (bytes_eq-Decides (id_of (signer o)) (id_of (signer o))).1 refl,
@@ -478,8 +479,8 @@ module _ (m : Issuance) (tree : AreTree (names_of m.plan_input.basis.configs))
       (ap (λ (y : Yielded). y.entry.address) e) (ap (λ (y : Yielded). y.entry.len) e) in
       let origin = same_origin a.0.origin b.0.origin prefix (ap (λ (y : Yielded). y.entry.max) e)
       (ap (λ (y : Yielded). y.asn) e) in
-      let desk-a = stands.signer-desk m tree are before next set anchor owes a.0 a.1 in
-      let desk-b = stands.signer-desk m tree are before next set anchor owes b.0 b.1 in
+      let desk-a = drawn.signer-desk m tree are before next owes a.0 a.1 in
+      let desk-b = drawn.signer-desk m tree are before next owes b.0 b.1 in
       let folder : folder_of site (name (signer a)) ≡ folder_of site (name (signer b)) =
       ap (λ (d : ℕ). folder_of site (name_at names d)) desk-a
       ∙ (ap (λ (y : Yielded). y.folder) e

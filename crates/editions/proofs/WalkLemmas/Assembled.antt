@@ -1,5 +1,5 @@
 -- The set of an edition is published.
-use Rattle.std.proofs.Common.{◌≡◌, ◌≢◌, ℕ, Bool, true, false, cond, Option, Some, List, [], ◌∷◌, ◌++◌, length, map, option_map, All, AllPairs, IsSome, refl, sym, ap, subst, ◌∙◌, inl, inr}
+use Rattle.std.proofs.Common.{◌≡◌, ◌≢◌, ℕ, Bool, true, false, cond, Option, Some, List, [], ◌∷◌, ◌++◌, map, option_map, All, AllPairs, IsSome, refl, sym, ap, subst, ◌∙◌, inl, inr}
 use Rattle.std.specs.Ordering.{is_eq}
 use Rattle.std.proofs.lemmas.Cmp.{nat_list_cmp_total, tied_itself}
 use Rattle.std.proofs.lemmas.List.Sums.{list_all-from_AllPass}
@@ -13,7 +13,8 @@ use Rattle.cert_obj.specs.Values.{SignedCert}
 use Rattle.pub_set.specs.declared.objects.Object.{Object}
 use Rattle.pub_set.specs.Objects.{content_at, is_same, IsAscending}
 use Rattle.rp_rules.specs.Authorities.{is_folder}
-use Rattle.rp_rules.specs.Certificates.{is_revoked}
+use Rattle.rp_rules.specs.Certificates.{WalkContext, is_revoked}
+use Rattle.signer_api.specs.declared.values.PublicKey.{PublicKey}
 use Rattle.rp_rules.specs.Walk.{walk}
 use Rattle.rp_rules.specs.Sound.{is_visited}
 use Rattle.issue_values.specs.Bodies.{crl_entry}
@@ -22,16 +23,19 @@ use Rattle.issue_keys.specs.Keys.{id_of}
 use Rattle.issue_drafts.specs.Publishers.{name_at}
 use Rattle.editions.specs.Edition.{Edition, set_after}
 use Rattle.editions.specs.Held.{IsHeld, HaveOwnSerials}
-use Rattle.editions.specs.Superseded.{AreSuperseded}
 use Rattle.editions.specs.Objects.{Issuance}
-use Rattle.editions.specs.Wanted.{keeps_point}
 use Rattle.editions.specs.Step.{Premises, IsStep, AreSteps, counted, configs_at}
+use Rattle.editions.specs.MadeIn.{issuance_of}
 use Rattle.editions.specs.Published.{looking, yielded_for, IsPublished}
 use Rattle.editions.specs.Names.{AreTree}
-use Rattle.items.specs.laws.AmongLaws.{In, in-all, all-in}
-use Rattle.editions.proofs.WalkLemmas.Rows.{issuance, rows-apart, last-step, current-kept}
+use Rattle.items.specs.laws.AmongLaws.{In, all-in, in-contains}
+use Rattle.editions.proofs.ObjectLemmas.Lives.{counted-same}
+use Rattle.editions.proofs.WalkLemmas.Rows.{rows-apart, last-step, current-kept}
 use Rattle.editions.proofs.WalkLemmas.KeyTree.{in-tree}
-use Rattle.editions.proofs.WalkLemmas.Serials.{unrevoked}
+use Rattle.editions.proofs.PlanLemmas.Told as plans
+use Rattle.editions.proofs.WalkLemmas.Serving.{IsServed}
+use Rattle.editions.proofs.WalkLemmas.Serves.{all-served}
+use Rattle.editions.proofs.WalkLemmas.Revoked.{leaves-held}
 use Rattle.editions.proofs.WalkLemmas.Folders.{plain-folder, plain-name}
 use Rattle.editions.proofs.WalkLemmas.Inside.{HaveSpans, AreInsides}
 use Rattle.editions.proofs.WalkLemmas.Build.{AreKinds}
@@ -81,7 +85,7 @@ module _ (own : (premises : Premises) (editions : List Edition) (id : List ℕ) 
 
   -- What the edition is made of.
   abbrev m : Issuance
-  m = issuance premises last.0 editions edition step
+  m = issuance_of premises last.0 editions edition step
 
   before : AllPairs (λ a b. id_of a ≢ id_of b) m.plan_input.basis.rows
   before = rows-apart premises editions edition steps
@@ -98,33 +102,59 @@ module _ (own : (premises : Premises) (editions : List Edition) (id : List ℕ) 
       → is_folder m.plan_input.site (folder_of m.plan_input.site (name_at names k.desk)) ≡ true
   folders k at = plain-folder m.plan_input.site (name_at names k.desk) (plain-at k at)
 
-  not-revoked : (k : KeyRow) → In k m.keys → (c : SignedCert) → IsHeld m.new (id_of k) c
-      → is_revoked (map crl_entry (m.entries k)) c.cert.serial ≡ false
-  not-revoked k at =
-      unrevoked editions edition (id_of k) (m.entries k)
-      (own premises (editions ++ edition ∷ []) (id_of k) steps)
-      (in-all (λ (key : KeyRow). keeps_point m.plan_input m.keys key ≡ false
-      → AreSuperseded (editions ++ edition ∷ []) (length editions) (id_of key) (m.entries key))
-      k m.keys step.made.listed at refl)
+  -- What stands serves.
+  abbrev places : plans.AreTold
+  places = record {
+    anchor = apart;
+    certificates = told.certificates;
+    crls = told.crls;
+    manifests = told.manifests;
+    roas = told.roas;
+  }
 
-  walked : IsWalked (trees.s m tree step.made.certified before step.made.next step.made.set step.made.owes
+  abbrev ends : plans.HaveEnds
+  ends = record {
+    anchor = kinds.anchor;
+    certificates = kinds.certificates;
+    crls = kinds.crls;
+    manifests = kinds.manifests;
+    roas = kinds.roas;
+  }
+
+  served : IsServed m
+  served = all-served places ends premises editions last.0 edition step steps tree plain
+
+  not-revoked : (k : KeyRow) (at : In k m.keys) (c : SignedCert) → IsHeld m.new (id_of k) c
+      → is_revoked (map crl_entry (served.points k (in-contains k m.keys at)).revoked) c.cert.serial ≡ false
+  not-revoked = leaves-held own premises editions edition steps last.0 step served
+
+  walked : IsWalked (trees.s m tree step.made.certified before step.made.next served step.made.owes
       apart kinds spans insides folders not-revoked told plain-at) m.new
       (map (yielded_for m.plan_input.site names) m.plan_input.owed)
-  walked = trees.walked m tree step.made.certified before step.made.next step.made.set step.made.owes
+  walked = trees.walked m tree step.made.certified before step.made.next served step.made.owes
       apart kinds spans insides folders not-revoked told plain-at
 
   abbrev top : KeyRow
-  top = (levelled.top m tree step.made.certified before step.made.next step.made.set).0
+  top = (levelled.top m tree step.made.certified before step.made.next served).0
 
   abbrev anchor : KeyRow
   anchor = counted m.plan_input m.keys m.entries top
+
+  -- A look under that key.
+  abbrev looked : PublicKey → WalkContext
+  looked key = record {
+    vouched = premises.vouched;
+    anchor = key.bytes;
+    bases = premises.site;
+    moment = edition.moment;
+  }
 
   current : row_of edition.rows 0 Current ≡ Some anchor
   current =
       ap (λ (rows : List KeyRow). row_of rows 0 Current) step.made.rows
       ∙ (current-kept m.plan_input m.keys m.entries m.keys 0
       ∙ ap (option_map (counted m.plan_input m.keys m.entries))
-      (levelled.top-current m tree step.made.certified before step.made.next step.made.set))
+      (levelled.top-current m tree step.made.certified before step.made.next served))
 
   pub published : (objects : List Object) → IsAscending objects
       → ((uri : List ℕ) → content_at objects uri ≡ set_after (editions ++ edition ∷ []) uri)
@@ -139,7 +169,8 @@ module _ (own : (premises : Premises) (editions : List Edition) (id : List ℕ) 
         are = match_;
         visits = walked.visits;
         sound = record {
-          walk = ap (walk (looking premises edition anchor)) (sym same) ∙ walked.walked;
+          walk = ap (walk (looking premises edition anchor)) (sym same)
+              ∙ (ap (λ (key : PublicKey). walk (looked key) m.new) (counted-same m top).key ∙ walked.walked);
           all = list_all-from_AllPass (is_visited walked.visits) objects (all-in (λ (o : Object).
               is_visited walked.visits o ≡ true) objects (λ o at.
               walked.all o.uri (subst (λ (bs : Option (List ℕ)). IsSome bs) (match_ o.uri)

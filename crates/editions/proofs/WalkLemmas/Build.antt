@@ -29,15 +29,14 @@ use Rattle.issue_values.specs.Bodies.{crl_entry}
 use Rattle.issue_plan.specs.Keys.{next_keys}
 use Rattle.issue_plan.specs.Uris.{roa_file}
 use Rattle.issue_keys.specs.Keys.{id_of}
-use Rattle.issue_drafts.specs.Publishers as publishers
 use Rattle.issue_drafts.specs.Publishers.{name_at, is_key}
-use Rattle.issue_sign.specs.Objects.{number_of}
 use Rattle.editions.specs.Held.{IsHeld}
 use Rattle.editions.specs.Keys.{AreNext}
-use Rattle.editions.specs.Objects.{Issuance, IsNewSet}
+use Rattle.editions.specs.Objects.{Issuance}
+use Rattle.editions.proofs.WalkLemmas.Serving.{IsServed, ServesPoint}
 use Rattle.editions.specs.Published.{yielded_for}
 use Rattle.editions.specs.Names.{AreTree}
-use Rattle.items.specs.laws.AmongLaws.{In, in-parts, map-in}
+use Rattle.items.specs.laws.AmongLaws.{In, in-parts, map-in, in-contains}
 use Rattle.items.specs.laws.PairLaws.{Twos}
 use Rattle.editions.proofs.WalkLemmas.Moved.{lifted}
 use Rattle.editions.proofs.WalkLemmas.Members.{Member, members}
@@ -49,7 +48,9 @@ use Rattle.editions.proofs.WalkLemmas.Roas.{IsOwedRoa, roa-accepted, roa-yields,
 use Rattle.editions.proofs.WalkLemmas.Children.{HasCertificate, authority-accepted, key-kind}
 use Rattle.editions.proofs.WalkLemmas.Listed.{IsBeside, other, certificate-beside, roa-beside, first-is, others-left, names-apart, is-listed}
 use Rattle.editions.proofs.WalkLemmas.Points.{file_by, ArePoints}
+use Rattle.editions.proofs.WalkLemmas.Homes as homes
 use Rattle.editions.proofs.WalkLemmas.Seats as seats
+use Rattle.editions.proofs.WalkLemmas.KeyDrafts as drawn
 use Rattle.editions.proofs.WalkLemmas.Stands as stands
 use Rattle.editions.proofs.WalkLemmas.Files as files
 
@@ -65,13 +66,13 @@ module _ (m : Issuance) (tree : AreTree (names_of m.plan_input.basis.configs))
     (are : AreCertified m.plan_input.basis.configs m.plan_input.basis.sets)
     (before : AllPairs (λ a b. id_of a ≢ id_of b) m.plan_input.basis.rows)
     (next : AreNext m.plan_input.basis.rows (next_keys m.plan_input.basis) m.keys)
-    (set : IsNewSet m) (anchor : List ℕ) (owes : AreOwed m.plan_input.basis.configs m.plan_input.owed)
+    (set : IsServed m) (anchor : List ℕ) (owes : AreOwed m.plan_input.basis.configs m.plan_input.owed)
     (apart : (site : Bases) (a f : List ℕ) → anchor_uri site ≢ file_uri site a f) (kinds : AreKinds)
     (spans : HaveSpans) (insides : AreInsides)
     (folders : (k : KeyRow) → In k m.keys → is_folder m.plan_input.site
     (folder_of m.plan_input.site (name_at (names_of m.plan_input.basis.configs) k.desk)) ≡ true)
-    (unrevoked : (k : KeyRow) → In k m.keys → (c : SignedCert) → IsHeld m.new (id_of k) c
-    → is_revoked (map crl_entry (m.entries k)) c.cert.serial ≡ false) where
+    (unrevoked : (k : KeyRow) (at : In k m.keys) (c : SignedCert) → IsHeld m.new (id_of k) c
+    → is_revoked (map crl_entry (set.points k (in-contains k m.keys at)).revoked) c.cert.serial ≡ false) where
   abbrev pub K : Type 0
   K = Member m.keys
 
@@ -106,10 +107,14 @@ module _ (m : Issuance) (tree : AreTree (names_of m.plan_input.basis.configs))
   of_origin = files.of_origin m tree are before next set anchor owes apart
 
   abbrev held : K → Resources
-  held c = seats.held m tree are before next set c.0 c.1
+  held c = homes.held m tree are before next c.0 c.1
 
   abbrev serial : K → ℕ
   serial c = seats.serial m tree are before next set c.0 c.1
+
+  -- When it was made.
+  abbrev made : K → ℕ
+  made c = seats.made m tree are before next set c.0 c.1
 
   abbrev pub value : K → CertValue
   value = files.value m tree are before next set anchor owes apart
@@ -119,13 +124,17 @@ module _ (m : Issuance) (tree : AreTree (names_of m.plan_input.basis.configs))
 
   -- ---- points
 
-  abbrev pub crl : (k : K) → HasCrl s (seat k.0) m.new (number_of k.0) (m.entries k.0)
+  abbrev pub of_point : (k : K) → ServesPoint m k.0
+  of_point k = stands.point m tree are before next set anchor k.0 k.1
+
+  abbrev pub crl : (k : K) → HasCrl s (seat k.0) m.new (of_point k).made (of_point k).number (of_point k).revoked
   crl k = stands.crl-stands m tree are before next set anchor k.0 k.1
 
   abbrev pub listed_files : K → List File
-  listed_files k = (stands.manifest_object m tree are before next set anchor k.0 k.1).files
+  listed_files k = (of_point k).files
 
-  pub manifest : (k : K) → HasManifest s (seat k.0) m.new (number_of k.0) (m.entries k.0) (listed_files k)
+  pub manifest : (k : K) → HasManifest s (seat k.0) m.new (of_point k).made (of_point k).number (of_point k).revoked
+      (listed_files k)
   manifest k = stands.manifest-stands m tree are before next set anchor k.0 k.1 (unrevoked k.0 k.1)
 
   abbrev below : K → List K
@@ -153,7 +162,7 @@ module _ (m : Issuance) (tree : AreTree (names_of m.plan_input.basis.configs))
       subst (λ (file : File). IsPermutation (rest k ++ file ∷ []) (listed_files k)) (crl-same k one.0 one.2)
       (subst (λ (l : List File). IsPermutation l (listed_files k))
       (files.files-are m tree are before next set anchor owes apart k)
-      (stands.manifest_object m tree are before next set anchor k.0 k.1).listed.all)
+      (of_point k).listed.all)
 
   key-beside : (c : K) → IsBeside (of_key c)
   key-beside c = certificate-beside (of_key c)
@@ -231,22 +240,22 @@ module _ (m : Issuance) (tree : AreTree (names_of m.plan_input.basis.configs))
       → is_among seen (crl_uri_of (authority k)) ≡ false
       → accepted_point s m.new (authority k) seen ≡ Ok (point_of k)
   accepted k seen fresh fresh_crl =
-      let rising = (stands.manifest_object m tree are before next set anchor k.0 k.1).listed.rising in
-      point-accepted s (seat k.0) (value k) (sets_of (held k)) m.new (number_of k.0) (m.entries k.0)
-      (listed_files k) (crl k) (manifest k) (other-places k)
+      let rising = (of_point k).listed.rising in
+      point-accepted s (seat k.0) (value k) (sets_of (held k)) m.new (of_point k).made (of_point k).number
+      (of_point k).revoked (listed_files k) (crl k) (manifest k) (of_point k).time (other-places k)
       (is-listed s (seat k.0) (value k) (sets_of (held k)) (rest k)
       (crl_listed (seat k.0) (crl k).bytes) (listed_files k) (moved k) rising (beside k) (crl-is k) (free k)
-      (number_of k.0))
+      (of_point k).made (of_point k).number)
       (first-is s (seat k.0) (value k) (sets_of (held k)) (rest k)
       (crl_listed (seat k.0) (crl k).bytes) (listed_files k) (moved k) rising (beside k) (crl-is k) (free k)
-      (number_of k.0))
+      (of_point k).made (of_point k).number)
       seen fresh fresh_crl
 
   pub listed-apart : (k : K) → Twos (λ a b. a ≢ b) (map (λ (f : File). f.0) (listed_files k))
   listed-apart k =
       names-apart s (seat k.0) (value k) (sets_of (held k)) (rest k)
       (crl_listed (seat k.0) (crl k).bytes) (listed_files k) (moved k)
-      (stands.manifest_object m tree are before next set anchor k.0 k.1).listed.rising
+      (of_point k).listed.rising
       (beside k) (crl-is k) (free k)
 
   -- ---- what a point lists
@@ -261,7 +270,7 @@ module _ (m : Issuance) (tree : AreTree (names_of m.plan_input.basis.configs))
 
   others : (k : K) → IsPermutation (rest k) (other_files (point_of k))
   others k =
-      let rising = (stands.manifest_object m tree are before next set anchor k.0 k.1).listed.rising in
+      let rising = (of_point k).listed.rising in
       subst (IsPermutation (rest k))
       (sym (ap (λ (body : Manifest). filter other (files_of body)) (manifest k).body))
       (others-left s (seat k.0) (value k) (sets_of (held k)) (rest k)
@@ -278,10 +287,10 @@ module _ (m : Issuance) (tree : AreTree (names_of m.plan_input.basis.configs))
   held-says : (c : K) → (seats.is_object m tree are before next set c.0 c.1).certificate.cert.held
       ≡ Some (sets_of (held c))
   held-says c =
-      ap (λ (v : CertValue). v.held) (seats.is_object m tree are before next set c.0 c.1).issued.says
+      ap (λ (v : CertValue). v.held) (seats.is_object m tree are before next set c.0 c.1).says
       ∙ by (is_key (issuer c) c.0)
-      (anchor_certificate site m.plan_input.basis.moment (publishing (seat (issuer c))) (held c) (serial c))
-      (authority_certificate site m.plan_input.basis.moment (publishing (seat (issuer c)))
+      (anchor_certificate site (made c) (publishing (seat (issuer c))) (held c) (serial c))
+      (authority_certificate site (made c) (publishing (seat (issuer c)))
       (publishing (seat c.0)) (held c) (serial c)) refl refl
     where
       by : (b : Bool) (one two : CertValue) → one.held ≡ Some (sets_of (held c))
@@ -297,7 +306,7 @@ module _ (m : Issuance) (tree : AreTree (names_of m.plan_input.basis.configs))
       (seats.is_object m tree are before next set c.0 c.1).certificate
       (seats.is_object m tree are before next set c.0 c.1).read)
 
-  entries-are : (k : K) → map crl_entry (m.entries k.0) ≡ (crl k).crl.crl.entries
+  entries-are : (k : K) → map crl_entry (of_point k).revoked ≡ (crl k).crl.crl.entries
   entries-are k = sym (ap (λ (v : CrlValue). v.entries) (crl k).says)
 
   below-is : (k c : K) → is_below k c ≡ true → (issuer c ≡ k.0) × (c.0.desk ≢ 0)
@@ -307,12 +316,12 @@ module _ (m : Issuance) (tree : AreTree (names_of m.plan_input.basis.configs))
   pub cert-at : (k c : K) → is_below k c ≡ true → (seat c.0).certificate
       ≡ cert_uri site (name_at (names_of m.plan_input.basis.configs) k.0.desk) (id_of c.0)
   cert-at k c so =
-      seats.certificate-at m tree are before next set c.0 c.1
+      homes.certificate-at m tree are before next c.0 c.1
       ∙ files.below-place m tree are before next set anchor owes apart k c so
 
   -- What it says, below that key.
   abbrev value_below : K → K → CertValue
-  value_below k c = authority_certificate site m.plan_input.basis.moment (publishing (seat k.0))
+  value_below k c = authority_certificate site (made c) (publishing (seat k.0))
       (publishing (seat c.0)) (held c) (serial c)
 
   abbrev has-certificate : (k c : K) → is_below k c ≡ true
@@ -322,27 +331,29 @@ module _ (m : Issuance) (tree : AreTree (names_of m.plan_input.basis.configs))
       let left = seats.left m tree are before next set c.0 c.1 in
       let object = seats.is_object m tree are before next set c.0 c.1 in
       let with : Bool → CertValue = λ b. cond b
-      (anchor_certificate site m.plan_input.basis.moment (publishing (seat (issuer c))) (held c) (serial c))
-      (authority_certificate site m.plan_input.basis.moment (publishing (seat (issuer c)))
+      (anchor_certificate site (made c) (publishing (seat (issuer c))) (held c) (serial c))
+      (authority_certificate site (made c) (publishing (seat (issuer c)))
       (publishing (seat c.0)) (held c) (serial c)) in
       let says : object.certificate.cert ≡ value_below k c =
-      object.issued.says
-      ∙ (ap with (seats.apart-issuer m tree are before next set c.0 c.1 is.1)
-      ∙ ap (λ (r : KeyRow). authority_certificate site m.plan_input.basis.moment (publishing (seat r))
+      object.says
+      ∙ (ap with (homes.apart-issuer m tree are before next c.0 c.1 is.1)
+      ∙ ap (λ (r : KeyRow). authority_certificate site (made c) (publishing (seat r))
       (publishing (seat c.0)) (held c) (serial c)) is.0) in
       record {
         bytes = left.0;
-        there = ap m.new (seats.certificate-at m tree are before next set c.0 c.1) ∙ left.1;
+        there = ap m.new (homes.certificate-at m tree are before next c.0 c.1) ∙ left.1;
         certificate = object.certificate;
         read = object.read;
+        made = made c;
+        time = object.time;
         serial = serial c;
         says = says;
         issued = subst (λ (r : KeyRow). m.vouched r.key.bytes object.certificate.digest
-            object.certificate.signature ≡ true) is.0 object.issued.vouched;
+            object.certificate.signature ≡ true) is.0 object.vouched;
         place = cert-at k c so;
         unrevoked = subst (λ (l : List CrlEntry). is_revoked l object.certificate.cert.serial ≡ false)
             (entries-are k) (unrevoked k.0 k.1 object.certificate (record {
-              uri = seats.place m tree are before next set c.0 c.1;
+              uri = homes.place m tree are before next c.0 c.1;
               bytes = left.0;
               there = left.1;
               has = inl object.read;
@@ -351,20 +362,20 @@ module _ (m : Issuance) (tree : AreTree (names_of m.plan_input.basis.configs))
       }
 
   same-set : (c : K) (desk : ℕ) (r : Resources) → desk ≡ c.0.desk
-      → stands.slice_of m.plan_input.basis.sets desk ≡ Some r → r ≡ held c
+      → drawn.slice_of m.plan_input.basis.sets desk ≡ Some r → r ≡ held c
   same-set c desk r same at =
       same_Some r (held c)
-      (sym at ∙ (ap (stands.slice_of m.plan_input.basis.sets) same
-      ∙ (seats.placed m tree are before next set c.0 c.1).is.has))
+      (sym at ∙ (ap (drawn.slice_of m.plan_input.basis.sets) same
+      ∙ (homes.placed m tree are before next c.0 c.1).is.has))
 
   value-is : (k c : K) → is_below k c ≡ true → value c ≡ value_below k c
   value-is k c so =
       let is = below-is k c so in
       ap (λ (b : Bool). cond b
-      (anchor_certificate site m.plan_input.basis.moment (publishing (seat c.0)) (held c) (serial c))
-      (authority_certificate site m.plan_input.basis.moment (publishing (seat (issuer c)))
+      (anchor_certificate site (made c) (publishing (seat c.0)) (held c) (serial c))
+      (authority_certificate site (made c) (publishing (seat (issuer c)))
       (publishing (seat c.0)) (held c) (serial c))) (no-zero c.0.desk is.1)
-      ∙ ap (λ (r : KeyRow). authority_certificate site m.plan_input.basis.moment (publishing (seat r))
+      ∙ ap (λ (r : KeyRow). authority_certificate site (made c) (publishing (seat r))
       (publishing (seat c.0)) (held c) (serial c)) is.0
     where
       no-zero : (n : ℕ) → n ≢ 0 → (n == 0) ≡ false
@@ -378,9 +389,9 @@ module _ (m : Issuance) (tree : AreTree (names_of m.plan_input.basis.configs))
       → is_held_under (sets_of (held k)) (Some (sets_of (held c))) ≡ true
   key-inside k c so =
       let is = below-is k c so in
-      let has_one = seats.other-issuer m tree are before next set c.0 c.1 is.1 in
+      let has_one = homes.other-issuer m tree are before next c.0 c.1 is.1 in
       let desk : has_one.0.above ≡ k.0.desk =
-      sym (stands.current-desk m.keys has_one.0.above has_one.0.issuer has_one.0.current)
+      sym (drawn.current-desk m.keys has_one.0.above has_one.0.issuer has_one.0.current)
       ∙ (ap (λ (r : KeyRow). r.desk) has_one.1 ∙ ap (λ (r : KeyRow). r.desk) is.0) in
       let same : has_one.0.is.set ≡ held k =
       same-set k has_one.0.above has_one.0.is.set desk has_one.0.is.has in
@@ -412,7 +423,7 @@ module _ (m : Issuance) (tree : AreTree (names_of m.plan_input.basis.configs))
   under-is k o so = files.under-is m tree are before next set anchor owes apart k o so
 
   signer-desk : (o : O) → (signer o).desk ≡ o.0.desk
-  signer-desk o = stands.signer-desk m tree are before next set anchor owes o.0 o.1
+  signer-desk o = drawn.signer-desk m tree are before next owes o.0 o.1
 
   abbrev owed-roa : (k : K) (o : O) → is_under k o ≡ true
       → IsOwedRoa s (seat (signer o)) m.new (crl k).crl.crl.entries o.0.origin
@@ -424,12 +435,12 @@ module _ (m : Issuance) (tree : AreTree (names_of m.plan_input.basis.configs))
   origin-inside : (k : K) (o : O) → is_under k o ≡ true
       → is_held_under (sets_of (held k)) (Some (prefix_sets o.0.origin.prefix)) ≡ true
   origin-inside k o so =
-      let holds = stands.holds m tree are before next set anchor owes o.0 o.1 in
+      let holds = drawn.holds m tree are before next owes o.0 o.1 in
       let desk : o.0.desk ≡ k.0.desk =
       sym (signer-desk o) ∙ ap (λ (r : KeyRow). r.desk) (under-is k o so) in
       let same : holds.is.set ≡ held k = same-set k o.0.desk holds.is.set desk holds.is.has in
       prefix-inside spans (held k) (lists k) o.0.origin.prefix
-      (stands.each-in o.0.origin.prefix holds.is.set (held k) same holds.each)
+      (drawn.each-in o.0.origin.prefix holds.is.set (held k) same holds.each)
 
   pub origin-accepted : (k : K) (o : O) → is_under k o ≡ true → (seen : List (List ℕ))
       → is_among seen (place o) ≡ false

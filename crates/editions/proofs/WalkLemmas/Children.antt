@@ -1,5 +1,5 @@
 -- The certificate of a key is accepted under its issuer's point.
-use Rattle.std.proofs.Common.{◌≡◌, ℕ, true, false, not, ◌&&◌, cond, Some, None, List, [], ◌∷◌, ◌++◌, Ok, refl, sym, ap, subst, ◌∙◌, append_assoc}
+use Rattle.std.proofs.Common.{◌≡◌, ℕ, ◌+◌, true, false, not, ◌&&◌, cond, Some, None, List, [], ◌∷◌, ◌++◌, Ok, refl, sym, ap, subst, ◌∙◌, append_assoc}
 use Rattle.std.specs.Prelude.{codes}
 use Rattle.std.specs.Str.{bytes_eq}
 use Rattle.std.proofs.lemmas.Bool.{and_from}
@@ -16,12 +16,12 @@ use Rattle.rp_rules.specs.Checks.{Checked, ◌>>=◌, tested, found}
 use Rattle.rp_rules.specs.Objects.{such, certificate_in, is_authoritys}
 use Rattle.rp_rules.specs.Holdings.{held_under}
 use Rattle.rp_rules.specs.Authorities.{Authority, certificate_uri_of, manifest_in_folder, is_folder}
-use Rattle.rp_rules.specs.Certificates.{WalkContext, File, is_among, is_revoked, is_held_under, has_issuer_uris, has_authority_uris, authority_tests, authority_of, accepted_authority, listed_bytes}
+use Rattle.rp_rules.specs.Certificates.{WalkContext, File, lies_in, is_among, is_revoked, is_held_under, has_issuer_uris, has_authority_uris, authority_tests, authority_of, accepted_authority, listed_bytes}
 use Rattle.rp_rules.specs.Points.{is_certificate_file}
 use Rattle.issue_values.specs.Certificates.{certificate_life, authority_certificate}
 use Rattle.editions.proofs.WalkLemmas.Checks.{AllKept, tested-kept, found-there, handed-on}
 use Rattle.editions.proofs.WalkLemmas.Endings.{ending}
-use Rattle.editions.proofs.WalkLemmas.Point.{Seat, publishing, authority_with, crl_at, manifest_at, same-bytes, lies-in}
+use Rattle.editions.proofs.WalkLemmas.Point.{Seat, publishing, authority_with, crl_at, manifest_at, same-bytes}
 
 -- The key's certificate stands in its issuer's folder, with those resources, and on no such list.
 pub record HasCertificate (s : WalkContext) (issuer key : Seat) (held : Contents) (revoked : List CrlEntry)
@@ -30,8 +30,10 @@ pub record HasCertificate (s : WalkContext) (issuer key : Seat) (held : Contents
   pub there : held key.certificate ≡ Some bytes
   pub certificate : SignedCert
   pub read : certificate_in bytes ≡ Some certificate
+  pub made : ℕ
+  pub time : lies_in s.moment made (made + certificate_life) ≡ true
   pub serial : ℕ
-  pub says : certificate.cert ≡ authority_certificate s.bases s.moment (publishing issuer)
+  pub says : certificate.cert ≡ authority_certificate s.bases made (publishing issuer)
       (publishing key) set serial
   pub issued : s.vouched issuer.key certificate.digest certificate.signature ≡ true
   pub place : key.certificate ≡ cert_uri s.bases issuer.name (sha1 key.key)
@@ -55,7 +57,7 @@ module _ (s : WalkContext) (issuer key : Seat) (value : CertValue) (sets : Sets)
   file = key_listed key.key is.bytes
 
   abbrev own : CertValue
-  own = authority_certificate s.bases s.moment (publishing issuer) (publishing key) set is.serial
+  own = authority_certificate s.bases is.made (publishing issuer) (publishing key) set is.serial
 
   abbrev pub authority : Authority
   authority = authority_with s key own (sets_of set)
@@ -97,7 +99,7 @@ module _ (s : WalkContext) (issuer key : Seat) (value : CertValue) (sets : Sets)
     (
       same-bytes (sha1 issuer.key),
       (
-        lies-in s.moment certificate_life,
+        is.time,
         (
           inside,
           (

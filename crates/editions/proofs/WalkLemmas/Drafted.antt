@@ -1,5 +1,5 @@
 -- Each thing that an edition wants has its draft.
-use Rattle.std.proofs.Common.{◌≡◌, ◌≢◌, ℕ, Option, Some, List, [], ◌∷◌, ◌++◌, map, AllPairs, IsSome, sym, ap, subst, ◌∙◌}
+use Rattle.std.proofs.Common.{◌≡◌, ◌≢◌, ℕ, Option, List, [], ◌∷◌, ◌++◌, map, AllPairs, IsSome, sym, ap, subst, ◌∙◌}
 use Rattle.std.specs.Prelude.{is_some}
 use Rattle.std.proofs.lemmas.Option.{same_Some}
 use Rattle.entitle.specs.declared.trees.Owed.{Owed}
@@ -18,14 +18,14 @@ use Rattle.issue_drafts.specs.Drafts.{certificate_draft, roa_draft, crl_draft, m
 use Rattle.editions.specs.Keys.{AreNext}
 use Rattle.editions.specs.Edition.{Edition, state_after}
 use Rattle.editions.specs.Wanted.{there, whole, all_certificates, all_roas}
-use Rattle.editions.specs.Objects.{Issuance, IsNewSet}
+use Rattle.editions.specs.Objects.{Issuance}
 use Rattle.editions.specs.Names.{AreTree}
 use Rattle.editions.specs.Drafted.{HaveDrafts}
 use Rattle.editions.specs.Step.{Premises, IsStep, AreSteps, plan_input_at, configs_at}
 use Rattle.items.specs.laws.AmongLaws.{In, all-in, map-in, filter-map-in}
 use Rattle.editions.proofs.WalkLemmas.Rows.{issuance, rows-apart}
-use Rattle.editions.proofs.WalkLemmas.Seats as seats
-use Rattle.editions.proofs.WalkLemmas.Stands as stands
+use Rattle.editions.proofs.WalkLemmas.Homes as homes
+use Rattle.editions.proofs.WalkLemmas.KeyDrafts as drawn
 
 -- What is known of what an edition is made of.
 pub record IsIssued (m : Issuance) : Type 0 where
@@ -33,7 +33,6 @@ pub record IsIssued (m : Issuance) : Type 0 where
   pub certified : AreCertified m.plan_input.basis.configs m.plan_input.basis.sets
   pub apart : AllPairs (λ a b. id_of a ≢ id_of b) m.plan_input.basis.rows
   pub next : AreNext m.plan_input.basis.rows (next_keys m.plan_input.basis) m.keys
-  pub new : IsNewSet m
   pub owes : AreOwed m.plan_input.basis.configs m.plan_input.owed
 
 module _ (m : Issuance) (is : IsIssued m) where
@@ -50,36 +49,36 @@ module _ (m : Issuance) (is : IsIssued m) where
   certificate_for = certificate_of m.plan_input.basis.configs m.plan_input.basis.sets nexts
 
   each-key : (k : KeyRow) → In k m.keys → IsSome (certificate_for (kept k))
-  each-key k at = ap is_some (seats.work-is m is.tree is.certified is.apart is.next is.new k at)
+  each-key k at = ap is_some (homes.work-is m is.tree is.certified is.apart is.next k at)
 
   each-origin : (o : Owed) → In o m.plan_input.owed → IsSome (roa_of nexts o)
-  each-origin o at = ap is_some (stands.work-is m is.tree is.certified is.apart is.next is.new [] is.owes o at)
+  each-origin o at = ap is_some (drawn.work-is m is.tree is.certified is.apart is.next is.owes o at)
 
   certificates : (cert : CertWork) → In cert (all_certificates m.plan_input m.keys)
       → IsSome (certificate_draft w ks cert)
   certificates cert inside =
       let n = filter-map-in certificate_for cert nexts inside in
       let k = map-in kept n.0 m.keys n.1 in
-      let work : CertWork = seats.work m is.tree is.certified is.apart is.next is.new k.0 k.1 in
+      let work : CertWork = homes.work m is.tree is.certified is.apart is.next k.0 k.1 in
       let same : work ≡ cert = same_Some work cert
-      (sym (seats.work-is m is.tree is.certified is.apart is.next is.new k.0 k.1) ∙ (ap certificate_for k.2 ∙ n.2)) in
+      (sym (homes.work-is m is.tree is.certified is.apart is.next k.0 k.1) ∙ (ap certificate_for k.2 ∙ n.2)) in
       subst (λ (c : CertWork). IsSome (certificate_draft w ks c)) same
-      (ap is_some (seats.draft-is m is.tree is.certified is.apart is.next is.new k.0 k.1))
+      (ap is_some (homes.draft-is m is.tree is.certified is.apart is.next k.0 k.1))
 
   roas : (roa : RoaWork) → In roa (all_roas m.plan_input m.keys) → IsSome (roa_draft w ks roa)
   roas roa inside =
       let o = filter-map-in (roa_of nexts) roa m.plan_input.owed inside in
-      let work : RoaWork = stands.work m is.tree is.certified is.apart is.next is.new [] is.owes o.0 o.1 in
+      let work : RoaWork = drawn.work m is.tree is.certified is.apart is.next is.owes o.0 o.1 in
       let same : work ≡ roa = same_Some work roa
-      (sym (stands.work-is m is.tree is.certified is.apart is.next is.new [] is.owes o.0 o.1) ∙ o.2) in
+      (sym (drawn.work-is m is.tree is.certified is.apart is.next is.owes o.0 o.1) ∙ o.2) in
       subst (λ (r : RoaWork). IsSome (roa_draft w ks r)) same
-      (ap is_some (stands.roa-draft-is m is.tree is.certified is.apart is.next is.new [] is.owes o.0 o.1))
+      (ap is_some (drawn.roa-draft-is m is.tree is.certified is.apart is.next is.owes o.0 o.1))
 
   crls : (k : KeyRow) → In k m.keys → IsSome (crl_draft w ks (point_of (kept k)))
-  crls k at = ap is_some (stands.crl-draft-is m is.tree is.certified is.apart is.next is.new [] k at)
+  crls k at = ap is_some (drawn.crl-draft-is m is.tree is.certified is.apart is.next k at)
 
   manifests : (k : KeyRow) → In k m.keys → IsSome (manifest_draft w ks (point_of (kept k)))
-  manifests k at = ap is_some (stands.manifest-draft-is m is.tree is.certified is.apart is.next is.new [] k at)
+  manifests k at = ap is_some (drawn.manifest-draft-is m is.tree is.certified is.apart is.next k at)
 
   pub have-drafts : HaveDrafts m.plan_input m.keys
   have-drafts = record {
@@ -108,6 +107,5 @@ wanted-drafted premises clock editions edition steps tree step =
       certified = step.made.certified;
       apart = rows-apart premises editions edition steps;
       next = step.made.next;
-      new = step.made.set;
       owes = step.made.owes;
     })

@@ -33,7 +33,8 @@ use Rattle.issue_drafts.specs.Drafts.{Draft, certificate_draft, roa_draft, crl_d
 use Rattle.issue_drafts.specs.Files.{name_in, folder_at, is_made_under}
 use Rattle.editions.specs.Keys.{AreNext}
 use Rattle.editions.specs.Wanted.{all_certificates, all_roas, all_points}
-use Rattle.editions.specs.Objects.{Issuance, IsNewSet, file_of}
+use Rattle.editions.specs.Objects.{Issuance, file_of}
+use Rattle.editions.proofs.WalkLemmas.Serving.{IsServed}
 use Rattle.editions.specs.Names.{AreTree}
 use Rattle.items.specs.laws.AmongLaws.{In, filter-in}
 use Rattle.editions.proofs.WalkLemmas.Elements.{pairs-twos, twos-from}
@@ -42,7 +43,9 @@ use Rattle.editions.proofs.WalkLemmas.Point.{Seat, publishing, authority_with, c
 use Rattle.editions.proofs.WalkLemmas.Roas.{roa_listed}
 use Rattle.editions.proofs.WalkLemmas.Children.{key_listed}
 use Rattle.editions.proofs.WalkLemmas.Whole.{uris_at}
+use Rattle.editions.proofs.WalkLemmas.Homes as homes
 use Rattle.editions.proofs.WalkLemmas.Seats as seats
+use Rattle.editions.proofs.WalkLemmas.KeyDrafts as drawn
 use Rattle.editions.proofs.WalkLemmas.Stands as stands
 
 and-true : (b : Bool) → (b && true) ≡ b
@@ -57,7 +60,7 @@ module _ (m : Issuance) (tree : AreTree (names_of m.plan_input.basis.configs))
     (are : AreCertified m.plan_input.basis.configs m.plan_input.basis.sets)
     (before : AllPairs (λ a b. id_of a ≢ id_of b) m.plan_input.basis.rows)
     (next : AreNext m.plan_input.basis.rows (next_keys m.plan_input.basis) m.keys)
-    (set : IsNewSet m) (anchor : List ℕ) (owes : AreOwed m.plan_input.basis.configs m.plan_input.owed)
+    (set : IsServed m) (anchor : List ℕ) (owes : AreOwed m.plan_input.basis.configs m.plan_input.owed)
     (apart : (site : Bases) (a f : List ℕ) → anchor_uri site ≢ file_uri site a f) where
   abbrev pub K : Type 0
   K = Member m.keys
@@ -66,16 +69,16 @@ module _ (m : Issuance) (tree : AreTree (names_of m.plan_input.basis.configs))
   O = Member m.plan_input.owed
 
   abbrev w : IssueInput
-  w = seats.w m tree are before next set
+  w = homes.w m tree are before next
 
   abbrev ks : Keys
-  ks = seats.ks m tree are before next set
+  ks = homes.ks m tree are before next
 
   abbrev pub issuer : K → KeyRow
-  issuer c = seats.issuer m tree are before next set c.0 c.1
+  issuer c = homes.issuer m tree are before next c.0 c.1
 
   abbrev pub signer : O → KeyRow
-  signer o = stands.signer m tree are before next set anchor owes o.0 o.1
+  signer o = drawn.signer m tree are before next owes o.0 o.1
 
   -- The key issued the certificate of another key, or the ROA of an origin.
   abbrev pub is_below : K → K → Bool
@@ -97,13 +100,13 @@ module _ (m : Issuance) (tree : AreTree (names_of m.plan_input.basis.configs))
   -- ---- all drafts
 
   abbrev cert_drafted : K → Draft
-  cert_drafted c = seats.draft m tree are before next set c.0 c.1
+  cert_drafted c = homes.draft m tree are before next c.0 c.1
 
   abbrev roa_drafted : O → Draft
-  roa_drafted o = stands.roa_drafted m tree are before next set anchor owes o.0 o.1
+  roa_drafted o = drawn.roa_drafted m tree are before next owes o.0 o.1
 
   abbrev crl_drafted : K → Draft
-  crl_drafted c = stands.crl m tree are before next set anchor c.0 c.1
+  crl_drafted c = drawn.crl m tree are before next c.0 c.1
 
   nexts-are : map kept m.keys ≡ map (λ (c : K). kept c.0) (members m.keys)
   nexts-are = ap (map kept) (sym (members-are m.keys))
@@ -117,11 +120,11 @@ module _ (m : Issuance) (tree : AreTree (names_of m.plan_input.basis.configs))
       ap (λ (ns : List NextKey). filter_map (certificate_draft w ks) (filter_map cof ns)) nexts-are
       ∙ (ap (filter_map (certificate_draft w ks))
       (filter-map-some cof (λ (c : K). kept c.0)
-      (λ (c : K). seats.work m tree are before next set c.0 c.1) (members m.keys)
-      (λ c inside. seats.work-is m tree are before next set c.0 c.1))
+      (λ (c : K). homes.work m tree are before next c.0 c.1) (members m.keys)
+      (λ c inside. homes.work-is m tree are before next c.0 c.1))
       ∙ filter-map-some (certificate_draft w ks)
-      (λ (c : K). seats.work m tree are before next set c.0 c.1) cert_drafted (members m.keys)
-      (λ c inside. seats.draft-is m tree are before next set c.0 c.1))
+      (λ (c : K). homes.work m tree are before next c.0 c.1) cert_drafted (members m.keys)
+      (λ c inside. homes.draft-is m tree are before next c.0 c.1))
 
   roas-are : filter_map (roa_draft w ks) (all_roas m.plan_input m.keys)
       ≡ map roa_drafted (members m.plan_input.owed)
@@ -131,19 +134,19 @@ module _ (m : Issuance) (tree : AreTree (names_of m.plan_input.basis.configs))
       (sym (members-are m.plan_input.owed))
       ∙ (ap (filter_map (roa_draft w ks))
       (filter-map-some rof (λ (o : O). o.0)
-      (λ (o : O). stands.work m tree are before next set anchor owes o.0 o.1) (members m.plan_input.owed)
-      (λ o inside. stands.work-is m tree are before next set anchor owes o.0 o.1))
+      (λ (o : O). drawn.work m tree are before next owes o.0 o.1) (members m.plan_input.owed)
+      (λ o inside. drawn.work-is m tree are before next owes o.0 o.1))
       ∙ filter-map-some (roa_draft w ks)
-      (λ (o : O). stands.work m tree are before next set anchor owes o.0 o.1) roa_drafted
+      (λ (o : O). drawn.work m tree are before next owes o.0 o.1) roa_drafted
       (members m.plan_input.owed)
-      (λ o inside. stands.roa-draft-is m tree are before next set anchor owes o.0 o.1))
+      (λ o inside. drawn.roa-draft-is m tree are before next owes o.0 o.1))
 
   crls-are : filter_map (crl_draft w ks) (all_points m.keys) ≡ map crl_drafted (members m.keys)
   crls-are =
       ap (λ (ns : List NextKey). filter_map (crl_draft w ks) (map point_of ns)) nexts-are
       ∙ (ap (filter_map (crl_draft w ks)) (map-map (λ (c : K). kept c.0) point_of (members m.keys))
       ∙ filter-map-some (crl_draft w ks) (λ (c : K). point_of (kept c.0)) crl_drafted (members m.keys)
-      (λ c inside. stands.crl-draft-is m tree are before next set anchor c.0 c.1))
+      (λ c inside. drawn.crl-draft-is m tree are before next c.0 c.1))
 
   pub drafts-are : drafts w ks ≡ (map cert_drafted (members m.keys)
       ++ map roa_drafted (members m.plan_input.owed)) ++ map crl_drafted (members m.keys)
@@ -179,7 +182,7 @@ module _ (m : Issuance) (tree : AreTree (names_of m.plan_input.basis.configs))
         (name_at (names_of m.plan_input.basis.configs) (issuer c).desk) (id_of c.0)
     cert-place c other = ap (λ (b : Bool). cond b (anchor_uri m.plan_input.site)
         (cert_uri m.plan_input.site (name_at (names_of m.plan_input.basis.configs) (issuer c).desk)
-        (id_of c.0))) (seats.apart-issuer m tree are before next set c.0 c.1 other)
+        (id_of c.0))) (homes.apart-issuer m tree are before next c.0 c.1 other)
 
     cert-under : (c : K) → under (cert_drafted c) ≡ is_below k c
     cert-under c = by (c.0.desk == 0) refl
@@ -187,7 +190,7 @@ module _ (m : Issuance) (tree : AreTree (names_of m.plan_input.basis.configs))
         by : (b : Bool) → (c.0.desk == 0) ≡ b → under (cert_drafted c) ≡ is_below k c
         by true e =
             let own : issuer c ≡ c.0 =
-            seats.own-issuer m tree are before next set c.0 c.1 (eqb-true c.0.desk 0 e) in
+            homes.own-issuer m tree are before next c.0 c.1 (eqb-true c.0.desk 0 e) in
             let uri : (cert_drafted c).uri ≡ anchor_uri m.plan_input.site =
             ap (λ (b : Bool). cond b (anchor_uri m.plan_input.site)
             (cert_uri m.plan_input.site (name_at (names_of m.plan_input.basis.configs) (issuer c).desk)
@@ -251,7 +254,7 @@ module _ (m : Issuance) (tree : AreTree (names_of m.plan_input.basis.configs))
         (pairs-twos (λ (a b : KeyRow). id_of a ≢ id_of b) m.keys next.apart))) in (
           one.0,
           one.1,
-          seats.one-key m tree are before next set one.0.0 k.0 one.0.1 k.1
+          homes.one-key m tree are before next one.0.0 k.0 one.0.1 k.1
               ((bytes_eq-Decides (id_of one.0.0) (id_of k.0)).0 one.2),
         )
 
@@ -280,8 +283,8 @@ module _ (m : Issuance) (tree : AreTree (names_of m.plan_input.basis.configs))
     pub below-is : (c : K) → is_below k c ≡ true → (issuer c ≡ k.0) × (c.0.desk ≢ 0)
     below-is c so =
         let p = and_parts (not (c.0.desk == 0)) (is_key (issuer c) k.0) so in (
-          seats.one-key m tree are before next set (issuer c) k.0
-              (seats.above m tree are before next set c.0 c.1).live k.1
+          homes.one-key m tree are before next (issuer c) k.0
+              (homes.above m tree are before next c.0 c.1).live k.1
               ((bytes_eq-Decides (id_of (issuer c)) (id_of k.0)).0 p.1),
           λ zero. none (sym (ap not (eq-eqb c.0.desk 0 zero)) ∙ p.0),
         )
@@ -299,8 +302,8 @@ module _ (m : Issuance) (tree : AreTree (names_of m.plan_input.basis.configs))
 
     pub under-is : (o : O) → is_under k o ≡ true → signer o ≡ k.0
     under-is o so =
-        seats.one-key m tree are before next set (signer o) k.0
-        (stands.signer-at m tree are before next set anchor owes o.0 o.1) k.1
+        homes.one-key m tree are before next (signer o) k.0
+        (drawn.signer-at m tree are before next owes o.0 o.1) k.1
         ((bytes_eq-Decides (id_of (signer o)) (id_of k.0)).0 so)
 
     pub files-are : filter_map file_in (filter under (drafts w ks))
@@ -357,19 +360,20 @@ module _ (m : Issuance) (tree : AreTree (names_of m.plan_input.basis.configs))
   -- What the certificate of a key says.
   abbrev pub value : K → CertValue
   value c =
-      let held = seats.held m tree are before next set c.0 c.1 in
+      let held = homes.held m tree are before next c.0 c.1 in
       let serial = seats.serial m tree are before next set c.0 c.1 in
+      let made = seats.made m tree are before next set c.0 c.1 in
       cond (c.0.desk == 0)
-      (anchor_certificate m.plan_input.site m.plan_input.basis.moment (publishing (seat c.0)) held serial)
-      (authority_certificate m.plan_input.site m.plan_input.basis.moment (publishing (seat (issuer c)))
+      (anchor_certificate m.plan_input.site made (publishing (seat c.0)) held serial)
+      (authority_certificate m.plan_input.site made (publishing (seat (issuer c)))
       (publishing (seat c.0)) held serial)
 
   abbrev pub authority : K → Authority
   authority c = authority_with (stands.s m tree are before next set anchor) (seat c.0) (value c)
-      (sets_of (seats.held m tree are before next set c.0 c.1))
+      (sets_of (homes.held m tree are before next c.0 c.1))
 
   abbrev pub place : O → List ℕ
-  place o = (stands.roa_drafted m tree are before next set anchor owes o.0 o.1).uri
+  place o = (drawn.roa_drafted m tree are before next owes o.0 o.1).uri
 
   -- The places of a key's point and of what it lists.
   abbrev pub uris : K → List (List ℕ)

@@ -36,7 +36,6 @@ use Rattle.editions.specs.Edition.{Edition}
 use Rattle.editions.specs.Names.{AreTree}
 use Rattle.editions.specs.Wanted.{new_objects}
 use Rattle.editions.specs.Objects.{Issuance, IsSigned, IsObject}
-use Rattle.editions.specs.Objects as objects
 use Rattle.editions.specs.Step.{Premises, AreSteps, configs_at}
 use Rattle.editions.specs.MadeIn.{issuance_of, IsMadeIn, LooksAt, IsAuthorityOf, published_key, LastsAs, LastsAsAnchor, LastsAsCertificate, LastsAsRoa, LastsAsCrl, LastsAsManifest}
 use Rattle.items.specs.laws.AmongLaws.{contains-in}

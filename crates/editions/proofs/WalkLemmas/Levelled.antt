@@ -20,9 +20,9 @@ use Rattle.issue_values.specs.Certificates.{anchor_certificate, authority_certif
 use Rattle.issue_plan.specs.Keys.{next_keys, row_of}
 use Rattle.issue_keys.specs.Keys.{id_of}
 use Rattle.issue_drafts.specs.Publishers.{name_at, is_key, publishing_of}
-use Rattle.issue_sign.specs.Objects as values
 use Rattle.editions.specs.Keys.{AreNext}
-use Rattle.editions.specs.Objects.{Issuance, IsNewSet}
+use Rattle.editions.specs.Objects.{Issuance}
+use Rattle.editions.proofs.WalkLemmas.Serving.{IsServed, certificate_made}
 use Rattle.editions.specs.Names.{AreTree}
 use Rattle.editions.specs.inner.KeyTree.{IsDesk, is_level, IsInTree}
 use Rattle.items.specs.laws.AmongLaws.{In, in-filter, filter-in, any-in, in-any}
@@ -35,6 +35,7 @@ use Rattle.editions.proofs.WalkLemmas.Members.{Member, members, members-twos, me
 use Rattle.editions.proofs.WalkLemmas.NextKeys.{row-parts}
 use Rattle.issue_values.specs.Publishers.{Publishing}
 use Rattle.editions.proofs.WalkLemmas.Point.{publishing}
+use Rattle.editions.proofs.WalkLemmas.Homes as homes
 use Rattle.editions.proofs.WalkLemmas.Seats as seats
 use Rattle.editions.proofs.WalkLemmas.Files as files
 
@@ -59,7 +60,7 @@ module _ (m : Issuance) (tree : AreTree (names_of m.plan_input.basis.configs))
     (are : AreCertified m.plan_input.basis.configs m.plan_input.basis.sets)
     (before : AllPairs (λ a b. id_of a ≢ id_of b) m.plan_input.basis.rows)
     (next : AreNext m.plan_input.basis.rows (next_keys m.plan_input.basis) m.keys)
-    (set : IsNewSet m) where
+    (set : IsServed m) where
   abbrev pub K : Type 0
   K = Member m.keys
 
@@ -73,7 +74,7 @@ module _ (m : Issuance) (tree : AreTree (names_of m.plan_input.basis.configs))
   level n c = is_level m.plan_input.basis.configs n (name_of c)
 
   abbrev in_tree : (c : K) → IsInTree m.plan_input.basis.configs m.plan_input.basis.sets m.keys c.0
-  in_tree c = seats.placed m tree are before next set c.0 c.1
+  in_tree c = homes.placed m tree are before next c.0 c.1
 
   pub name-is : (c : K) → name_of c ≡ (in_tree c).name.name
   name-is c = ap (λ (o : Option NameRow). option_map_or (λ (n : NameRow). n.name) o []) (in_tree c).is.named
@@ -104,50 +105,50 @@ module _ (m : Issuance) (tree : AreTree (names_of m.plan_input.basis.configs))
   level-zero : (c : K) → c.0.desk ≡ 0 → level 0 c ≡ true
   level-zero c zero = ap is_anchor (top-name c zero) ∙ (bytes_eq-Decides (codes "ta") (codes "ta")).1 refl
 
-  pub top-place : (c : K) → c.0.desk ≡ 0 → seats.place m tree are before next set c.0 c.1
+  pub top-place : (c : K) → c.0.desk ≡ 0 → homes.place m tree are before next c.0 c.1
       ≡ anchor_uri m.plan_input.site
   top-place c zero =
       ap (λ (b : Bool). cond b (anchor_uri m.plan_input.site)
       (cert_uri m.plan_input.site
-      (name_at names (seats.issuer m tree are before next set c.0 c.1).desk) (id_of c.0)))
-      (ap (λ (i : KeyRow). is_key i c.0) (seats.own-issuer m tree are before next set c.0 c.1 zero)
+      (name_at names (homes.issuer m tree are before next c.0 c.1).desk) (id_of c.0)))
+      (ap (λ (i : KeyRow). is_key i c.0) (homes.own-issuer m tree are before next c.0 c.1 zero)
       ∙ (bytes_eq-Decides (id_of c.0) (id_of c.0)).1 refl)
 
   key-says : (c : K) → c.0.desk ≡ 0
       → (seats.is_object m tree are before next set c.0 c.1).certificate.cert.key ≡ c.0.key.bytes
   key-says c zero =
-      let held : Resources = seats.held m tree are before next set c.0 c.1 in
+      let held : Resources = homes.held m tree are before next c.0 c.1 in
       let n : ℕ = seats.serial m tree are before next set c.0 c.1 in
-      let of : KeyRow → CertValue = λ r. values.certificate_with (seats.w m tree are before next set)
-      (seats.ks m tree are before next set) r c.0 held n in
-      ap (λ (v : CertValue). v.key) (seats.is_object m tree are before next set c.0 c.1).issued.says
-      ∙ (ap (λ (r : KeyRow). (of r).key) (seats.own-issuer m tree are before next set c.0 c.1 zero)
+      let of : KeyRow → CertValue = λ r. certificate_made m (seats.made m tree are before next set c.0 c.1) r c.0
+      held n in
+      ap (λ (v : CertValue). v.key) (seats.is_object m tree are before next set c.0 c.1).says
+      ∙ (ap (λ (r : KeyRow). (of r).key) (homes.own-issuer m tree are before next c.0 c.1 zero)
       ∙ key-by c.0.key.bytes (is_key c.0 c.0)
-      (anchor_certificate m.plan_input.site m.plan_input.basis.moment
-      (publishing_of (seats.w m tree are before next set) (seats.ks m tree are before next set) c.0) held n)
-      (authority_certificate m.plan_input.site m.plan_input.basis.moment
-      (publishing_of (seats.w m tree are before next set) (seats.ks m tree are before next set) c.0)
-      (publishing_of (seats.w m tree are before next set) (seats.ks m tree are before next set) c.0) held n)
+      (anchor_certificate m.plan_input.site (seats.made m tree are before next set c.0 c.1)
+      (publishing_of (homes.w m tree are before next) (homes.ks m tree are before next) c.0) held n)
+      (authority_certificate m.plan_input.site (seats.made m tree are before next set c.0 c.1)
+      (publishing_of (homes.w m tree are before next) (homes.ks m tree are before next) c.0)
+      (publishing_of (homes.w m tree are before next) (homes.ks m tree are before next) c.0) held n)
       refl refl)
 
   -- Its certificate is the trust anchor's.
   pub top-says : (c : K) → c.0.desk ≡ 0
       → (seats.is_object m tree are before next set c.0 c.1).certificate.cert
-      ≡ anchor_certificate m.plan_input.site m.plan_input.basis.moment
-      (publishing (seats.seat m tree are before next set c.0 c.1))
-      (seats.held m tree are before next set c.0 c.1) (seats.serial m tree are before next set c.0 c.1)
+      ≡ anchor_certificate m.plan_input.site (seats.made m tree are before next set c.0 c.1)
+      (publishing (homes.seat m tree are before next c.0 c.1))
+      (homes.held m tree are before next c.0 c.1) (seats.serial m tree are before next set c.0 c.1)
   top-says c zero =
-      let held : Resources = seats.held m tree are before next set c.0 c.1 in
+      let held : Resources = homes.held m tree are before next c.0 c.1 in
       let n : ℕ = seats.serial m tree are before next set c.0 c.1 in
-      let pub_of : KeyRow → Publishing = λ r. publishing_of (seats.w m tree are before next set)
-      (seats.ks m tree are before next set) r in
-      let of : KeyRow → CertValue = λ r. values.certificate_with (seats.w m tree are before next set)
-      (seats.ks m tree are before next set) r c.0 held n in
-      (seats.is_object m tree are before next set c.0 c.1).issued.says
-      ∙ (ap of (seats.own-issuer m tree are before next set c.0 c.1 zero)
+      let pub_of : KeyRow → Publishing = λ r. publishing_of (homes.w m tree are before next)
+      (homes.ks m tree are before next) r in
+      let of : KeyRow → CertValue = λ r. certificate_made m (seats.made m tree are before next set c.0 c.1) r c.0
+      held n in
+      (seats.is_object m tree are before next set c.0 c.1).says
+      ∙ (ap of (homes.own-issuer m tree are before next c.0 c.1 zero)
       ∙ ap (λ (b : Bool). cond b
-      (anchor_certificate m.plan_input.site m.plan_input.basis.moment (pub_of c.0) held n)
-      (authority_certificate m.plan_input.site m.plan_input.basis.moment (pub_of c.0) (pub_of c.0) held n))
+      (anchor_certificate m.plan_input.site (seats.made m tree are before next set c.0 c.1) (pub_of c.0) held n)
+      (authority_certificate m.plan_input.site (seats.made m tree are before next set c.0 c.1) (pub_of c.0) (pub_of c.0) held n))
       ((bytes_eq-Decides (id_of c.0) (id_of c.0)).1 refl))
 
   -- Two keys of the trust anchor have their certificates at one place.
@@ -213,7 +214,7 @@ module _ (m : Issuance) (tree : AreTree (names_of m.plan_input.basis.configs))
       let parts = row-parts m.keys 0 Current current.0 current.1 in
       let e : K = (current.0, parts.0) in
       let same : top.0 ≡ current.0 =
-      seats.one-key m tree are before next set top.0 current.0 top.1 parts.0 (one-top top e top-desk parts.1) in
+      homes.one-key m tree are before next top.0 current.0 top.1 parts.0 (one-top top e top-desk parts.1) in
       current.1 ∙ ap (λ (r : KeyRow). Some r) (sym same)
 
   -- ---- the next level
@@ -229,7 +230,7 @@ module _ (m : Issuance) (tree : AreTree (names_of m.plan_input.basis.configs))
     -- Levels of a key and of its issuer.
     higher : (k c : K) → c.0.desk ≢ 0 → issuer c ≡ k.0 → (n : ℕ) → level (suc n) c ≡ level n k
     higher k c other is n =
-        let has = seats.other-issuer m tree are before next set c.0 c.1 other in
+        let has = homes.other-issuer m tree are before next c.0 c.1 other in
         let desk : has.0.above ≡ k.0.desk =
         sym (row-parts m.keys has.0.above Current has.0.issuer has.0.current).1
         ∙ (ap (λ (r : KeyRow). r.desk) has.1 ∙ ap (λ (r : KeyRow). r.desk) is) in
@@ -270,7 +271,7 @@ module _ (m : Issuance) (tree : AreTree (names_of m.plan_input.basis.configs))
             let levels = one-level m.plan_input.basis.configs (suc n) 0 (name_of c) here (level-zero c zero) in
             absurd (omega (arith, levels))
         by here (inr other) =
-            let e = member-of (issuer c) m.keys (seats.above m tree are before next set c.0 c.1).live in
+            let e = member-of (issuer c) m.keys (homes.above m tree are before next c.0 c.1).live in
             let so : is_below e.0 c ≡ true =
             and_from (not (c.0.desk == 0)) (is_key (issuer c) e.0.0)
             (not_from_false (c.0.desk == 0) (no-zero other))

@@ -17,7 +17,6 @@ use Rattle.entitle.specs.inner.Steps.{reaches_from}
 use Rattle.issue_plan.specs.Wanted.{parent_of}
 use Rattle.editions.specs.Names.{AreTree}
 use Rattle.editions.specs.inner.KeyTree.{is_level}
-use Rattle.editions.proofs.PlanLemmas.Places.{placed}
 
 -- ---- names and their places
 

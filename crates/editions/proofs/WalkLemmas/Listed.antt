@@ -73,8 +73,8 @@ module _ (s : WalkContext) (k : Seat) (value : CertValue) (sets : Sets) (rest : 
       (subst (λ (l : List File). IsPermutation l (filter is_crl_file files)) crls-are
       (filter-moved is_crl_file (rest ++ crl ∷ []) files moved))
 
-  pub first-is : (number : ℕ) → crl_file (manifest_value_of s.moment number files) ≡ Some crl
-  first-is number = ap first_of crls-left
+  pub first-is : (made number : ℕ) → crl_file (manifest_value_of made number files) ≡ Some crl
+  first-is made number = ap first_of crls-left
 
   pub others-left : IsPermutation rest (filter other files)
   others-left = subst (λ (l : List File). IsPermutation l (filter other files)) others-are
@@ -97,9 +97,9 @@ module _ (s : WalkContext) (k : Seat) (value : CertValue) (sets : Sets) (rest : 
   pub names-apart : Twos (λ a b. a ≢ b) names
   names-apart = pairs-twos (λ (a b : List ℕ). a ≢ b) names (rising-apart names rising)
 
-  pub is-listed : (number : ℕ)
-      → is_list (authority_with s k value sets) (manifest_value_of s.moment number files) ≡ true
-  is-listed number =
+  pub is-listed : (made number : ℕ)
+      → is_list (authority_with s k value sets) (manifest_value_of made number files) ≡ true
+  is-listed made number =
       let one : (length (filter is_crl_file files) == 1) ≡ true =
       ap (λ (l : List File). length l == 1) crls-left in
       let distinct : are_distinct names ≡ true = rising-distinct names rising in

@@ -1,5 +1,5 @@
 -- What a manifest lists that an edition made is a list.
-use Rattle.std.proofs.Common.{◌≡◌, ◌≢◌, ℕ, ◌+◌, true, false, Some, List, [], ◌∷◌, ◌++◌, take, length, map, Ok, All, AllPairs, refl, sym, ap, subst, ◌∙◌, arith}
+use Rattle.std.proofs.Common.{◌≡◌, ◌≢◌, ℕ, ◌+◌, true, false, Some, List, [], ◌∷◌, ◌++◌, take, map, Ok, All, AllPairs, refl, sym, ap, subst, ◌∙◌, arith}
 use Rattle.std.specs.Prelude.{◌↔◌}
 use Rattle.std.proofs.lemmas.Option.{same_Some, slice_get_within}
 use Rattle.names.specs.Name.{IsName}
@@ -22,13 +22,11 @@ use Rattle.issue_drafts.specs.Drafts.{Draft}
 use Rattle.issue_drafts.specs.Drafts.Kind.{Manifest}
 use Rattle.editions.specs.Edition.{Edition, set_after}
 use Rattle.editions.specs.Held.{IsHeld, HaveOwnSerials}
-use Rattle.editions.specs.Superseded.{AreSuperseded}
 use Rattle.editions.specs.Names.{AreTree}
-use Rattle.editions.specs.Wanted.{keeps_point}
 use Rattle.editions.specs.Objects.{Issuance}
 use Rattle.editions.specs.Step.{Premises, IsStep, AreSteps, configs_at}
 use Rattle.editions.specs.MadeIn.{issuance_of, IsMadeIn, IsAuthorityOf}
-use Rattle.items.specs.laws.AmongLaws.{In, in-all, contains-in}
+use Rattle.items.specs.laws.AmongLaws.{In, contains-in, in-contains}
 use Rattle.editions.proofs.ObjectLemmas.Standing.{IsPlacedAt}
 use Rattle.editions.proofs.ObjectLemmas.History.{take-next}
 use Rattle.editions.proofs.ObjectLemmas.Left.{of-keys, front-steps}
@@ -38,12 +36,14 @@ use Rattle.editions.proofs.WalkLemmas.Folders.{plain-folder, plain-name}
 use Rattle.editions.proofs.WalkLemmas.Inside.{HaveSpans, AreInsides}
 use Rattle.editions.proofs.WalkLemmas.KeyTree.{in-tree}
 use Rattle.editions.proofs.WalkLemmas.Rows.{rows-apart}
-use Rattle.editions.proofs.WalkLemmas.Serials.{unrevoked}
+use Rattle.editions.proofs.PlanLemmas.Told.{AreTold, HaveEnds}
+use Rattle.editions.proofs.WalkLemmas.Serving.{IsServed}
+use Rattle.editions.proofs.WalkLemmas.Serves.{all-served}
+use Rattle.editions.proofs.WalkLemmas.Revoked.{leaves-held}
 
 module _ (own : (premises : Premises) (editions : List Edition) (id : List ℕ) → AreSteps premises editions
     → HaveOwnSerials editions id)
-    (apart : (site : Bases) (a f : List ℕ) → anchor_uri site ≢ file_uri site a f)
-    (kinds : AreKinds) (spans : HaveSpans) (insides : AreInsides)
+    (told : AreTold) (ends : HaveEnds) (spans : HaveSpans) (insides : AreInsides)
     (points : (s : WalkContext) (held : Contents) (authority : Authority) (visited : List (List ℕ)) (p : Point)
     → (accepted_point s held authority visited ≡ Ok p) ↔ KeepsPointRules s held authority visited p)
     (premises : Premises) (editions : List Edition) (steps : AreSteps premises editions) (uri bytes : List ℕ)
@@ -80,31 +80,42 @@ module _ (own : (premises : Premises) (editions : List Edition) (id : List ℕ) 
       let is = in-tree m.plan_input.basis m.keys tree step.made.certified before step.made.next k at in
       plain-folder m.plan_input.site (name_at names k.desk) (plain-name names plain k.desk is.name is.is.named)
 
-  not-revoked : (k : KeyRow) → In k m.keys → (c : SignedCert) → IsHeld m.new (id_of k) c
-      → is_revoked (map crl_entry (m.entries k)) c.cert.serial ≡ false
-  not-revoked k at =
-      unrevoked until edition (id_of k) (m.entries k)
-      (own premises (until ++ edition ∷ []) (id_of k) steps-to)
-      (in-all (λ (key : KeyRow). keeps_point m.plan_input m.keys key ≡ false
-      → AreSuperseded (until ++ edition ∷ []) (length until) (id_of key) (m.entries key))
-      k m.keys step.made.listed at refl)
+  -- What stands serves.
+  served : IsServed m
+  served = all-served told ends premises until made_in.clock edition step steps-to tree plain
+
+  not-revoked : (k : KeyRow) (at : In k m.keys) (c : SignedCert) → IsHeld m.new (id_of k) c
+      → is_revoked (map crl_entry (served.points k (in-contains k m.keys at)).revoked) c.cert.serial ≡ false
+  not-revoked = leaves-held own premises until edition steps-to made_in.clock step served
+
+  abbrev apart : (site : Bases) (a f : List ℕ) → anchor_uri site ≢ file_uri site a f
+  apart = told.anchor
+
+  abbrev kinds : AreKinds
+  kinds = record {
+    anchor = ends.anchor;
+    certificates = ends.certificates;
+    crls = ends.crls;
+    manifests = ends.manifests;
+    roas = ends.roas;
+  }
 
   module _ (k : KeyRow) (at : In k m.keys) where
     abbrev s : WalkContext
-    s = build.s m tree step.made.certified before step.made.next step.made.set [] step.made.owes apart kinds spans
+    s = build.s m tree step.made.certified before step.made.next served [] step.made.owes apart kinds spans
         insides folders not-revoked
 
     abbrev authority : Authority
-    authority = build.authority m tree step.made.certified before step.made.next step.made.set [] step.made.owes apart
+    authority = build.authority m tree step.made.certified before step.made.next served [] step.made.owes apart
         kinds spans insides folders not-revoked (k, at)
 
     abbrev point : Point
-    point = build.point_of m tree step.made.certified before step.made.next step.made.set [] step.made.owes apart
+    point = build.point_of m tree step.made.certified before step.made.next served [] step.made.owes apart
         kinds spans insides folders not-revoked (k, at)
 
     kept : KeepsPointRules s m.new authority [] point
     kept = (points s m.new authority [] point).0
-        (build.accepted m tree step.made.certified before step.made.next step.made.set [] step.made.owes apart kinds
+        (build.accepted m tree step.made.certified before step.made.next served [] step.made.owes apart kinds
         spans insides folders not-revoked (k, at) [] refl refl)
 
     -- The manifest that stands has a list.

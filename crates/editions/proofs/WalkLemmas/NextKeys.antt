@@ -15,7 +15,6 @@ use Rattle.key_roll.specs.declared.stages.Stage.TheVariants.{Steady, Staged}
 use Rattle.key_roll.specs.Stages as stages
 use Rattle.key_roll.specs.Stages.{is_begun, is_activated}
 use Rattle.issue_plan.specs.declared.keys.NextKey.{NextKey}
-use Rattle.issue_plan.specs.Keys as plan
 use Rattle.issue_plan.specs.Keys.{Basis, row_of, kept, turned, made, keys_at_end, keys_after, asked_at, keys_of, keys_at, keys_of_first, next_keys, holds_nothing}
 use Rattle.key_roll.specs.Roles.{is_role}
 use Rattle.editions.specs.inner.KeyTree.{IsDesk}

@@ -84,26 +84,26 @@ crl_at s k = crl_uri s.bases k.name (sha1 k.key)
 abbrev pub manifest_at : WalkContext → Seat → List ℕ
 manifest_at s k = manifest_uri s.bases k.name (sha1 k.key)
 
--- The CRL of that number, with these entries.
-pub record HasCrl (s : WalkContext) (k : Seat) (held : Contents) (number : ℕ) (revoked : List RevokedRow)
+-- The CRL of that moment and number, with these entries.
+pub record HasCrl (s : WalkContext) (k : Seat) (held : Contents) (made number : ℕ) (revoked : List RevokedRow)
     : Type 0 where
   pub bytes : List ℕ
   pub there : held (crl_at s k) ≡ Some bytes
   pub crl : SignedCrl
   pub read : crl_in bytes ≡ Some crl
-  pub says : crl.crl ≡ crl_value_of s.moment (sha1 k.key) number revoked
+  pub says : crl.crl ≡ crl_value_of made (sha1 k.key) number revoked
   pub issued : s.vouched k.key crl.digest crl.signature ≡ true
 
--- The manifest of that number, with these files. Its certificate has none of these entries.
-pub record HasManifest (s : WalkContext) (k : Seat) (held : Contents) (number : ℕ) (revoked : List RevokedRow)
-    (files : List File) : Type 0 where
+-- The manifest of that moment and number, with these files. Its certificate has none of these entries.
+pub record HasManifest (s : WalkContext) (k : Seat) (held : Contents) (made number : ℕ)
+    (revoked : List RevokedRow) (files : List File) : Type 0 where
   pub bytes : List ℕ
   pub there : held (manifest_at s k) ≡ Some bytes
   pub manifest : SignedManifest
   pub read : manifest_in bytes ≡ Some manifest
-  pub body : manifest.body ≡ manifest_value_of s.moment number files
+  pub body : manifest.body ≡ manifest_value_of made number files
   pub serial : ℕ
-  pub says : manifest.certificate.cert ≡ manifest_certificate s.bases s.moment (publishing k)
+  pub says : manifest.certificate.cert ≡ manifest_certificate s.bases made (publishing k)
       manifest.certificate.cert.key serial
   pub issued : s.vouched k.key manifest.certificate.digest manifest.certificate.signature ≡ true
   pub signer : manifest.object.signer ≡ sha1 manifest.certificate.cert.key
@@ -118,12 +118,13 @@ crl_listed k bytes = (encode_lower (sha1 k.key) ++ codes ".crl", sha256 bytes)
 
 -- ---- it is accepted
 
-module _ (s : WalkContext) (k : Seat) (value : CertValue) (sets : Sets) (held : Contents) (number : ℕ)
-    (revoked : List RevokedRow) (files : List File) (crl : HasCrl s k held number revoked)
-    (m : HasManifest s k held number revoked files)
+module _ (s : WalkContext) (k : Seat) (value : CertValue) (sets : Sets) (held : Contents) (made number : ℕ)
+    (revoked : List RevokedRow) (files : List File) (crl : HasCrl s k held made number revoked)
+    (m : HasManifest s k held made number revoked files)
+    (time : lies_in s.moment made (made + point_life) ≡ true)
     (other : manifest_at s k ≢ crl_at s k)
-    (listed : is_list (authority_with s k value sets) (manifest_value_of s.moment number files) ≡ true)
-    (first : crl_file (manifest_value_of s.moment number files) ≡ Some (crl_listed k crl.bytes)) where
+    (listed : is_list (authority_with s k value sets) (manifest_value_of made number files) ≡ true)
+    (first : crl_file (manifest_value_of made number files) ≡ Some (crl_listed k crl.bytes)) where
   abbrev authority : Authority
   authority = authority_with s k value sets
 
@@ -134,7 +135,7 @@ module _ (s : WalkContext) (k : Seat) (value : CertValue) (sets : Sets) (held : 
   cert = m.manifest.certificate.cert
 
   abbrev own : CertValue
-  own = manifest_certificate s.bases s.moment (publishing k) cert.key m.serial
+  own = manifest_certificate s.bases made (publishing k) cert.key m.serial
 
   placed : has_issuer_uris authority own ≡ true
   placed = and_from (bytes_eq (crl_at s k) (crl_at s k))
@@ -156,9 +157,9 @@ module _ (s : WalkContext) (k : Seat) (value : CertValue) (sets : Sets) (held : 
         (
           and_from (is_valid_at s.moment cert)
               (lies_in s.moment m.manifest.body.1.0 m.manifest.body.1.1.0)
-              (ap (is_valid_at s.moment) m.says ∙ lies-in s.moment point_life)
+              (ap (is_valid_at s.moment) m.says ∙ time)
               (ap (λ (b : Manifest). lies_in s.moment b.1.0 b.1.1.0) m.body
-              ∙ lies-in s.moment point_life),
+              ∙ time),
           (
             ap (λ (c : CertValue). is_none c.held) m.says,
             (
@@ -207,7 +208,7 @@ module _ (s : WalkContext) (k : Seat) (value : CertValue) (sets : Sets) (held : 
             ∙ same-bytes (sha1 k.key),
         (
           ap (λ (v : CrlValue). lies_in s.moment v.this_update v.next_update) crl.says
-              ∙ lies-in s.moment point_life,
+              ∙ time,
           (
             same-bytes (crl_at s k),
             (

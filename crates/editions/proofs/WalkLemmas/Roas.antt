@@ -1,5 +1,5 @@
 -- The ROA of an origin is accepted under a key's point.
-use Rattle.std.proofs.Common.{◌≡◌, ℕ, Bool, true, false, not, ◌&&◌, Option, Some, List, [], ◌∷◌, map, Ok, refl, ap, ◌∙◌}
+use Rattle.std.proofs.Common.{◌≡◌, ℕ, ◌+◌, Bool, true, false, not, ◌&&◌, Option, Some, List, [], ◌∷◌, map, Ok, refl, ap, ◌∙◌}
 use Rattle.std.specs.Prelude.{codes, is_some}
 use Rattle.std.specs.Str.{bytes_eq}
 use Rattle.std.proofs.lemmas.Bool.{and_from}
@@ -18,7 +18,7 @@ use Rattle.rp_rules.specs.Checks.{Checked, ◌>>=◌, tested, found}
 use Rattle.rp_rules.specs.Objects.{SignedManifest, SignedRoa, roa_in}
 use Rattle.rp_rules.specs.Holdings.{no_sets, held_under, have_prefixes}
 use Rattle.rp_rules.specs.Authorities.{key_id}
-use Rattle.rp_rules.specs.Certificates.{WalkContext, File, is_among, is_revoked, is_valid_at, is_held_under, names_issuer, has_issuer_uris, listed_bytes}
+use Rattle.rp_rules.specs.Certificates.{WalkContext, File, lies_in, is_among, is_revoked, is_valid_at, is_held_under, names_issuer, has_issuer_uris, listed_bytes}
 use Rattle.rp_rules.specs.Points.{Point, is_certificate_file, is_signed, is_identified, is_placed, roa_resources, roa_tests, accepted_roa}
 use Rattle.rp_rules.specs.Walk.{Route}
 use Rattle.rp_rules.specs.Yield.{yielded_of, yielded_by}
@@ -29,7 +29,7 @@ use Rattle.issue_plan.specs.Uris.{roa_file}
 use Rattle.key_ids.specs.Uris.{folder_of}
 use Rattle.editions.proofs.WalkLemmas.Checks.{AllKept, tested-kept, found-there, handed-on}
 use Rattle.editions.proofs.WalkLemmas.Endings.{ending}
-use Rattle.editions.proofs.WalkLemmas.Point.{Seat, publishing, authority_with, crl_at, same-bytes, lies-in}
+use Rattle.editions.proofs.WalkLemmas.Point.{Seat, publishing, authority_with, crl_at, same-bytes}
 
 -- The ROA of the origin stands in its place, issued under the key and on no such list.
 pub record IsOwedRoa (s : WalkContext) (k : Seat) (held : Contents) (revoked : List CrlEntry)
@@ -39,8 +39,10 @@ pub record IsOwedRoa (s : WalkContext) (k : Seat) (held : Contents) (revoked : L
   pub roa : SignedRoa
   pub read : roa_in bytes ≡ Some roa
   pub body : roa.body ≡ roa_of origin
+  pub made : ℕ
+  pub time : lies_in s.moment made (made + certificate_life) ≡ true
   pub serial : ℕ
-  pub says : roa.certificate.cert ≡ roa_certificate s.bases s.moment (publishing k)
+  pub says : roa.certificate.cert ≡ roa_certificate s.bases made (publishing k)
       roa.certificate.cert.key origin.prefix (roa_uri s.bases k.name origin) serial
   pub issued : s.vouched k.key roa.certificate.digest roa.certificate.signature ≡ true
   pub signer : roa.object.signer ≡ sha1 roa.certificate.cert.key
@@ -70,7 +72,7 @@ module _ (s : WalkContext) (k : Seat) (value : CertValue) (sets : Sets) (held : 
   x = is.roa
 
   abbrev own : CertValue
-  own = roa_certificate s.bases s.moment (publishing k) x.certificate.cert.key origin.prefix place is.serial
+  own = roa_certificate s.bases is.made (publishing k) x.certificate.cert.key origin.prefix place is.serial
 
   signature : is_signed s p.authority x ≡ true
   signature =
@@ -86,7 +88,7 @@ module _ (s : WalkContext) (k : Seat) (value : CertValue) (sets : Sets) (held : 
       ∙ same-bytes (key_id x.certificate.cert))
 
   time : is_valid_at s.moment x.certificate.cert ≡ true
-  time = ap (is_valid_at s.moment) is.says ∙ lies-in s.moment certificate_life
+  time = ap (is_valid_at s.moment) is.says ∙ is.time
 
   resources : roa_resources p.authority x ≡ true
   resources =

@@ -1,17 +1,21 @@
 -- The live keys that editions leave, and those of the last one.
-use Rattle.std.proofs.Common.{◌≡◌, ◌≢◌, ℕ, ◌==◌, ◌&&◌, zero, suc, ◌<◌, Bool, true, false, cond, Option, Some, List, [], ◌∷◌, ◌++◌, length, map, take, option_map, slice_get, get_or, All, AllPairs, refl, sym, ap, subst, ◌∙◌, arith, ◌⊎◌, inl, inr}
-use Rattle.std.proofs.lemmas.List.{length-map}
+use Rattle.std.proofs.Common.{◌≡◌, ◌≢◌, ℕ, ◌==◌, ◌&&◌, ◌+◌, zero, suc, ◌<◌, Bool, true, false, cond, Option, Some, List, [], ◌∷◌, ◌++◌, length, map, take, option_map, slice_get, get_or, All, AllPairs, refl, sym, ap, ap₂, subst, ◌∙◌, arith, ◌⊎◌, inl, inr}
+use Rattle.std.proofs.lemmas.List.{length-map, append-nil}
 use Rattle.std.proofs.Math.Seq.{take-append_seam}
 use Rattle.res_sets.specs.declared.holdings.Resources.{Resources}
+use Rattle.authority_book.specs.Settings.{Settings}
 use Rattle.entitle.specs.Certified.{names_of}
 use Rattle.key_roll.specs.declared.rows.KeyRow.{KeyRow}
+use Rattle.key_roll.specs.declared.rows.Role.{Role}
 use Rattle.key_roll.specs.declared.rows.Role.TheVariants.{Current}
 use Rattle.issue_keys.specs.Keys.{id_of}
-use Rattle.issue_sign.specs.Objects.{Entries}
+use Rattle.issue_drafts.specs.Drafts.{serial_behind}
+use Rattle.issue_sign.specs.Objects.{Entries, number_of}
 use Rattle.issue_plan.specs.Keys.{row_of}
 use Rattle.key_roll.specs.Roles.{is_role}
 use Rattle.issue_plan.specs.Wanted.{PlanInput}
 use Rattle.editions.specs.Edition.{Edition, State, first_state, after_edition, state_from, state_after, set_after}
+use Rattle.editions.specs.Wanted.{new_objects, keeps_point}
 use Rattle.editions.specs.Objects.{Issuance}
 use Rattle.editions.specs.Step.{Premises, IsStep, AreSteps, plan_input_at, counted, configs_at}
 use Rattle.editions.specs.Names.{AreTree}
@@ -69,11 +73,37 @@ module _ (plan_input : PlanInput) (keys : List KeyRow) (entries : Entries) where
   abbrev after : KeyRow → KeyRow
   after = counted plan_input keys entries
 
+  abbrev kept_on : KeyRow → KeyRow
+  kept_on key = record key { next_serial = serial_behind (new_objects plan_input keys) key }
+
+  abbrev pointed_anew : KeyRow → KeyRow
+  pointed_anew key = record key {
+    next_serial = serial_behind (new_objects plan_input keys) key + 1;
+    number = number_of key;
+    this_update = plan_input.basis.moment;
+    revoked = entries key;
+  }
+
+  -- What both have the row has that it leaves.
+  left-by : {X : Type 0} (f : KeyRow → X) (b : Bool) (row : KeyRow) → f (kept_on row) ≡ f row → f (pointed_anew row) ≡ f row
+      → f (cond b (kept_on row) (pointed_anew row)) ≡ f row
+  left-by f true row one two = one
+  left-by f false row one two = two
+
   -- It leaves the identifier, the desk and the role.
+  same-id : (row : KeyRow) → id_of (after row) ≡ id_of row
+  same-id row = left-by id_of (keeps_point plan_input keys row) row refl refl
+
+  pub same-desk : (row : KeyRow) → (after row).desk ≡ row.desk
+  same-desk row = left-by (λ (k : KeyRow). k.desk) (keeps_point plan_input keys row) row refl refl
+
+  same-role : (row : KeyRow) → (after row).role ≡ row.role
+  same-role row = left-by (λ (k : KeyRow). k.role) (keeps_point plan_input keys row) row refl refl
+
   id-at : (rows : List KeyRow) (i : ℕ) (d : KeyRow) → i < length rows
       → id_of (get_or (map after rows) i d) ≡ id_of (get_or rows i d)
   id-at [] i d inside = absurd (omega (arith, inside))
-  id-at (row ∷ rows) zero d inside = refl
+  id-at (row ∷ rows) zero d inside = same-id row
   id-at (row ∷ rows) (suc i) d inside = id-at rows i d (omega (arith, inside))
 
   counted-apart : (rows : List KeyRow) → AreApart rows → AreApart (map after rows)
@@ -87,9 +117,9 @@ module _ (plan_input : PlanInput) (keys : List KeyRow) (entries : Entries) where
       → row_of (map after rows) desk Current ≡ option_map after (row_of rows desk Current)
   current-kept [] desk = refl
   current-kept (row ∷ rows) desk =
-      let test : Bool = (row.desk == desk) && is_role row.role Current in
-      ap (λ (o : Option KeyRow). cond test (Some (after row)) o) (current-kept rows desk)
-      ∙ by test (row_of rows desk Current) row
+      ap₂ (λ (b : Bool) (o : Option KeyRow). cond b (Some (after row)) o)
+      (ap₂ (λ (d : ℕ) (r : Role). (d == desk) && is_role r Current) (same-desk row) (same-role row)) (current-kept rows desk)
+      ∙ by ((row.desk == desk) && is_role row.role Current) (row_of rows desk Current) row
     where
       by : (b : Bool) (o : Option KeyRow) (row : KeyRow)
           → cond b (Some (after row)) (option_map after o) ≡ option_map after (cond b (Some row) o)
@@ -98,7 +128,7 @@ module _ (plan_input : PlanInput) (keys : List KeyRow) (entries : Entries) where
 
 -- ---- of a step
 
-step-apart : (premises : Premises) (clock : ℕ) (before : List Edition) (edition : Edition)
+pub step-apart : (premises : Premises) (clock : ℕ) (before : List Edition) (edition : Edition)
     → IsStep premises clock before edition → AreApart edition.rows
 step-apart premises clock before edition step =
     let m : PlanInput = plan_input_at premises (state_after before) edition step.sets step.owed
@@ -106,16 +136,24 @@ step-apart premises clock before edition step =
     subst AreApart (sym step.made.rows)
     (counted-apart m step.made.keys step.made.entries step.made.keys step.made.next.apart)
 
-pub rows-apart : (premises : Premises) (editions : List Edition) (edition : Edition)
-    → AreSteps premises (editions ++ edition ∷ []) → AreApart (state_after editions).rows
-rows-apart premises editions edition steps = elim (rows-from first_state editions) [
+by-steps : (premises : Premises) (editions later : List Edition) → AreSteps premises (editions ++ later)
+    → AreApart (state_after editions).rows
+by-steps premises editions later steps = elim (rows-from first_state editions) [
   | inl none ↦ subst AreApart (sym none) (λ i j d less inside. absurd (omega (arith, inside)))
   | inr of ↦
-      let step = steps of.position of.edition
-      (there-longer editions (edition ∷ []) of.position of.edition of.there) in
+      let step = steps of.position of.edition (there-longer editions later of.position of.edition of.there) in
       subst AreApart (sym of.same)
-      (step-apart premises step.0 (take of.position (editions ++ edition ∷ [])) of.edition step.1)
+      (step-apart premises step.0 (take of.position (editions ++ later)) of.edition step.1)
 ]
+
+pub live-apart : (premises : Premises) (editions : List Edition) → AreSteps premises editions
+    → AreApart (state_after editions).rows
+live-apart premises editions steps =
+    by-steps premises editions [] (subst (AreSteps premises) (sym (append-nil editions)) steps)
+
+pub rows-apart : (premises : Premises) (editions : List Edition) (edition : Edition)
+    → AreSteps premises (editions ++ edition ∷ []) → AreApart (state_after editions).rows
+rows-apart premises editions edition steps = by-steps premises editions (edition ∷ []) steps
 
 -- ---- the last one
 
@@ -132,6 +170,24 @@ last-step premises editions edition steps =
       subst (λ (before : List Edition). IsStep premises step.0 before edition)
           (take-append_seam editions (edition ∷ [])) step.1,
     )
+
+-- A key is in the tree by its desk.
+in-tree-at : (configs : List Settings) (sets : List Resources) (keys : List KeyRow) (key other : KeyRow) → other.desk ≡ key.desk
+    → IsInTree configs sets keys key → IsInTree configs sets keys other
+in-tree-at configs sets keys key other same is = record {
+  name = is.name;
+  is = record {
+    named = ap (slice_get (names_of configs)) same ∙ is.is.named;
+    set = is.is.set;
+    has = ap (slice_get sets) same ∙ is.is.has;
+    some = is.is.some;
+  };
+  level = is.level;
+  within = is.within;
+  at = is.at;
+  issuer = λ below. subst (λ (d : ℕ). HasIssuer configs sets keys d is.is.set is.level) (sym same)
+      (is.issuer (λ zero. below (same ∙ zero)));
+}
 
 pub of-tree : (premises : Premises) (editions : List Edition) (edition : Edition)
     → AreSteps premises (editions ++ edition ∷ [])
@@ -170,12 +226,14 @@ of-tree premises editions edition steps tree =
             at = has.at;
             inside = has.inside;
           } in
-          subst (IsInTree m.basis.configs step.sets rows) k.2 (record {
+          subst (IsInTree m.basis.configs step.sets rows) k.2
+          (in-tree-at m.basis.configs step.sets rows k.0 (counted m keys step.made.entries k.0)
+          (same-desk m keys step.made.entries k.0) (record {
             name = is.name;
             is = is.is;
             level = is.level;
             within = is.within;
             at = is.at;
             issuer = λ other. of-rows k.0.desk is.level is.is.set (is.issuer other);
-          })));
+          }))));
     }

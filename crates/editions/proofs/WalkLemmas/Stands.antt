@@ -1,106 +1,41 @@
--- What stands of each key: its CRL, its manifest, and the ROAs of its authority's origins.
-use Rattle.std.proofs.Common.{◌≡◌, ◌≢◌, ℕ, ◌<◌, ◌≤◌, true, false, Option, None, Some, List, [], ◌∷◌, map, length, slice_get, get_or, AllPairs, refl, ap, subst, ◌∙◌, arith, inl, inr, ◌⊎◌, zero, suc}
-use Rattle.std.specs.Option.{option_map}
-use Rattle.std.proofs.lemmas.Option.{slice_get_within, slice_get_cases}
-use Rattle.origins.specs.declared.Prefix.{Prefix}
-use Rattle.origins.specs.declared.Origin.{Origin}
-use Rattle.res_sets.specs.declared.holdings.Resources.{Resources}
-use Rattle.res_sets.specs.Triples.{has}
-use Rattle.key_ids.specs.Uris.{crl_uri, manifest_uri}
-use Rattle.authority_book.specs.declared.rows.NameRow.{NameRow}
-use Rattle.authority_book.specs.Settings.{Settings}
+-- The CRLs, the manifests and the ROAs of an edition, as they stand.
+use Rattle.std.proofs.Common.{◌≡◌, ◌≢◌, ℕ, Some, List, ◌++◌, map, AllPairs, refl, ap}
+use Rattle.std.specs.Prelude.{Contains, false}
+use Rattle.std.specs.List.{filter_map}
+use Rattle.std.proofs.lemmas.List.Elements.{Contains-append_left, Contains-append_right}
 use Rattle.entitle.specs.declared.trees.Owed.{Owed}
-use Rattle.entitle.specs.Certified.{names_of, certified, most_parents, AreCertified}
-use Rattle.entitle.specs.Owed.{family_of, HasEach, IsHeldBy, IsHeldAt, AreThose, origins_of, at_desk, AreOwedByFirst, AreOwed}
+use Rattle.entitle.specs.Certified.{names_of, AreCertified}
+use Rattle.entitle.specs.Owed.{AreOwed}
 use Rattle.key_roll.specs.declared.rows.KeyRow.{KeyRow}
-use Rattle.key_roll.specs.declared.rows.Role.TheVariants.{Current}
 use Rattle.key_roll.specs.declared.work.RoaWork.{RoaWork}
 use Rattle.cert_obj.specs.Values.{CertValue, SignedCert}
 use Rattle.crl_obj.specs.declared.values.CrlEntry.{CrlEntry}
 use Rattle.rp_rules.specs.Certificates as walk
 use Rattle.rp_rules.specs.Certificates.{is_revoked}
 use Rattle.issue_values.specs.Bodies.{crl_entry}
-use Rattle.issue_values.specs.Publishers.{Publishing, roa_uri}
-use Rattle.issue_values.specs.Certificates as values
-use Rattle.issue_values.specs.Certificates.{manifest_certificate}
-use Rattle.issue_plan.specs.Keys.{kept, next_keys, row_of}
+use Rattle.issue_plan.specs.Keys.{kept, next_keys}
 use Rattle.issue_plan.specs.Wanted as plan
-use Rattle.issue_plan.specs.Wanted.{point_of}
 use Rattle.issue_keys.specs.Keys.{id_of}
-use Rattle.issue_drafts.specs.Publishers.{name_at}
-use Rattle.issue_drafts.specs.Drafts.{Draft, crl_draft, manifest_draft, roa_draft, serial_at, serial_behind}
-use Rattle.issue_drafts.specs.Drafts.Kind.{Roa, Crl, Manifest}
-use Rattle.issue_sign.specs.Objects.{number_of}
+use Rattle.issue_drafts.specs.Drafts.{Draft, certificate_draft, roa_draft, crl_draft, drafts, manifests}
 use Rattle.editions.specs.Held.{IsHeld}
 use Rattle.editions.specs.Keys.{AreNext}
-use Rattle.editions.specs.Wanted.{all_roas, new_objects}
-use Rattle.editions.specs.Objects.{Issuance, IsNewSet, IsCrl, IsManifest, IsRoa, IsDone, IsLeft}
+use Rattle.editions.specs.Wanted.{all_certificates, all_roas, all_points, all_objects}
+use Rattle.editions.specs.Objects.{Issuance}
 use Rattle.editions.specs.Names.{AreTree}
-use Rattle.editions.specs.inner.KeyTree.{IsDesk}
-use Rattle.items.specs.laws.AmongLaws.{In, in-all, in-parts, map-in, in-filter-map}
-use Rattle.editions.proofs.WalkLemmas.KeyTree.{desk-has, has-current, certified-desk}
-use Rattle.editions.proofs.WalkLemmas.NextKeys.{row-parts}
+use Rattle.items.specs.laws.ElementLaws.{into-filter_map}
+use Rattle.items.specs.laws.AmongLaws.{In, in-contains, in-filter-map}
 use Rattle.editions.proofs.WalkLemmas.Point.{Seat, HasCrl, HasManifest}
 use Rattle.editions.proofs.WalkLemmas.Roas.{IsOwedRoa}
-use Rattle.editions.proofs.PlanLemmas.Places.{placed}
-use Rattle.editions.proofs.WalkLemmas.Seats as seats
+use Rattle.editions.proofs.WalkLemmas.Serving.{IsServed, ServesPoint, ServesRoa}
+use Rattle.editions.proofs.WalkLemmas.Homes as homes
+use Rattle.editions.proofs.WalkLemmas.KeyDrafts as drawn
 use Rattle.editions.proofs.WalkLemmas.Serials.{manifest-has, roa-has}
-
--- ---- desks
-
-abbrev pub slice_of : List Resources → ℕ → Option Resources
-slice_of sets desk = slice_get sets desk
-
-pub current-desk : (keys : List KeyRow) (desk : ℕ) (k : KeyRow) → row_of keys desk Current ≡ Some k
-    → k.desk ≡ desk
-current-desk keys desk k found = (row-parts keys desk Current k found).1
-
-pub each-in : (p : Prefix) (one other : Resources) → one ≡ other → HasEach (has one) p → HasEach (has other) p
-each-in p one other same each = subst (λ (r : Resources). HasEach (has r) p) same each
-
--- ---- places
-
-abbrev pub crl-uri : Issuance → KeyRow → List ℕ
-crl-uri m k = crl_uri m.plan_input.site (name_at (names_of m.plan_input.basis.configs) k.desk) (id_of k)
-
-abbrev pub manifest-uri : Issuance → KeyRow → List ℕ
-manifest-uri m k =
-    manifest_uri m.plan_input.site (name_at (names_of m.plan_input.basis.configs) k.desk) (id_of k)
-
--- ---- what is owed
-
-those-in : (P : Origin → Type 0) (all own : List Origin) → AreThose P all own → (x : Origin) → In x own → P x
-those-in P [] own none x at = absurd (subst (In x) none at)
-those-in P (o ∷ all) own (inl off) x at = those-in P all own off.1 x at
-those-in P (o ∷ all) own (inr on) x at = by (those-in P all on.0 on.2 x) (subst (In x) on.3 at)
-  where
-    by : (In x on.0 → P x) → In x (o ∷ on.0) → P x
-    by rest (inl same) = subst P same on.1
-    by rest (inr here) = rest here
-
-first-held : (configs : List Settings) (n : ℕ) (owed : List Owed) → AreOwedByFirst configs n owed
-    → (o : Owed) → In o owed → IsHeldAt configs o.desk o.origin
-first-held configs zero owed none o at = absurd (subst (In o) none at)
-first-held configs (suc n) owed are o at =
-    by (first-held configs n are.0 are.2 o) (in-parts o are.0 (at_desk n are.1) (subst (In o) are.4 at))
-  where
-    by : (In o are.0 → IsHeldAt configs o.desk o.origin) → In o are.0 ⊎ In o (at_desk n are.1)
-        → IsHeldAt configs o.desk o.origin
-    by rest (inl before) = rest before
-    by rest (inr here) =
-        let w = map-in (λ (origin : Origin). record { desk = n; origin = origin }) o are.1 here in
-        subst (λ (x : Owed). IsHeldAt configs x.desk x.origin) w.2
-        (those-in (IsHeldAt configs n) (origins_of (slice_get configs n)) are.1 are.3 w.0 w.1)
-
-pub owed-held : (configs : List Settings) (owed : List Owed) → AreOwed configs owed → (o : Owed) → In o owed
-    → IsHeldAt configs o.desk o.origin
-owed-held configs owed are o at = first-held configs (length (names_of configs)) owed are o at
 
 module _ (m : Issuance) (tree : AreTree (names_of m.plan_input.basis.configs))
     (are : AreCertified m.plan_input.basis.configs m.plan_input.basis.sets)
     (before : AllPairs (λ a b. id_of a ≢ id_of b) m.plan_input.basis.rows)
     (next : AreNext m.plan_input.basis.rows (next_keys m.plan_input.basis) m.keys)
-    (set : IsNewSet m) (anchor : List ℕ) where
+    (set : IsServed m) (anchor : List ℕ) where
   -- How a relying party with that anchor looks at the set.
   abbrev pub s : walk.WalkContext
   s = record {
@@ -111,228 +46,107 @@ module _ (m : Issuance) (tree : AreTree (names_of m.plan_input.basis.configs))
   }
 
   abbrev pub seat_of : (k : KeyRow) → In k m.keys → Seat
-  seat_of k at = seats.seat m tree are before next set k at
+  seat_of k at = homes.seat m tree are before next k at
 
   module _ (k : KeyRow) (at : In k m.keys) where
-    abbrev name : List ℕ
-    name = name_at (names_of m.plan_input.basis.configs) k.desk
+    -- ---- the CRL and the manifest
 
-    -- ---- the CRL
+    abbrev pub point : ServesPoint m k
+    point = set.points k (in-contains k m.keys at)
 
-    abbrev pub crl : Draft
-    crl = record { uri = crl_uri m.plan_input.site name (id_of k); issuer = k; kind = Crl }
+    abbrev pub crl-left : (bytes : List ℕ) × (m.new (drawn.crl m tree are before next k at).uri ≡ Some bytes)
+    crl-left = (point.crl_bytes, point.crl_there)
 
-    pub crl-draft-is : crl_draft (seats.w m tree are before next set) (seats.ks m tree are before next set)
-        (point_of (kept k)) ≡ Some crl
-    crl-draft-is = ap (option_map (λ (issuer : KeyRow). record {
-      uri = crl_uri m.plan_input.site
-          (name_at (names_of m.plan_input.basis.configs) issuer.desk) (id_of issuer);
-      issuer = issuer;
-      kind = Crl;
-    })) (seats.named m tree are before next set k at)
-
-    pub crl-left : IsLeft m crl false
-    crl-left =
-        let done = in-all (λ (r : KeyRow). IsDone m false
-        (crl_draft (seats.w m tree are before next set) (seats.ks m tree are before next set)
-        (point_of (kept r)))) k m.keys set.crls at in
-        subst (IsDone m false) crl-draft-is done
-
-    abbrev pub crl_object : IsCrl m crl crl-left.0
-    crl_object = crl-left.2
-
-    abbrev pub crl-stands : HasCrl s (seat_of k at) m.new (number_of k) (m.entries k)
+    abbrev pub crl-stands : HasCrl s (seat_of k at) m.new point.made point.number point.revoked
     crl-stands = record {
-      bytes = crl-left.0;
-      there = crl-left.1;
-      crl = crl_object.crl;
-      read = crl_object.read;
-      says = crl_object.says;
-      issued = crl_object.vouched;
+      bytes = point.crl_bytes;
+      there = point.crl_there;
+      crl = point.crl;
+      read = point.crl_read;
+      says = point.crl_says;
+      issued = point.crl_vouched;
     }
-
-    -- ---- the manifest
-
-    abbrev pub manifest : Draft
-    manifest = record { uri = manifest_uri m.plan_input.site name (id_of k); issuer = k; kind = Manifest }
-
-    pub manifest-draft-is : manifest_draft (seats.w m tree are before next set)
-        (seats.ks m tree are before next set) (point_of (kept k)) ≡ Some manifest
-    manifest-draft-is = ap (option_map (λ (issuer : KeyRow). record {
-      uri = manifest_uri m.plan_input.site
-          (name_at (names_of m.plan_input.basis.configs) issuer.desk) (id_of issuer);
-      issuer = issuer;
-      kind = Manifest;
-    })) (seats.named m tree are before next set k at)
-
-    pub manifest-left : IsLeft m manifest false
-    manifest-left =
-        let done = in-all (λ (r : KeyRow). IsDone m false
-        (manifest_draft (seats.w m tree are before next set) (seats.ks m tree are before next set)
-        (point_of (kept r)))) k m.keys set.manifests at in
-        subst (IsDone m false) manifest-draft-is done
-
-    abbrev pub manifest_object : IsManifest m manifest manifest-left.0
-    manifest_object = manifest-left.2
 
     pub manifest-stands :
         ((c : SignedCert) → IsHeld m.new (id_of k) c
-        → is_revoked (map crl_entry (m.entries k)) c.cert.serial ≡ false)
-        → HasManifest s (seat_of k at) m.new (number_of k) (m.entries k) manifest_object.files
-    manifest-stands unrevoked =
-        let serial = serial_behind (new_objects m.plan_input m.keys) k in
-        let once = manifest_object.manifest.certificate.cert.key in
-        let says = manifest_object.signed.certificate.says
-        ∙ ap (λ (p : Publishing). manifest_certificate m.plan_input.site m.plan_input.basis.moment p once
-        serial) (seats.publishing-is m tree are before next set k at) in
-        record {
-          bytes = manifest-left.0;
-          there = manifest-left.1;
-          manifest = manifest_object.manifest;
-          read = manifest_object.read;
-          body = manifest_object.signed.body;
-          serial = serial;
-          says = says;
-          issued = manifest_object.signed.certificate.vouched;
-          signer = manifest_object.signed.signer;
-          signed = manifest_object.signed.vouched;
-          unrevoked = unrevoked manifest_object.manifest.certificate (record {
-            uri = manifest.uri;
-            bytes = manifest-left.0;
-            there = manifest-left.1;
-            has = manifest-has manifest-left.0 manifest_object.manifest manifest_object.read;
-            issuer = ap (λ (c : CertValue). c.issuer) says;
-          });
-        }
+        → is_revoked (map crl_entry point.revoked) c.cert.serial ≡ false)
+        → HasManifest s (seat_of k at) m.new point.made point.number point.revoked point.files
+    manifest-stands unrevoked = record {
+      bytes = point.bytes;
+      there = point.there;
+      manifest = point.manifest;
+      read = point.read;
+      body = point.body;
+      serial = point.serial;
+      says = point.says;
+      issued = point.issued;
+      signer = point.signer;
+      signed = point.signed;
+      unrevoked = unrevoked point.manifest.certificate (record {
+        uri = (drawn.manifest m tree are before next k at).uri;
+        bytes = point.bytes;
+        there = point.there;
+        has = manifest-has point.bytes point.manifest point.read;
+        issuer = ap (λ (c : CertValue). c.issuer) point.says;
+      });
+    }
 
   -- ---- ROAs
 
-  abbrev names : List NameRow
-  names = names_of m.plan_input.basis.configs
+  module _ (owes : AreOwed m.plan_input.basis.configs m.plan_input.owed) (o : Owed) (oat : In o m.plan_input.owed) where
+    abbrev signer : KeyRow
+    signer = drawn.signer m tree are before next owes o oat
 
-  abbrev configs : List Settings
-  configs = m.plan_input.basis.configs
+    abbrev drafted : Draft
+    drafted = drawn.roa_drafted m tree are before next owes o oat
 
-  -- The desk of an origin that is held has each of its addresses.
-  pub record HoldsPrefix (o : Owed) : Type 0 where
-    pub row : NameRow
-    pub is : IsDesk configs m.plan_input.basis.sets o.desk row
-    pub each : HasEach (has is.set) o.origin.prefix
+    pub roa-left : (bytes : List ℕ) × (m.new drafted.uri ≡ Some bytes) × ServesRoa m drafted o.origin bytes
+    roa-left = set.roas drafted wanted o.origin refl
+      where
+        wanted : Contains (all_objects m.plan_input m.keys) drafted
+        wanted =
+            let w = homes.w m tree are before next in
+            let ks = homes.ks m tree are before next in
+            let certs : List Draft = filter_map (certificate_draft w ks) (all_certificates m.plan_input m.keys) in
+            let roas : List Draft = filter_map (roa_draft w ks) (all_roas m.plan_input m.keys) in
+            let work : RoaWork = drawn.work m tree are before next owes o oat in
+            let among : Contains (all_roas m.plan_input m.keys) work =
+            in-contains work (all_roas m.plan_input m.keys)
+            (in-filter-map (plan.roa_of (map kept m.keys)) o work m.plan_input.owed
+            (drawn.work-is m tree are before next owes o oat) oat) in
+            let here : Contains roas drafted =
+            into-filter_map (roa_draft w ks) (all_roas m.plan_input m.keys) work drafted among
+            (drawn.roa-draft-is m tree are before next owes o oat) in
+            Contains-append_left (drafts w ks) (manifests w ks) drafted
+            (Contains-append_left (certs ++ roas) (filter_map (crl_draft w ks) (all_points m.keys)) drafted
+            (Contains-append_right certs roas drafted here))
 
-  holds-prefix : (o : Owed) → IsHeldAt configs o.desk o.origin → HoldsPrefix o
-  holds-prefix o at = by (slice_get names o.desk) refl at
-    where
-      with_set : (row : NameRow) → slice_get names o.desk ≡ Some row
-          → HasEach (certified configs most_parents row.name) o.origin.prefix
-          → (((set : Resources) × (o.desk < length m.plan_input.basis.sets)
-          × (slice_get m.plan_input.basis.sets o.desk ≡ Some set)
-          × (get_or m.plan_input.basis.sets o.desk set ≡ set))
-          ⊎ ((length m.plan_input.basis.sets ≤ o.desk) × (slice_get m.plan_input.basis.sets o.desk ≡ None)))
-          → HoldsPrefix o
-      with_set row e each (inr past) =
-          let inside : o.desk < length names = slice_get_within names o.desk row e in
-          let long = are.one_each in
-          let low = past.0 in
-          absurd (omega (arith, inside, long, low))
-      with_set row e each (inl there) =
-          let first : certified configs most_parents row.name (family_of o.origin.prefix)
-          o.origin.prefix.address ≡ true =
-          each o.origin.prefix.address (record { fits = o.origin.prefix.prefix.fits; shares = refl }) in
-          let d = certified-desk m.plan_input.basis tree are row.name o.desk row there.0
-          (family_of o.origin.prefix) o.origin.prefix.address (placed names o.desk row tree.apart e) first in
-          record {
-            row = d.0;
-            is = d.2;
-            each = λ a member.
-                desk-has m.plan_input.basis tree are o.desk d.0 d.2 (family_of o.origin.prefix) a
-                ∙ (ap (λ (n : List ℕ). certified configs most_parents n (family_of o.origin.prefix) a) d.1
-                ∙ each a member);
-          }
-
-      by : (row : Option NameRow) → slice_get names o.desk ≡ row → IsHeldBy configs row o.origin.prefix
-          → HoldsPrefix o
-      by None e h = absurd h
-      by (Some row) e h = with_set row e h (slice_get_cases m.plan_input.basis.sets o.desk).1
-
-  module _ (owes : AreOwed configs m.plan_input.owed) (o : Owed) (oat : In o m.plan_input.owed) where
-    pub holds : HoldsPrefix o
-    holds = holds-prefix o (owed-held configs m.plan_input.owed owes o oat)
-
-    pub signs : (key : KeyRow) × (row_of m.keys o.desk Current ≡ Some key)
-    signs = has-current m.plan_input.basis m.keys tree are before next o.desk holds.row holds.is
-
-    -- The key that signs it: the current one of its desk.
-    abbrev pub signer : KeyRow
-    signer = signs.0
-
-    pub signer-current : row_of m.keys o.desk Current ≡ Some signer
-    signer-current = signs.1
-
-    pub signer-at : In signer m.keys
-    signer-at = (row-parts m.keys o.desk Current signer signs.1).0
-
-    pub signer-desk : signer.desk ≡ o.desk
-    signer-desk = (row-parts m.keys o.desk Current signer signs.1).1
-
-    abbrev pub work : RoaWork
-    work = record { issuer = (kept signer).name; origin = o.origin }
-
-    pub work-is : plan.roa_of (map kept m.keys) o ≡ Some work
-    work-is = ap (plan.roa_by o) (seats.current-is m tree are before next set o.desk signer signs.1)
-
-    abbrev pub roa_drafted : Draft
-    roa_drafted = record {
-      uri = roa_uri m.plan_input.site (name_at names signer.desk) o.origin;
-      issuer = signer;
-      kind = Roa o.origin;
-    }
-
-    pub roa-draft-is : roa_draft (seats.w m tree are before next set) (seats.ks m tree are before next set)
-        work ≡ Some roa_drafted
-    roa-draft-is = ap (option_map (λ (issuer : KeyRow). record {
-      uri = roa_uri m.plan_input.site (name_at names issuer.desk) o.origin;
-      issuer = issuer;
-      kind = Roa o.origin;
-    })) (seats.named m tree are before next set signer signer-at)
-
-    pub roa-left : IsLeft m roa_drafted false
-    roa-left =
-        let among : In work (all_roas m.plan_input m.keys) =
-        in-filter-map (plan.roa_of (map kept m.keys)) o work m.plan_input.owed work-is oat in
-        let done = in-all (λ (roa : RoaWork). IsDone m false
-        (roa_draft (seats.w m tree are before next set) (seats.ks m tree are before next set) roa))
-        work (all_roas m.plan_input m.keys) set.roas among in
-        subst (IsDone m false) roa-draft-is done
-
-    abbrev pub roa_object : IsRoa m roa_drafted o.origin roa-left.0
+    abbrev pub roa_object : ServesRoa m drafted o.origin roa-left.0
     roa_object = roa-left.2
 
     abbrev pub owed-roa : (revoked : List CrlEntry)
         → ((c : SignedCert) → IsHeld m.new (id_of signer) c → is_revoked revoked c.cert.serial ≡ false)
-        → IsOwedRoa s (seat_of signer signer-at) m.new revoked o.origin
+        → IsOwedRoa s (seat_of signer (drawn.signer-at m tree are before next owes o oat)) m.new revoked o.origin
     owed-roa revoked unrevoked =
         let roa = roa_object.roa in
-        let serial : ℕ = serial_at (new_objects m.plan_input m.keys) signer roa_drafted.uri in
-        let says = roa_object.signed.certificate.says
-        ∙ ap (λ (p : Publishing). values.roa_certificate m.plan_input.site m.plan_input.basis.moment p
-        roa.certificate.cert.key o.origin.prefix roa_drafted.uri serial)
-        (seats.publishing-is m tree are before next set signer signer-at) in
         record {
           bytes = roa-left.0;
           there = roa-left.1;
           roa = roa;
           read = roa_object.read;
-          body = roa_object.signed.body;
-          serial = serial;
-          says = says;
-          issued = roa_object.signed.certificate.vouched;
-          signer = roa_object.signed.signer;
-          signed = roa_object.signed.vouched;
+          body = roa_object.body;
+          made = roa_object.made;
+          time = roa_object.time;
+          serial = roa_object.serial;
+          says = roa_object.says;
+          issued = roa_object.issued;
+          signer = roa_object.signer;
+          signed = roa_object.signed;
           unrevoked = unrevoked roa.certificate (record {
-            uri = roa_drafted.uri;
+            uri = drafted.uri;
             bytes = roa-left.0;
             there = roa-left.1;
             has = roa-has roa-left.0 roa roa_object.read;
-            issuer = ap (λ (v : CertValue). v.issuer) says;
+            issuer = ap (λ (v : CertValue). v.issuer) roa_object.says;
           });
         }

@@ -24,7 +24,7 @@ use Rattle.issue_drafts.specs.Publishers as publishers
 use Rattle.editions.specs.Edition.{Edition, state_after, cut_at}
 use Rattle.editions.specs.Names.{AreTree}
 use Rattle.editions.specs.Keys.{AreNext}
-use Rattle.editions.specs.Objects.{Issuance, IsNewSet}
+use Rattle.editions.specs.Objects.{Issuance}
 use Rattle.editions.specs.Step.{Premises, IsStep, AreSteps, configs_at}
 use Rattle.editions.specs.MadeIn.{issuance_of, IsAuthorityOf, IsSameKey, published_key}
 use Rattle.items.specs.laws.AmongLaws.{In, contains-in}
@@ -35,11 +35,11 @@ use Rattle.editions.proofs.ObjectLemmas.Left.{front-steps}
 use Rattle.editions.proofs.WalkLemmas.KeyTree.{in-tree}
 use Rattle.editions.proofs.WalkLemmas.NextKeys.{row-parts}
 use Rattle.editions.proofs.WalkLemmas.Rows.{rows-apart}
-use Rattle.editions.proofs.WalkLemmas.Seats as seats
+use Rattle.editions.proofs.WalkLemmas.Homes as homes
 
 -- ---- names stay
 
-abbrev IsGrown : List NameRow → List NameRow → Type 0
+abbrev pub IsGrown : List NameRow → List NameRow → Type 0
 IsGrown names more = (rest : List NameRow) × (more ≡ names ++ rest)
 
 grown-itself : (names : List NameRow) → IsGrown names names
@@ -58,7 +58,7 @@ name-step settings (UpdateRoas added removed) = grown-itself settings.names
 name-step settings InitRoll = grown-itself settings.names
 name-step settings ActivateRoll = grown-itself settings.names
 
-names-after : (settings : Settings) (commands : List Command)
+pub names-after : (settings : Settings) (commands : List Command)
     → IsGrown settings.names (after_all settings commands).names
 names-after settings [] = grown-itself settings.names
 names-after settings (command ∷ rest) =
@@ -82,7 +82,7 @@ names-taken list n more le =
           ∙ grown.1),
     )
 
-names-grow : (lists : List (List Command)) (cut more : List ℕ) → cut_at cut 0 ≤ cut_at more 0
+pub names-grow : (lists : List (List Command)) (cut more : List ℕ) → cut_at cut 0 ≤ cut_at more 0
     → IsGrown (names_of (configs_at lists cut)) (names_of (configs_at lists more))
 names-grow [] cut more le = ([], refl)
 names-grow (list ∷ lists) [] [] le = grown-itself (fold_of 0 []).names
@@ -99,7 +99,7 @@ get-front (y ∷ xs) ys zero x e = e
 get-front (y ∷ xs) ys (suc k) x e = get-front xs ys k x e
 
 -- A desk that has a name keeps it.
-name-stays : (names more : List NameRow) (desk : ℕ) (row : NameRow) → IsGrown names more
+pub name-stays : (names more : List NameRow) (desk : ℕ) (row : NameRow) → IsGrown names more
     → slice_get names desk ≡ Some row → name_at more desk ≡ name_at names desk
 name-stays names more desk row grown named =
     let tell : Option NameRow → List ℕ = λ o. option_map_or (λ (n : NameRow). n.name) o [] in
@@ -117,7 +117,7 @@ module _ (premises : Premises) (editions : List Edition) (steps : AreSteps premi
       ∙ (ap (λ (l : List Edition). (state_after l).cut) (take-next editions k edition there)
       ∙ ap (λ s. s.cut) (after-last (take k editions) edition))
 
-  cuts-grow : (to from : ℕ) → from ≤ to → (first last : Edition) → slice_get editions from ≡ Some first
+  pub cuts-grow : (to from : ℕ) → from ≤ to → (first last : Edition) → slice_get editions from ≡ Some first
       → slice_get editions to ≡ Some last → cut_at first.cut 0 ≤ cut_at last.cut 0
   cuts-grow zero from le first last there then =
       let start : from ≡ 0 = omega (arith, le) in
@@ -147,7 +147,7 @@ module _ (m : Issuance) (tree : AreTree (names_of m.plan_input.basis.configs))
     (certified : AreCertified m.plan_input.basis.configs m.plan_input.basis.sets)
     (before : AllPairs (λ a b. id_of a ≢ id_of b) m.plan_input.basis.rows)
     (next : AreNext m.plan_input.basis.rows (next_keys m.plan_input.basis) m.keys)
-    (set : IsNewSet m) (k : KeyRow) (at : In k m.keys) where
+    (k : KeyRow) (at : In k m.keys) where
   abbrev configs : List Settings
   configs = m.plan_input.basis.configs
 
@@ -155,17 +155,21 @@ module _ (m : Issuance) (tree : AreTree (names_of m.plan_input.basis.configs))
   names = names_of configs
 
   -- The trust anchor's has a place of its own.
-  anchors-place : k.desk ≡ 0 → (published_key m k).certificate ≡ anchor_uri m.plan_input.site
+  pub anchors-place : k.desk ≡ 0 → (published_key m k).certificate ≡ anchor_uri m.plan_input.site
   anchors-place zero_desk =
       ap (λ (b : Bool). cond b (anchor_uri m.plan_input.site) (publishers.first_of
-      (publishers.made_for (seats.w m tree certified before next set) (seats.ks m tree certified before next set) k)
+      (publishers.made_for (homes.w m tree certified before next) (homes.ks m tree certified before next) k)
       (publishers.standing_for m.plan_input.issued k) (anchor_uri m.plan_input.site))) (eq-eqb k.desk 0 zero_desk)
 
   -- Another's stands in the folder of the parent.
-  record HasParent : Type 0 where
-    parent : List ℕ
-    is : parent_of (slice_get configs k.desk) ≡ Some parent
-    place : (published_key m k).certificate ≡ cert_uri m.plan_input.site parent (id_of k)
+  pub record HasParent : Type 0 where
+    pub parent : List ℕ
+    pub is : parent_of (slice_get configs k.desk) ≡ Some parent
+    pub place : (published_key m k).certificate ≡ cert_uri m.plan_input.site parent (id_of k)
+    pub above : ℕ
+    pub row : NameRow
+    pub known : slice_get names above ≡ Some row
+    pub called : row.name ≡ parent
 
   parent-by : (o : Option (List ℕ)) (above : ℕ) (row : NameRow) → desk_of configs o ≡ Some above
       → slice_get names above ≡ Some row → o ≡ Some row.name
@@ -175,10 +179,10 @@ module _ (m : Issuance) (tree : AreTree (names_of m.plan_input.basis.configs))
       ap (λ (n : List ℕ). Some n)
       (sym h.1 ∙ ap (λ (r : NameRow). r.name) (get_or_from_slice_get names above row row named))
 
-  others-place : k.desk ≢ 0 → HasParent
+  pub others-place : k.desk ≢ 0 → HasParent
   others-place other =
-      let has = seats.other-issuer m tree certified before next set k at other in
-      let issuer : KeyRow = seats.issuer m tree certified before next set k at in
+      let has = homes.other-issuer m tree certified before next k at other in
+      let issuer : KeyRow = homes.issuer m tree certified before next k at in
       let desk : issuer.desk ≡ has.0.above =
       sym (ap (λ (r : KeyRow). r.desk) has.1)
       ∙ (row-parts m.keys has.0.above Current has.0.issuer has.0.current).1 in
@@ -189,11 +193,15 @@ module _ (m : Issuance) (tree : AreTree (names_of m.plan_input.basis.configs))
         parent = has.0.parents_name.name;
         is = parent-by (parent_of (slice_get configs k.desk)) has.0.above has.0.parents_name has.0.parent
             has.0.is.named;
-        place = seats.certificate-at m tree certified before next set k at
+        place = homes.certificate-at m tree certified before next k at
             ∙ (ap (λ (b : Bool). cond b (anchor_uri m.plan_input.site)
             (cert_uri m.plan_input.site (name_at names issuer.desk) (id_of k)))
-            (seats.apart-issuer m tree certified before next set k at other)
+            (homes.apart-issuer m tree certified before next k at other)
             ∙ ap (λ (n : List ℕ). cert_uri m.plan_input.site n (id_of k)) name);
+        above = has.0.above;
+        row = has.0.parents_name;
+        known = has.0.is.named;
+        called = refl;
       }
 
 -- ---- two editions
@@ -243,15 +251,15 @@ module _ (premises : Premises) (editions : List Edition) (steps : AreSteps premi
       by : (b : Bool) → (k.desk == 0) ≡ b → (published_key n l).certificate ≡ (published_key m k).certificate
       by true e =
           let zero_desk : k.desk ≡ 0 = eqb-true k.desk 0 e in
-          anchors-place n trees two.made.certified (rows-at to last then) two.made.next two.made.set l in-two
+          anchors-place n trees two.made.certified (rows-at to last then) two.made.next l in-two
           (same.desk ∙ zero_desk)
-          ∙ sym (anchors-place m tree one.made.certified (rows-at from first there) one.made.next one.made.set k in-one
+          ∙ sym (anchors-place m tree one.made.certified (rows-at from first there) one.made.next k in-one
           zero_desk)
       by false e =
           let other : k.desk ≢ 0 = λ zero_desk. true≢false (sym (eq-eqb k.desk 0 zero_desk) ∙ e) in
-          let p = others-place m tree one.made.certified (rows-at from first there) one.made.next one.made.set k in-one
+          let p = others-place m tree one.made.certified (rows-at from first there) one.made.next k in-one
           other in
-          let q = others-place n trees two.made.certified (rows-at to last then) two.made.next two.made.set l in-two
+          let q = others-place n trees two.made.certified (rows-at to last then) two.made.next l in-two
           (λ zero_desk. other (sym same.desk ∙ zero_desk)) in
           let parent : q.parent ≡ p.parent = same_Some q.parent p.parent
           (sym q.is

@@ -1,5 +1,5 @@
 -- The certificate of the trust anchor's key is accepted.
-use Rattle.std.proofs.Common.{◌≡◌, ℕ, Bool, true, not, ◌&&◌, cond, Some, None, List, Ok, refl, sym, ap, subst, ◌∙◌, append_assoc}
+use Rattle.std.proofs.Common.{◌≡◌, ℕ, ◌+◌, Bool, true, not, ◌&&◌, cond, Some, None, List, Ok, refl, sym, ap, subst, ◌∙◌, append_assoc}
 use Rattle.std.specs.Prelude.{codes}
 use Rattle.std.specs.Str.{bytes_eq}
 use Rattle.std.proofs.lemmas.Bool.{and_from}
@@ -15,10 +15,10 @@ use Rattle.rp_rules.specs.Checks.{Checked, ◌>>=◌, tested, found}
 use Rattle.rp_rules.specs.Objects.{such, certificate_in, is_anchors}
 use Rattle.rp_rules.specs.Holdings.{no_sets, held_under}
 use Rattle.rp_rules.specs.Authorities.{Authority, manifest_in_folder}
-use Rattle.rp_rules.specs.Certificates.{WalkContext, anchor_tests, anchor_of, accepted_anchor}
+use Rattle.rp_rules.specs.Certificates.{WalkContext, lies_in, anchor_tests, anchor_of, accepted_anchor}
 use Rattle.issue_values.specs.Certificates.{certificate_life, anchor_certificate}
 use Rattle.editions.proofs.WalkLemmas.Checks.{AllKept, tested-kept, found-there, handed-on}
-use Rattle.editions.proofs.WalkLemmas.Point.{Seat, publishing, authority_with, same-bytes, lies-in}
+use Rattle.editions.proofs.WalkLemmas.Point.{Seat, publishing, authority_with, same-bytes}
 
 -- The key's certificate stands in its place, signed by the key itself, with those resources.
 pub record HasAnchor (s : WalkContext) (k : Seat) (held : Contents) (set : Resources) : Type 0 where
@@ -26,8 +26,10 @@ pub record HasAnchor (s : WalkContext) (k : Seat) (held : Contents) (set : Resou
   pub there : held k.certificate ≡ Some bytes
   pub certificate : SignedCert
   pub read : certificate_in bytes ≡ Some certificate
+  pub made : ℕ
+  pub time : lies_in s.moment made (made + certificate_life) ≡ true
   pub serial : ℕ
-  pub says : certificate.cert ≡ anchor_certificate s.bases s.moment (publishing k) set serial
+  pub says : certificate.cert ≡ anchor_certificate s.bases made (publishing k) set serial
   pub issued : s.vouched k.key certificate.digest certificate.signature ≡ true
 
 -- The trust anchor's.
@@ -42,7 +44,7 @@ module _ (s : WalkContext) (held : Contents) (set : Resources) (has : HasAnchor 
   uri = anchor_uri s.bases
 
   abbrev value : CertValue
-  value = anchor_certificate s.bases s.moment (publishing (top_seat s)) set has.serial
+  value = anchor_certificate s.bases has.made (publishing (top_seat s)) set has.serial
 
   abbrev with_value : CertValue → SignedCert
   with_value cert = record {
@@ -64,7 +66,7 @@ module _ (s : WalkContext) (held : Contents) (set : Resources) (has : HasAnchor 
       and_from (bytes_eq (sha1 s.anchor) (sha1 s.anchor)) (bytes_eq s.anchor s.anchor)
           (same-bytes (sha1 s.anchor)) (same-bytes s.anchor),
       (
-        lies-in s.moment certificate_life,
+        has.time,
         (
           refl,
           (
@@ -122,9 +124,9 @@ module _ (s : WalkContext) (held : Contents) (set : Resources) (has : HasAnchor 
 pub anchor-accepted : (s : WalkContext) (k : Seat) (held : Contents) (set : Resources) → top_seat s ≡ k
     → (has : HasAnchor s k held set)
     → accepted_anchor s held ≡ Ok (authority_with s k
-    (anchor_certificate s.bases s.moment (publishing k) set has.serial) (sets_of set))
+    (anchor_certificate s.bases has.made (publishing k) set has.serial) (sets_of set))
 anchor-accepted s k held set same =
     subst (λ (x : Seat). (has : HasAnchor s x held set)
     → accepted_anchor s held ≡ Ok (authority_with s x
-    (anchor_certificate s.bases s.moment (publishing x) set has.serial) (sets_of set))) same
+    (anchor_certificate s.bases has.made (publishing x) set has.serial) (sets_of set))) same
     (top-accepted s held set)

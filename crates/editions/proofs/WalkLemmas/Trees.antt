@@ -18,10 +18,11 @@ use Rattle.issue_keys.specs.Keys.{id_of}
 use Rattle.issue_drafts.specs.Publishers.{name_at}
 use Rattle.editions.specs.Held.{IsHeld}
 use Rattle.editions.specs.Keys.{AreNext}
-use Rattle.editions.specs.Objects.{Issuance, IsNewSet}
+use Rattle.editions.specs.Objects.{Issuance}
+use Rattle.editions.proofs.WalkLemmas.Serving.{IsServed}
 use Rattle.editions.specs.Published.{yielded_for}
 use Rattle.editions.specs.Names.{AreTree}
-use Rattle.items.specs.laws.AmongLaws.{In}
+use Rattle.items.specs.laws.AmongLaws.{In, in-contains}
 use Rattle.editions.proofs.WalkLemmas.Members.{Member, members, members-are, map-map}
 use Rattle.editions.proofs.WalkLemmas.Inside.{HaveSpans, AreInsides}
 use Rattle.editions.proofs.WalkLemmas.Levels.{one-level}
@@ -30,6 +31,7 @@ use Rattle.editions.proofs.WalkLemmas.Point.{Seat, publishing, authority_with}
 use Rattle.editions.proofs.WalkLemmas.Tops.{HasAnchor, top_seat, anchor-accepted}
 use Rattle.editions.proofs.WalkLemmas.Whole.{IsWalked, IsTree, tree-walked}
 use Rattle.editions.proofs.WalkLemmas.Walks.{AreApart}
+use Rattle.editions.proofs.WalkLemmas.Homes as homes
 use Rattle.editions.proofs.WalkLemmas.Seats as seats
 use Rattle.editions.proofs.WalkLemmas.Files as files
 use Rattle.editions.proofs.WalkLemmas.Build as build
@@ -42,13 +44,13 @@ module _ (m : Issuance) (tree : AreTree (names_of m.plan_input.basis.configs))
     (are : AreCertified m.plan_input.basis.configs m.plan_input.basis.sets)
     (before : AllPairs (λ a b. id_of a ≢ id_of b) m.plan_input.basis.rows)
     (next : AreNext m.plan_input.basis.rows (next_keys m.plan_input.basis) m.keys)
-    (set : IsNewSet m) (owes : AreOwed m.plan_input.basis.configs m.plan_input.owed)
+    (set : IsServed m) (owes : AreOwed m.plan_input.basis.configs m.plan_input.owed)
     (apart : (site : Bases) (a f : List ℕ) → anchor_uri site ≢ file_uri site a f) (kinds : AreKinds)
     (spans : HaveSpans) (insides : AreInsides)
     (folders : (k : KeyRow) → In k m.keys → is_folder m.plan_input.site
     (folder_of m.plan_input.site (name_at (names_of m.plan_input.basis.configs) k.desk)) ≡ true)
-    (unrevoked : (k : KeyRow) → In k m.keys → (c : SignedCert) → IsHeld m.new (id_of k) c
-    → is_revoked (map crl_entry (m.entries k)) c.cert.serial ≡ false)
+    (unrevoked : (k : KeyRow) (at : In k m.keys) (c : SignedCert) → IsHeld m.new (id_of k) c
+    → is_revoked (map crl_entry (set.points k (in-contains k m.keys at)).revoked) c.cert.serial ≡ false)
     (told : AreTold)
     (plain : (k : KeyRow) → In k m.keys
     → IsName (name_at (names_of m.plan_input.basis.configs) k.desk)) where
@@ -74,7 +76,7 @@ module _ (m : Issuance) (tree : AreTree (names_of m.plan_input.basis.configs))
   top-desk = levelled.top-desk m tree are before next set
 
   top-at : (seat top.0).certificate ≡ anchor_uri m.plan_input.site
-  top-at = seats.certificate-at m tree are before next set top.0 top.1
+  top-at = homes.certificate-at m tree are before next top.0 top.1
       ∙ levelled.top-place m tree are before next set top top-desk
 
   top-is : top_seat s ≡ seat top.0
@@ -88,33 +90,35 @@ module _ (m : Issuance) (tree : AreTree (names_of m.plan_input.basis.configs))
       (sym (levelled.top-name m tree are before next set top top-desk))
       ∙ ap (of (name_at (names_of m.plan_input.basis.configs) top.0.desk)) (sym top-at)
 
-  abbrev has-anchor : HasAnchor s (seat top.0) m.new (seats.held m tree are before next set top.0 top.1)
+  abbrev has-anchor : HasAnchor s (seat top.0) m.new (homes.held m tree are before next top.0 top.1)
   has-anchor =
       let left = seats.left m tree are before next set top.0 top.1 in
       let object = seats.is_object m tree are before next set top.0 top.1 in
       record {
         bytes = left.0;
-        there = ap m.new (seats.certificate-at m tree are before next set top.0 top.1) ∙ left.1;
+        there = ap m.new (homes.certificate-at m tree are before next top.0 top.1) ∙ left.1;
         certificate = object.certificate;
         read = object.read;
+        made = object.made;
+        time = object.time;
         serial = seats.serial m tree are before next set top.0 top.1;
         says = levelled.top-says m tree are before next set top top-desk;
         issued = subst (λ (r : KeyRow). m.vouched r.key.bytes object.certificate.digest
             object.certificate.signature ≡ true)
-            (seats.own-issuer m tree are before next set top.0 top.1 top-desk) object.issued.vouched;
+            (homes.own-issuer m tree are before next top.0 top.1 top-desk) object.vouched;
       }
 
   anchored : accepted_anchor s m.new ≡ Ok (authority top)
   anchored =
       let with : CertValue → Checked Authority = λ v.
-      Ok (authority_with s (seat top.0) v (sets_of (seats.held m tree are before next set top.0 top.1))) in
-      anchor-accepted s (seat top.0) m.new (seats.held m tree are before next set top.0 top.1) top-is has-anchor
+      Ok (authority_with s (seat top.0) v (sets_of (homes.held m tree are before next top.0 top.1))) in
+      anchor-accepted s (seat top.0) m.new (homes.held m tree are before next top.0 top.1) top-is has-anchor
       ∙ sym (ap (λ (b : Bool). with (cond b
-      (anchor_certificate m.plan_input.site m.plan_input.basis.moment (publishing (seat top.0))
-      (seats.held m tree are before next set top.0 top.1) (seats.serial m tree are before next set top.0 top.1))
-      (authority_certificate m.plan_input.site m.plan_input.basis.moment
-      (publishing (seat (seats.issuer m tree are before next set top.0 top.1))) (publishing (seat top.0))
-      (seats.held m tree are before next set top.0 top.1)
+      (anchor_certificate m.plan_input.site (seats.made m tree are before next set top.0 top.1) (publishing (seat top.0))
+      (homes.held m tree are before next top.0 top.1) (seats.serial m tree are before next set top.0 top.1))
+      (authority_certificate m.plan_input.site (seats.made m tree are before next set top.0 top.1)
+      (publishing (seat (homes.issuer m tree are before next top.0 top.1))) (publishing (seat top.0))
+      (homes.held m tree are before next top.0 top.1)
       (seats.serial m tree are before next set top.0 top.1)))) (eq-eqb top.0.desk 0 top-desk))
 
   abbrev uris : K → List (List ℕ)

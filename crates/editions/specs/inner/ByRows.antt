@@ -1,6 +1,6 @@
 -- An edition that follows others, told by what stands: of what each new CRL lists, the rows of the
 -- live keys and the table say what the editions before it have.
-use Rattle.std.specs.Prelude.{◌≡◌, ℕ, ◌+◌, Bool, false, not, ◌&&◌, nat_le, ◌==◌}
+use Rattle.std.specs.Prelude.{◌≡◌, ℕ, Bool, false, not, ◌&&◌, nat_le, ◌==◌}
 use Rattle.std.specs.Prelude.{List, ◌++◌}
 use Rattle.std.specs.Prelude.{map, filter, All, is_some}
 use Rattle.std.specs.Str.{bytes_eq}

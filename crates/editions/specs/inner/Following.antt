@@ -1,9 +1,10 @@
 -- What an edition is planned from, over what stands.
-use Rattle.std.specs.Prelude.{◌≡◌, ◌≤◌, ◌<◌, ℕ, List, length, All}
+use Rattle.std.specs.Prelude.{◌≡◌, ◌≤◌, ◌<◌, ℕ, true, List, length, All}
 use Rattle.names.specs.Name.{IsName}
 use Rattle.authority_book.specs.Origins.{IsAscending}
 use Rattle.entitle.specs.Certified.{names_of, AreCertified}
-use Rattle.key_ids.specs.Uris.{Bases}
+use Rattle.cert_obj.specs.Values.{is_uri}
+use Rattle.key_ids.specs.Uris.{Bases, anchor_uri, cert_uri}
 use Rattle.key_roll.specs.declared.issued.IssuedRow.{IssuedRow}
 use Rattle.key_roll.specs.declared.work.Work.{Work}
 use Rattle.issue_values.specs.Certificates.{IsEditionMoment}
@@ -23,6 +24,13 @@ pub record AreTyped (basis : Basis) : Type 0 where
   pub names : All (λ row. IsName row.name) (names_of basis.configs)
   pub origins : All (λ config. IsAscending config.origins) basis.configs
 
+-- What the type of a site says: certificates can name the anchor's certificate there, and those in
+-- the folder of each name that an authority can have.
+pub record CanBeNamed (site : Bases) : Type 0 where
+  pub anchor : is_uri (anchor_uri site) ≡ true
+  pub certificate :
+      (name key : List ℕ) → IsName name → is_uri (cert_uri site name key) ≡ true
+
 -- An edition can follow what stands, with so many signers: from the same live keys, none of whose
 -- counters is at its end, and from configurations that accepted commands came to, at a moment that
 -- isn't earlier.
@@ -40,3 +48,4 @@ pub record CanFollow (at : PublishedStateValue) (site : Bases) (signers : ℕ) (
   pub live_signers : All (λ row. row.signer < signers) at.rows
   pub name_signers : All (λ name. name.signer < signers) (names_of basis.configs)
   pub clear : IsClear site at.rows at.issued
+  pub named : CanBeNamed site

@@ -1,8 +1,9 @@
 -- The keys and the objects of an edition, by the plan of its work.
-use Rattle.std.specs.Prelude.{◌≡◌, ◌↔◌, true, List, map, Contains, IsPermutation}
+use Rattle.std.specs.Prelude.{◌≡◌, ◌⊎◌, ◌↔◌, true, not, None, List, map, Contains, IsPermutation}
 use Rattle.std.specs.List.Sorted.{IsSortedBy}
 use Rattle.key_roll.specs.declared.rows.KeyRow.{KeyRow}
 use Rattle.key_roll.specs.declared.work.Work.{Work}
+use Rattle.key_roll.specs.declared.work.CertWork.{CertWork}
 use Rattle.entitle.specs.Certified.{names_of}
 use Rattle.issue_plan.specs.Keys.{next_keys}
 use Rattle.issue_plan.specs.Wanted.{PlanInput}
@@ -10,11 +11,12 @@ use Rattle.issue_keys.specs.Keys.{id_of}
 use Rattle.issue_make.specs.Trace.{is_before}
 use Rattle.issue_drafts.specs.WorkKeys.{Keys, all_keys}
 use Rattle.issue_drafts.specs.IssueInput.{IssueInput}
-use Rattle.issue_drafts.specs.Publishers.{made_for}
+use Rattle.issue_drafts.specs.Publishers.{made_for, names_key}
 use Rattle.issue_drafts.specs.Drafts.{drafts, manifests}
 use Rattle.issue_drafts.specs.Revoking.{has_point}
 use Rattle.editions.specs.Keys.{AreNext}
-use Rattle.editions.specs.Wanted.{there, whole}
+use Rattle.editions.specs.Wanted.{there, whole, anew, all_certificates, new_objects}
+use Rattle.editions.specs.Wanted.{keeps_certificate, keeps_point}
 
 -- The work, made over what stands.
 abbrev pub made_from : PlanInput → Work → IssueInput
@@ -31,23 +33,30 @@ pub record KeepsUri (after : KeyRow → KeyRow) : Type 0 where
   pub role : (key : KeyRow) → (after key).role ≡ key.role
   pub key : (key : KeyRow) → id_of (after key) ≡ id_of key
 
--- The keys that stayed and were made are the next ones, and what is drafted of the work is all
--- that is wanted for them. Each gets a CRL and a manifest, and has its certificate where it is
--- wanted. What is made of their rows stands in
--- their order, once it stands by desk and role.
+-- Where the work certifies the key: as all that is wanted does, or nowhere, since the certificate
+-- that stands for it fits.
+abbrev pub IsCertifiedBy : PlanInput → Work → Keys → List KeyRow → KeyRow → Type 0
+IsCertifiedBy plan_input work found keys row =
+    (made_for (made_from plan_input work) found row ≡ made_for (whole plan_input keys) (there keys) row)
+    ⊎ ((made_for (made_from plan_input work) found row ≡ None)
+    × ((cert : CertWork) × Contains (all_certificates plan_input keys) cert
+    × (names_key (there keys) cert.subject row ≡ true)
+    × (keeps_certificate plan_input keys cert ≡ true)))
+
+-- The keys that stayed and were made are the next ones, and what is drafted of the work is what is
+-- wanted for them and doesn't fit. Each whose point doesn't fit gets a CRL and a manifest. What is
+-- made of their rows stands in their order, once it stands by desk and role.
 pub record AreOfPlan (plan_input : PlanInput) (work : Work) (found : Keys) : Type 0 where
   pub keys : List KeyRow
   pub next : AreNext plan_input.basis.rows (next_keys plan_input.basis) keys
   pub same : (key : KeyRow) → Contains keys key ↔ Contains (all_keys found) key
   pub moment : work.moment ≡ plan_input.basis.moment
   pub pointed : (key : KeyRow) → Contains keys key
-      → has_point (made_from plan_input work) found key ≡ true
+      → has_point (made_from plan_input work) found key ≡ not (keeps_point plan_input keys key)
   pub ordered : (after : KeyRow → KeyRow) → KeepsUri after → (rows : List KeyRow)
       → IsPermutation (map after (all_keys found)) rows → IsSortedBy is_before rows
       → rows ≡ map after keys
-  pub published : (row : KeyRow) → made_for (made_from plan_input work) found row
-      ≡ made_for (whole plan_input keys) (there keys) row
-  pub drafts : drafts (made_from plan_input work) found ≡ drafts (whole plan_input keys)
-      (there keys)
+  pub published : (row : KeyRow) → IsCertifiedBy plan_input work found keys row
+  pub drafts : drafts (made_from plan_input work) found ≡ new_objects plan_input keys
   pub manifests :
-      manifests (made_from plan_input work) found ≡ manifests (whole plan_input keys) (there keys)
+      manifests (made_from plan_input work) found ≡ manifests (anew plan_input keys) (there keys)

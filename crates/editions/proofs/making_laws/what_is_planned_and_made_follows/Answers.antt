@@ -13,5 +13,5 @@ returns c = λ premises clock editions edition old new steps planned.
       another = c.what_is_made_did_not_stand.ensures;
       stand = c.what_is_put_stands.ensures;
       counted = c.issued_rows_are_counted.ensures;
-      wanted = c.wanted_uris_are_put.ensures;
+      wanted = c.wanted_uris_have_objects.ensures;
     }) premises clock editions edition old new steps planned

@@ -2,7 +2,7 @@ use Rattle.editions.proofs.ObjectLemmas.MadeManifests.{all-made}
 use Rattle.editions.proofs.object_laws.all_that_is_made_is_new.Goals as goal
 
 pub returns : goal.returns
-returns c = λ vouched plan_input work trace old new plan is_trace none stand inputs spelled are contents
+returns c = λ vouched plan_input work trace old new plan homes is_trace kept stand inputs spelled are contents
     lasts.
-    all-made vouched plan_input work trace old new plan is_trace none stand inputs spelled are contents
+    all-made vouched plan_input work trace old new plan homes is_trace kept stand inputs spelled are contents
     lasts
