@@ -1,5 +1,5 @@
 -- Changes that are carried out while they are read.
-use Rattle.std.proofs.Common.{◌≡◌, ℕ, zero, suc, ◌+◌, ◌-◌, ◌<◌, ◌&&◌, length, Bool, true, false, cond, List, [], ◌∷◌, ◌++◌, Option, Some, None, refl, sym, ap, subst, ◌∙◌, append_assoc, append-nil, arith, inl, inr}
+use Rattle.std.proofs.Common.{◌≡◌, ℕ, suc, ◌-◌, ◌&&◌, length, Bool, true, false, cond, List, [], ◌∷◌, ◌++◌, Option, Some, None, refl, sym, ap, subst, ◌∙◌, append_assoc, append-nil, arith, inl, inr}
 use Rattle.std.specs.Prelude.{Err}
 use Rattle.std.specs.List.{AllByRecursion, slice_get}
 use Rattle.std.specs.Option.{option_map}
@@ -19,7 +19,7 @@ use Rattle.record_forms.specs.Forms.{◌>>=◌, so_many}
 use Rattle.record_forms.specs.laws.ByteLaws.{bind-some, bytes-rest, same-some, some-of}
 use Rattle.record_forms.specs.declared.fault.ReadFault.{ReadFault}
 use Rattle.record_forms.specs.declared.fault.ReadFault.TheVariants.{Bad, Memory}
-use Rattle.press_records.specs.Changes.{RawChange, raw_changes, put_over, withdrawn_over, change_told, change_raw, changes, uris_rise_behind, uris_rise}
+use Rattle.press_records.specs.Changes.{RawChange, raw_changes, put_over, withdrawn_over, change_told, changes, uris_rise_behind, uris_rise}
 use Rattle.press_records.specs.inner.Taking.{AreTaken, AreNone}
 use Rattle.press_records.specs.laws.ChangeLaws.{changes-law}
 use Rattle.press_records.specs.laws.RiseLaws.{above-behind, tail-rises}

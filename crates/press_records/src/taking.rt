@@ -11,7 +11,7 @@ use crate::recovered::carry_out;
 use pub_set::{Change, ObjectSet};
 use record_forms::ReadFault;
 use std::alloc::{AllocError, Global};
-use std::cmp::max;
+use std::cmp::{max, min};
 use std::mem;
 
 /// Of so many bytes at least the changes are carried out at once.
@@ -19,6 +19,9 @@ const LEAST: usize = 1 << 20;
 
 /// A set is gone through so often at most for one record.
 const MOST_TIMES: usize = 16;
+
+/// A change seldom has fewer bytes: where more changes come, their room grows.
+const USUAL: usize = 64;
 
 /// What is read and not carried out yet.
 #[derive(Drop)]
@@ -40,7 +43,7 @@ pub(crate) fn take_changes<'a>(
     ensures none { IfErr result (AreNone (content_at set.old) count bytes.now) }
 {
     let most = max(LEAST, bytes.len() / MOST_TIMES);
-    let mut taken = Vec::new(alloc);
+    let mut taken = Vec::with_capacity(alloc, min(count as usize, bytes.len() / USUAL))?;
     let mut batch = Batch {
         changes: Vec::new(alloc),
         bytes: 0,

@@ -1,9 +1,8 @@
-use Rattle.std.proofs.Common.{◌≡◌, ℕ, ◌+◌, ◌-◌, Bool, true, false, List, [], ◌∷◌, ◌++◌, suc, sym, ap, subst, ◌∙◌, arith}
+use Rattle.std.proofs.Common.{◌≡◌, ℕ, ◌+◌, ◌-◌, Bool, true, false, List, [], ◌∷◌, ◌++◌, sym, ap, subst, ◌∙◌, arith}
 use Rattle.std.proofs.lemmas.Result.{err_from_is_err_and}
 use Rattle.pub_set.specs.declared.steps.Change.{Change}
 use Rattle.pub_set.specs.declared.objects.Object.{Object}
 use Rattle.pub_set.specs.Objects.{content_at}
-use Rattle.pub_set.specs.Changes.{Contents}
 use Rattle.press_records.specs.Changes.{uris_rise}
 use Rattle.press_records.specs.declared.taking.Batch.{Batch}
 use Rattle.press_records.proofs.Carrying.{AreSoFar, one-further, stopped-by, unrisen, batch-applies, carried, all-taken}
@@ -20,7 +19,7 @@ pushed told then_told copy change items same = items ∙ ap (λ (c : Change). to
 
 pub returns-in_err-change-clause-none : goal.returns-in_err-change-clause-none
 returns-in_err-change-clause-none c =
-    let p = err_from_is_err_and c.from_residual.result c.from_residual.ensures.1 in
+    let p = err_from_is_err_and c.from_residual-in_err-change.result c.from_residual-in_err-change.ensures.1 in
     rw (p.1, p.2)
     (stopped-by {X = Change × List ℕ} (λ x. x) (content_at c.args.set.now) c.args.count c.args.bytes.now c.loop.taken.items (c.args.count - c.loop.counter)
     (c.args.count - (c.loop.counter + 1)) c.loop.left.now c.loop.batch.changes.items (content_at c.loop.set) c.in_err-change.field-0.0
