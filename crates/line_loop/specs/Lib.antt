@@ -1,5 +1,6 @@
 pub mod Lines
 pub mod Replies
+pub mod Functions
 pub mod Session
 pub mod Memory
 pub mod Streams

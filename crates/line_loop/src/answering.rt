@@ -1,5 +1,6 @@
 // What answers a session's lines, one at a time.
 ghost use Rattle.std.specs.Prelude.{◌≡◌, ℕ, ◌<◌, ◌≤◌, Bool, false, List, [], ◌++◌, length, take, vec_len, IfOk, OnOk, OnErr, IfSome, IfNone};
+ghost use Rattle.line_loop.specs.Functions.{TakesLines, GivesAnswers};
 ghost use Rattle.line_loop.specs.inner.Pending.{NoFeed, IsTailOf, IsTail};
 ghost use Rattle.line_loop.specs.inner.Progress.{AnswersOne, Advances};
 
@@ -7,23 +8,16 @@ use crate::LINE_LIMIT;
 use crate::window::Window;
 use std::alloc::{AllocError, Global};
 
-/// What answers lines. A reply is the bytes that it writes, its line feed among them, and none where a
-/// line has no reply.
+/// What lines are answered over, by the function that [`crate::serve_lines`] is lent. It answers a line
+/// of at most [`crate::LINE_LIMIT`] bytes, at the end of the replies, of which fewer than
+/// [`crate::REPLIES_LIMIT`] bytes wait, and says whether that changed what its reply acknowledges: such a
+/// reply is given before the next line is answered. A reply is the bytes that are written, its line feed
+/// among them, and none where a line has no reply. An `Err` changes nothing.
 pub trait LineHandler {
     /// From the first state the handler may answer this line, which stands without its line feed, with
     /// this reply, and be left in the second state. The flag says whether the line changed what its
     /// reply acknowledges.
     ghost answers: { Self → List ℕ → List ℕ → Bool → Self → Type 0 };
-
-    /// Answers a line of at most [`crate::LINE_LIMIT`] bytes, at the end of `out`, and says whether it
-    /// changed what its reply acknowledges: such a reply is given before the next line is answered.
-    /// An `Err` changes nothing. Fewer than [`crate::REPLIES_LIMIT`] bytes of replies wait in `out`.
-    fn answer(&mut self, alloc: Global, line: &[u8], out: &mut Vec<u8>) -> Result<bool, AllocError>
-        requires short { length line.now ≤ LINE_LIMIT }
-        requires few { vec_len out.old < 65536 }
-        ensures ok { IfOk result (λ changes. (reply : List ℕ) × answers self.old line.now reply changes self.new
-            × (out.new.items ≡ out.old.items ++ reply)) }
-        ensures err { OnErr result ((self.new ≡ self.old) × (out.new.items ≡ out.old.items)) };
 
     /// Whether the replies that wait are given before this line is answered, as they are to be where
     /// the answer takes long. It is asked where replies wait, and of no longer line.
@@ -42,15 +36,21 @@ pub trait LineHandler {
 }
 
 // Answers the first line of the window, which has so many bytes of those that are kept.
-fn answer_line<H: LineHandler>(
+fn answer_line<
+    H: LineHandler,
+    F: Fn(&mut H, Global, &[u8], &mut Vec<u8>) -> Result<bool, AllocError>,
+>(
     alloc: Global,
     handler: &mut H,
+    answer: &F,
     window: &Window,
     n: usize,
     out: &mut Vec<u8>,
 ) -> Result<bool, AllocError>
     requires within { n ≤ length window.now.bytes }
     requires few { vec_len out.old < 65536 }
+    requires takes { TakesLines (F.pre answer.now) }
+    requires gives { GivesAnswers H.answers (F.post answer.now) }
     ensures ok { IfOk result (λ changes. (reply : List ℕ) × (out.new.items ≡ out.old.items ++ reply)
         × ((line : List ℕ) → IsTailOf line (take n window.now.bytes) window.now.skips →
         H.answers handler.old line reply changes handler.new)) }
@@ -60,18 +60,24 @@ fn answer_line<H: LineHandler>(
         handler.refuse_long(alloc, out)?;
         return Ok(false);
     }
-    handler.answer(alloc, window.front(n), out)
+    answer(handler, alloc, window.front(n), out)
 }
 
 /// Answers the first pending line, where it has ended, and says whether it changed anything. None
 /// where no line has ended.
-pub(crate) fn answer_next<H: LineHandler>(
+pub(crate) fn answer_next<
+    H: LineHandler,
+    F: Fn(&mut H, Global, &[u8], &mut Vec<u8>) -> Result<bool, AllocError>,
+>(
     alloc: Global,
     handler: &mut H,
+    answer: &F,
     window: &mut Window,
     out: &mut Vec<u8>,
 ) -> Result<Option<bool>, AllocError>
-    requires { vec_len out.old < 65536 }
+    requires few { vec_len out.old < 65536 }
+    requires takes { TakesLines (F.pre answer.now) }
+    requires gives { GivesAnswers H.answers (F.post answer.now) }
     ensures answered { IfOk result (λ found. IfSome found (λ changes. (reply : List ℕ)
         × (out.new.items ≡ out.old.items ++ reply)
         × Advances (AnswersOne H.answers changes) handler.old window.old reply handler.new window.new)) }
@@ -85,7 +91,7 @@ pub(crate) fn answer_next<H: LineHandler>(
     let Some(n) = window.find_line() else {
         return Ok(None);
     };
-    let changes = answer_line(alloc, handler, window, n, out)?;
+    let changes = answer_line(alloc, handler, answer, window, n, out)?;
     window.drop_line(n);
     Ok(Some(changes))
 }
@@ -101,18 +107,24 @@ pub(crate) fn next_takes_long<H: LineHandler>(handler: &H, window: &mut Window) 
 }
 
 /// Answers what is pending as the input's last line.
-pub(crate) fn answer_last<H: LineHandler>(
+pub(crate) fn answer_last<
+    H: LineHandler,
+    F: Fn(&mut H, Global, &[u8], &mut Vec<u8>) -> Result<bool, AllocError>,
+>(
     alloc: Global,
     handler: &mut H,
+    answer: &F,
     window: &Window,
     out: &mut Vec<u8>,
 ) -> Result<(), AllocError>
-    requires { vec_len out.old < 65536 }
+    requires few { vec_len out.old < 65536 }
+    requires takes { TakesLines (F.pre answer.now) }
+    requires gives { GivesAnswers H.answers (F.post answer.now) }
     ensures ok { OnOk result ((reply : List ℕ) × (changes : Bool) × (out.new.items ≡ out.old.items ++ reply)
         × ((tail : List ℕ) → IsTail tail window.now →
         H.answers handler.old tail reply changes handler.new)) }
     ensures err { OnErr result ((handler.new ≡ handler.old) × (out.new.items ≡ out.old.items)) }
 {
-    let _last = answer_line(alloc, handler, window, window.len(), out)?;
+    let _last = answer_line(alloc, handler, answer, window, window.len(), out)?;
     Ok(())
 }

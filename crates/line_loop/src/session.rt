@@ -1,6 +1,7 @@
 // The loop over a session's lines, from its source to its sink.
 ghost use Rattle.std.specs.Prelude.{◌≡◌, ℕ, ◌<◌, ◌≤◌, Bool, List, [], ◌++◌, Err, length, IfOk, OnOk, OnErr};
 ghost use Rattle.std.specs.Bool.{OnTrue, OnFalse};
+ghost use Rattle.line_loop.specs.Functions.{TakesLines, GivesAnswers};
 ghost use Rattle.line_loop.specs.Replies.{Answers, AnswersAtMostOne};
 ghost use Rattle.std.specs.Io.KnownBytes.{Appends, Consumes, IsAtEnd};
 ghost use Rattle.host_calls.specs.Rise.{HasRisen};
@@ -65,19 +66,25 @@ fn give_and_stop<K: Sink>(alloc: Global, sink: &mut K, out: &mut Vec<u8>) -> Sin
 
 // Answers pending lines, and says whether more may have ended: it stops after a line that changed
 // anything, where the replies are many, and before a line that takes long.
-fn answer_batch<H: LineHandler>(
+fn answer_batch<
+    H: LineHandler,
+    F: Fn(&mut H, Global, &[u8], &mut Vec<u8>) -> Result<bool, AllocError>,
+>(
     alloc: Global,
     handler: &mut H,
+    answer: &F,
     window: &mut Window,
     out: &mut Vec<u8>,
 ) -> Result<bool, AllocError>
-    requires { out.old.items ≡ [] }
+    requires empty { out.old.items ≡ [] }
+    requires takes { TakesLines (F.pre answer.now) }
+    requires gives { GivesAnswers H.answers (F.post answer.now) }
     ensures batch { Advances (AnswersAtMostOne H.answers) handler.old window.old out.new.items handler.new window.new }
     ensures fewer { IfOk result (λ more. OnTrue more (length window.new.bytes < length window.old.bytes)) }
     ensures none { IfOk result (λ more. OnFalse more (NoFeed window.new.bytes)) }
 {
     'lines: loop {
-        match answer_next(alloc, handler, window, out)? {
+        match answer_next(alloc, handler, answer, window, out)? {
             None => return Ok(false),
             Some(changes) => {
                 if changes || out.len() >= REPLIES_LIMIT {
@@ -92,14 +99,21 @@ fn answer_batch<H: LineHandler>(
 }
 
 // Answers each pending line that has ended, and gives the sink the replies.
-fn answer_pending<H: LineHandler, K: Sink>(
+fn answer_pending<
+    H: LineHandler,
+    F: Fn(&mut H, Global, &[u8], &mut Vec<u8>) -> Result<bool, AllocError>,
+    K: Sink,
+>(
     alloc: Global,
     handler: &mut H,
+    answer: &F,
     window: &mut Window,
     sink: &mut K,
     out: &mut Vec<u8>,
 ) -> Result<(), SinkStop>
-    requires { out.old.items ≡ [] }
+    requires empty { out.old.items ≡ [] }
+    requires takes { TakesLines (F.pre answer.now) }
+    requires gives { GivesAnswers H.answers (F.post answer.now) }
     ensures ok { OnOk result ((replies : List ℕ)
         × Appends (K.taken sink.old) (K.taken sink.new) replies
         × Advances (Answers H.answers) handler.old window.old replies handler.new window.new) }
@@ -112,7 +126,7 @@ fn answer_pending<H: LineHandler, K: Sink>(
     ensures fault { result ≡ Err SinkStop.Fault → HasRisen (K.fault_count sink.old) (K.fault_count sink.new) }
 {
     'batches: loop {
-        match answer_batch(alloc, handler, window, out) {
+        match answer_batch(alloc, handler, answer, window, out) {
             Ok(true) => give_all(alloc, sink, out)?,
             Ok(false) => return give_all(alloc, sink, out),
             Err(_) => return Err(give_and_stop(alloc, sink, out)),
@@ -121,14 +135,21 @@ fn answer_pending<H: LineHandler, K: Sink>(
 }
 
 // Answers the last line, which the end of the input ends, and gives the sink the reply.
-fn finish<H: LineHandler, K: Sink>(
+fn finish<
+    H: LineHandler,
+    F: Fn(&mut H, Global, &[u8], &mut Vec<u8>) -> Result<bool, AllocError>,
+    K: Sink,
+>(
     alloc: Global,
     handler: &mut H,
+    answer: &F,
     window: &Window,
     sink: &mut K,
     out: &mut Vec<u8>,
 ) -> Result<(), SinkStop>
-    requires { out.old.items ≡ [] }
+    requires empty { out.old.items ≡ [] }
+    requires takes { TakesLines (F.pre answer.now) }
+    requires gives { GivesAnswers H.answers (F.post answer.now) }
     ensures ok { OnOk result ((reply : List ℕ) × (changes : Bool)
         × Appends (K.taken sink.old) (K.taken sink.new) reply
         × ((tail : List ℕ) → IsTail tail window.now →
@@ -139,7 +160,7 @@ fn finish<H: LineHandler, K: Sink>(
     ensures later { K.fault_count sink.old ≤ K.fault_count sink.new }
     ensures fault { result ≡ Err SinkStop.Fault → HasRisen (K.fault_count sink.old) (K.fault_count sink.new) }
 {
-    match answer_last(alloc, handler, window, out) {
+    match answer_last(alloc, handler, answer, window, out) {
         Ok(()) => give_all(alloc, sink, out),
         Err(_) => Err(give_and_stop(alloc, sink, out)),
     }
@@ -155,15 +176,17 @@ fn end_after(stop: SinkStop) -> SessionEnd
     }
 }
 
-/// Answers the lines of the source, each once and in order, and gives the replies to the sink. A line
-/// ends at a line feed or at the end of the input. All replies to what has come are given before more
-/// is asked for.
-pub fn serve_lines<H: LineHandler, S: Source, K: Sink>(
-    alloc: Global,
-    handler: &mut H,
-    source: &mut S,
-    sink: &mut K,
-) -> SessionEnd
+/// Answers the lines of the source by that function, each once and in order, and gives the replies to
+/// the sink. A line ends at a line feed or at the end of the input. All replies to what has come are
+/// given before more is asked for.
+pub fn serve_lines<
+    H: LineHandler,
+    F: Fn(&mut H, Global, &[u8], &mut Vec<u8>) -> Result<bool, AllocError>,
+    S: Source,
+    K: Sink,
+>(alloc: Global, handler: &mut H, answer: &F, source: &mut S, sink: &mut K) -> SessionEnd
+    requires takes { TakesLines (F.pre answer.now) }
+    requires gives { GivesAnswers H.answers (F.post answer.now) }
     // What the source gave and what the sink took, where they are known.
     ensures session { (given : List ℕ) × (written : List ℕ)
         × Consumes (S.left source.old) (S.left source.new) given
@@ -186,7 +209,7 @@ pub fn serve_lines<H: LineHandler, S: Source, K: Sink>(
     while taken < SESSION_LIMIT {
         match window.fill(alloc, source, SESSION_LIMIT - taken) {
             Ok(0) => {
-                if let Err(stop) = finish(alloc, handler, &window, sink, &mut out) {
+                if let Err(stop) = finish(alloc, handler, answer, &window, sink, &mut out) {
                     return end_after(stop);
                 }
                 return SessionEnd::End;
@@ -195,7 +218,7 @@ pub fn serve_lines<H: LineHandler, S: Source, K: Sink>(
             Err(SourceStop::Fault) => return SessionEnd::SourceFault,
             Err(SourceStop::Memory) => return SessionEnd::Memory,
         }
-        if let Err(stop) = answer_pending(alloc, handler, &mut window, sink, &mut out) {
+        if let Err(stop) = answer_pending(alloc, handler, answer, &mut window, sink, &mut out) {
             return end_after(stop);
         }
         window.shorten();

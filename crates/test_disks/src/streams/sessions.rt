@@ -1,5 +1,5 @@
 //! Sessions that answer each line with itself, and a longer one with an exclamation mark.
-ghost use Rattle.std.specs.Prelude.{◌≡◌, ◌⊎◌, ◌<◌, ◌≤◌, [], ◌∷◌, ◌++◌, length};
+ghost use Rattle.std.specs.Prelude.{◌≡◌, ◌⊎◌, ◌<◌, ◌≤◌, [], ◌∷◌, ◌++◌, length, OnOk, OnErr};
 
 use crate::streams::fields::Fields;
 use anyhow::Result;
@@ -20,21 +20,6 @@ impl LineHandler for Echo {
     ghost answers = { λ old line reply changes new. ((length line ≤ LINE_LIMIT) × (reply ≡ line ++ 10 ∷ []))
         ⊎ ((LINE_LIMIT < length line) × (reply ≡ 33 ∷ 10 ∷ [])) };
 
-    fn answer(
-        &mut self,
-        _alloc: Global,
-        line: &[u8],
-        out: &mut Vec<u8>,
-    ) -> Result<bool, AllocError> {
-        let len = out.len();
-        out.extend_from_slice(line)?;
-        if out.push(b'\n').is_err() {
-            out.truncate(len);
-            return Err(AllocError);
-        }
-        Ok(line.first() == Some(&b'a'))
-    }
-
     fn takes_long(&self, line: &[u8]) -> bool {
         line.first() == Some(&b'w')
     }
@@ -42,6 +27,25 @@ impl LineHandler for Echo {
     fn refuse_long(&mut self, _alloc: Global, out: &mut Vec<u8>) -> Result<(), AllocError> {
         out.extend_from_slice(b"!\n")
     }
+}
+
+// Answers a line with itself.
+fn echo_line(
+    _echo: &mut Echo,
+    _alloc: Global,
+    line: &[u8],
+    out: &mut Vec<u8>,
+) -> Result<bool, AllocError>
+    ensures ok { OnOk result (out.new.items ≡ out.old.items ++ line.now ++ 10 ∷ []) }
+    ensures err { OnErr result (out.new.items ≡ out.old.items) }
+{
+    let len = out.len();
+    out.extend_from_slice(line)?;
+    if out.push(b'\n').is_err() {
+        out.truncate(len);
+        return Err(AllocError);
+    }
+    Ok(line.first() == Some(&b'a'))
 }
 
 /// An input, the source's piece and the calls of it that fail, and the same of the sink: how the session
@@ -52,7 +56,7 @@ pub fn session(alloc: Global, fields: &mut Fields<'_>) -> Result<String> {
     let mut source = MemorySource::in_pieces(input, fields.numbers(alloc)?, piece);
     let piece = fields.piece()?;
     let mut sink = MemorySink::in_pieces(alloc, fields.numbers(alloc)?, piece);
-    let end = serve_lines(alloc, &mut Echo, &mut source, &mut sink);
+    let end = serve_lines(alloc, &mut Echo, &echo_line, &mut source, &mut sink);
     told(alloc, end, sink.bytes())
 }
 
@@ -63,7 +67,7 @@ pub fn long(alloc: Global, fields: &mut Fields<'_>) -> Result<String> {
     input.extend_from_slice(b"\nok")?;
     let mut source = MemorySource::in_pieces(input, Vec::new(alloc), fields.piece()?);
     let mut sink = MemorySink::new(alloc, Vec::new(alloc));
-    let end = serve_lines(alloc, &mut Echo, &mut source, &mut sink);
+    let end = serve_lines(alloc, &mut Echo, &echo_line, &mut source, &mut sink);
     let taken = sink.bytes();
     let len = taken.len();
     let first = hex::encode(alloc, &taken[..len.min(4)])?;
@@ -77,7 +81,7 @@ pub fn streams(alloc: Global, fields: &mut Fields<'_>) -> Result<String> {
     let reader = PlayedReader::new(input, fields.script(alloc)?);
     let mut source = SourceOver::over(reader);
     let mut sink = SinkOver::over(PlayedWriter::new(alloc, fields.script(alloc)?));
-    let end = serve_lines(alloc, &mut Echo, &mut source, &mut sink);
+    let end = serve_lines(alloc, &mut Echo, &echo_line, &mut source, &mut sink);
     told(alloc, end, sink.calls().bytes())
 }
 
@@ -86,7 +90,7 @@ pub fn std_streams(alloc: Global, fields: &mut Fields<'_>) -> Result<String> {
     let mut source = StreamSource::new(Cursor::new(fields.bytes(alloc)?));
     let mut written = Vec::new(alloc);
     let mut sink = StreamSink::new(&mut written);
-    let end = serve_lines(alloc, &mut Echo, &mut source, &mut sink);
+    let end = serve_lines(alloc, &mut Echo, &echo_line, &mut source, &mut sink);
     drop(sink);
     told(alloc, end, &written)
 }

@@ -7,9 +7,9 @@ use Rattle.line_loop.proofs.session.answer_batch.Goals as goal
 
 pub lines-init : goal.lines-init
 lines-init g c = record {
-  quiet = quiet_start g.H.LineHandler.answers c.args.handler.now c.args.window.now c.args.out.now.items c.requires;
+  quiet = quiet_start g.H.LineHandler.answers c.args.handler.now c.args.window.now c.args.out.now.items c.requires.empty;
   no_longer = omega arith;
-  few = omega (arith, ap (λ (xs : List ℕ). length xs) c.requires, c.args.out.now.ok.0);
+  few = omega (arith, ap (λ (xs : List ℕ). length xs) c.requires.empty, c.args.out.now.ok.0);
 }
 
 pub returns-in_err-answer_next-clause-batch : goal.returns-in_err-answer_next-clause-batch

@@ -7,7 +7,7 @@ use Rattle.line_loop.proofs.session.answer_pending.Goals as goal
 pub batches-init : goal.batches-init
 batches-init g c = record {
   given = ([], Appends-nil (g.K.Sink.taken c.args.sink.now), batch_start g.H.LineHandler.answers c.args.handler.now c.args.window.now);
-  empty = c.requires;
+  empty = c.requires.empty;
   later = omega arith;
 }
 
