@@ -1,5 +1,5 @@
 -- What is prepared, among the editions before it.
-use Rattle.std.proofs.Common.{◌≡◌, ℕ, zero, suc, ◌+◌, ◌<◌, ◌≤◌, true, Option, Some, None, List, [], ◌∷◌, ◌++◌, length, max, ◌^◌, refl, sym, ap, subst, ◌∙◌, arith}
+use Rattle.std.proofs.Common.{AllPairs, ◌≢◌, ◌≡◌, ℕ, zero, suc, ◌+◌, ◌<◌, ◌≤◌, true, Option, Some, None, List, [], ◌∷◌, ◌++◌, length, max, ◌^◌, refl, sym, ap, subst, ◌∙◌, arith}
 use Rattle.std.specs.Prelude.{All, Any, IfSome, slice_get, slice_set}
 use Rattle.std.specs.Option.{option_map_or}
 use Rattle.std.proofs.lemmas.List.Elements.{All-nil, All-cons, All-head, All-tail}
@@ -22,6 +22,8 @@ use Rattle.pub_set.specs.Objects.{content_at, IsAscending}
 use Rattle.pub_set.specs.Changes.{Contents, after_all}
 use Rattle.key_roll.specs.declared.issued.IssuedRow.{IssuedRow}
 use Rattle.issue_plan.specs.Keys.{next_keys}
+use Rattle.editions.specs.Keys.{AreNext}
+use Rattle.editions.specs.Wanted.{all_objects}
 use Rattle.issue_plan.specs.Wanted.{PlanInput}
 use Rattle.issue_plan.specs.Work as plan
 use Rattle.issue_make.specs.CanMake as making
@@ -272,6 +274,8 @@ planned-and-made start ring prepared premises editions g =
             (subst (λ (c : List Settings). AreTree (names_of c)) g.is.configs (tree-of g.laws.names prepared.next.configs prepared.next.cut g.is.next.kept.configs g.is.next.kept.taken));
         certified = subst (λ (s : PlanInput). AreCertified s.basis.configs s.basis.sets) same of.planned.called.certified;
         owes = subst (λ (s : PlanInput). AreOwed s.basis.configs s.owed) same of.planned.plan.1;
+        places = λ keys. subst (λ (s : PlanInput). AreNext s.basis.rows (next_keys s.basis) keys
+            → AllPairs (λ a b. a.uri ≢ b.uri) (all_objects s keys)) same (λ next. of.places owed keys of.planned.plan.1 next);
         work = of.work;
         planned = subst (λ (s : PlanInput). plan.IsWork s (next_keys s.basis) of.work) same of.planned.plan.2;
         can_be_made = able;

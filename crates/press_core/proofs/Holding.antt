@@ -6,9 +6,9 @@ use Rattle.std.proofs.lemmas.Bool.{cases_eq}
 use Rattle.std.proofs.lemmas.Option.{same_Some}
 use Rattle.std.proofs.lemmas.List.Elements.{Contains-append_left}
 use Rattle.signer_api.specs.State.{SignerState, CountsFault}
-use Rattle.signer_ring.specs.Ring.{ChangesOne}
 use Rattle.signer_ring.specs.Calls.{Call, signer_of, change, after_call, after_calls}
 use Rattle.signer_ring.specs.Calls.Call.{Makes, Signs, Once}
+use Rattle.signer_ring.specs.Jobs.{MayCount, CountFaults}
 use Rattle.press_core.specs.Signers.{IsAmong, HoldKeys}
 use Rattle.items.specs.laws.ElementLaws.{set-same, set-other}
 
@@ -59,6 +59,15 @@ hold-calls ring (call ∷ calls) =
     hold-further ring (after_call ring call) (after_calls (after_call ring call) calls)
     (hold-call ring call (slice_get ring (signer_of call)) refl) (hold-calls (after_call ring call) calls)
 
-pub hold-fault : (signer : ℕ) (old new : List SignerState) → ChangesOne signer CountsFault old new → HoldKeys old new
-hold-fault signer old new one =
-    subst (HoldKeys old) (sym one.is) (hold-set old signer one.before one.after one.was (fault-holds one.before one.after one.changes))
+may-hold : (before : SignerState) (was is : Option SignerState) (key : List ℕ) → was ≡ Some before → MayCount was is → IsAmong before.keys key
+    → (now : SignerState) × (is ≡ Some now) × IsAmong now.keys key
+may-hold before None is key there may held = absurd cc
+may-hold before (Some s) None key there may held = absurd may
+may-hold before (Some s) (Some t) key there (inl e) held =
+    (t, refl, subst (λ (x : SignerState). IsAmong x.keys key) (same_Some before s (sym there) ∙ sym e) held)
+may-hold before (Some s) (Some t) key there (inr counted) held =
+    (t, refl, fault-holds s t counted key (subst (λ (x : SignerState). IsAmong x.keys key) (same_Some before s (sym there)) held))
+
+pub hold-fault : (signer : ℕ) (old new : List SignerState) → CountFaults signer old new → HoldKeys old new
+hold-fault signer old new faults number before key there held =
+    may-hold before (slice_get old number) (slice_get new number) key there (faults.others number) held

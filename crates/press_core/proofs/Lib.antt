@@ -14,6 +14,7 @@ pub mod AfterExports
 pub mod FilesNext
 pub mod Recording
 pub mod Recorded
+pub mod Incremental
 pub mod JournalLaws
 pub mod Hashed
 pub mod Entries

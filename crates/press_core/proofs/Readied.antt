@@ -1,5 +1,5 @@
 -- From an edition that is ready to one that is prepared.
-use Rattle.std.proofs.Common.{◌≡◌, ℕ, ◌<◌, ◌≤◌, ◌^◌, Bool, true, List, length, get_or, refl, sym, ap, subst, ◌∙◌, arith, inl, inr, map, [], ◌∷◌, ◌++◌}
+use Rattle.std.proofs.Common.{AllPairs, ◌≢◌, ◌≡◌, ℕ, ◌<◌, ◌≤◌, ◌^◌, Bool, true, List, length, get_or, refl, sym, ap, subst, ◌∙◌, arith, inl, inr, map, [], ◌∷◌, ◌++◌}
 use Rattle.std.specs.Prelude.{All}
 use Rattle.std.proofs.lemmas.Option.{slice_get-get_or}
 use Rattle.signer_api.specs.State.{SignerState}
@@ -11,6 +11,9 @@ use Rattle.authority_book.specs.Fold.{fold_of, Taken}
 use Rattle.authority_book.specs.declared.rows.NameRow.{NameRow}
 use Rattle.entitle.specs.Certified.{names_of, settings_of, AreCertified}
 use Rattle.entitle.specs.Owed.{AreOwed}
+use Rattle.entitle.specs.declared.trees.Owed.{Owed}
+use Rattle.editions.specs.Keys.{AreNext}
+use Rattle.editions.specs.Wanted.{all_objects}
 use Rattle.key_ids.specs.Uris.{Bases}
 use Rattle.key_roll.specs.declared.rows.KeyRow.{KeyRow}
 use Rattle.key_roll.specs.declared.rows.Role.TheVariants.{Current}
@@ -35,14 +38,14 @@ use Rattle.editions.specs.Moments.{moment_behind}
 use Rattle.editions.specs.Calling.{is_called_for, LeadsTo}
 use Rattle.editions.specs.Standing.{IsTableAfter}
 use Rattle.editions.specs.Ended.{ended_keys}
-use Rattle.editions.specs.inner.Following.{AreTyped, CanFollow, setting_over}
+use Rattle.editions.specs.inner.Following.{CanBeNamed, AreTyped, CanFollow, setting_over}
 use Rattle.editions.specs.Clear.{IsClear}
 use Rattle.editions.specs.PlannedAndMade.{CanBeRead}
 use Rattle.press_core.specs.declared.setup.EditionInput.{EditionInput}
 use Rattle.press_core.specs.PrepareInput.{PrepareInput}
 use Rattle.press_core.specs.Next.{NextValue}
 use Rattle.press_core.specs.Staged.{AreStaged, HasStages}
-use Rattle.press_core.specs.Planned.{IsInRange, IsCalled, IsPlanned, IsPrepared, basis_for, issue_input_for}
+use Rattle.press_core.specs.Planned.{AreApart, IsInRange, IsCalled, IsPlanned, IsPrepared, basis_for, issue_input_for}
 use Rattle.press_core.specs.Signers.{HoldKeys}
 use Rattle.press_core.proofs.Ranges.{least-moment, most-moment}
 use Rattle.press_core.proofs.Holding.{hold-calls, hold-fault, hold-further}
@@ -75,8 +78,8 @@ called-of start setup work called is certified plan answer =
 -- ---- its making
 
 pub can-follow : (start : PrepareInput) (setup : EditionInput) (work : Work) → IsReady start setup work → AreTyped (basis_over start.at setup)
-    → CanFollow start.at start.site (length start.ring) (basis_over start.at setup)
-can-follow start setup work ready typed = record {
+    → CanBeNamed start.site → CanFollow start.at start.site (length start.ring) (basis_over start.at setup)
+can-follow start setup work ready typed uris = record {
   rows = refl;
   counters = ready.in_range.counted;
   cut = setup.cut.items;
@@ -93,6 +96,7 @@ can-follow start setup work ready typed = record {
   live_signers = ready.able.live_signers;
   name_signers = subst (λ (c : List Settings). All (λ (name : NameRow). name.signer < length start.ring) (names_of c)) (sym ready.set_up.configs) ready.able.name_signers;
   clear = ready.able.clear;
+  named = uris;
 }
 
 -- The input of the calls, of the laws, and of the press.
@@ -124,26 +128,30 @@ pub record WorkLaws : Type 0 where
   pub clear : (at : PublishedStateValue) (site : Bases) (signers : ℕ) (basis : Basis) (work : Work) (old new : List SignerState) (made : Made) (table : List IssuedRow)
       → IsConsistentState at → CanFollow at site signers basis → IsPlan basis at.issued site work → IsMade (setting_over basis at.issued site work) at.rows old new made
       → IsTableAfter at.issued made.changes made.issued table → IsClear site made.rows table
+  pub apart : (at : PublishedStateValue) (site : Bases) (signers : ℕ) (basis : Basis) (owed : List Owed) (keys : List KeyRow) → IsConsistentState at
+      → CanFollow at site signers basis → AreOwed basis.configs owed → AreNext basis.rows (next_keys basis) keys
+      → AllPairs (λ a b. a.uri ≢ b.uri) (all_objects (record { basis = basis; owed = owed; issued = at.issued; site = site }) keys)
   pub staged : (at : PublishedStateValue) (site : Bases) (signers : ℕ) (basis : Basis) (work : Work) (old new : List SignerState) (made : Made) → IsConsistentState at
       → CanFollow at site signers basis → IsPlan basis at.issued site work → IsMade (setting_over basis at.issued site work) at.rows old new made
       → HasStages at → All (λ key. key.desk ≡ 0 → key.role ≡ Current) made.rows → AreStaged made.rows
 
 pub is-able : WorkLaws → (start : PrepareInput) (setup : EditionInput) (work : Work) → IsReady start setup work → AreTyped (basis_over start.at setup)
-    → making.CanMake (issue_input_for start work) start.at.rows (length start.ring)
-is-able laws start setup work ready typed =
+    → CanBeNamed start.site → making.CanMake (issue_input_for start work) start.at.rows (length start.ring)
+is-able laws start setup work ready typed uris =
     subst (λ (s : IssueInput). making.CanMake s start.at.rows (length start.ring)) (law-input start setup work ready)
-    (laws.work start.at start.site (length start.ring) (basis_over start.at setup) work ready.able.kept (can-follow start setup work ready typed) ready.plan)
+    (laws.work start.at start.site (length start.ring) (basis_over start.at setup) work ready.able.kept (can-follow start setup work ready typed uris) ready.plan)
 
 pub made-ready : WorkLaws → (start : PrepareInput) (setup : EditionInput) (work : Work) (ring : List SignerState) (made : Made) → IsReady start setup work
-    → AreTyped (basis_over start.at setup) → IsMade (issue_input_for start work) start.at.rows start.ring ring made → IsMadeReady start setup work ring made
-made-ready laws start setup work ring made ready typed is =
+    → AreTyped (basis_over start.at setup) → CanBeNamed start.site → IsMade (issue_input_for start work) start.at.rows start.ring ring made → IsMadeReady start setup work ring made
+made-ready laws start setup work ring made ready typed uris is =
     let basis = basis_over start.at setup in
-    let follow = can-follow start setup work ready typed in
+    let follow = can-follow start setup work ready typed uris in
     let kept = ready.able.kept in
     let n = length start.ring in
     let law_is = subst (λ (s : IssueInput). IsMade s start.at.rows start.ring ring made) (sym (law-input start setup work ready)) is in
     record {
-      able = is-able laws start setup work ready typed;
+      places = λ owed keys owes next. laws.apart start.at start.site n basis owed keys kept follow owes next;
+      able = is-able laws start setup work ready typed uris;
       is_made = is;
       live = laws.live start.at start.site n basis work start.ring ring made kept follow ready.plan law_is;
       signers = laws.signers start.at start.site n basis work start.ring ring made kept follow ready.plan law_is;
@@ -186,11 +194,12 @@ pub record Called (start : PrepareInput) (setup : EditionInput) (names : List Na
   pub named : names ≡ names_of (settings_of setup.configs.items)
   pub same : value_of parts ≡ start.at
   pub rows_are : rows ≡ start.at.rows
+  pub uris : CanBeNamed start.site
 
 pub called-as : WorkLaws → (start : PrepareInput) (setup : EditionInput) (names : List NameRow) (parts : StateParts) (rows : List KeyRow) (configs : List ConfigValue)
     → names ≡ names_of (settings_of configs) → configs ≡ setup.configs.items → All (λ row. IsName row.name) names → value_of parts ≡ start.at → rows ≡ parts.rows
-    → Called start setup names parts rows
-called-as laws start setup names parts rows configs names_are configs_are plain same of_parts =
+    → CanBeNamed start.site → Called start setup names parts rows
+called-as laws start setup names parts rows configs names_are configs_are plain same of_parts uris =
     let named = names_are ∙ ap (λ (c : List ConfigValue). names_of (settings_of c)) configs_are in
     record {
       laws = laws;
@@ -198,6 +207,7 @@ called-as laws start setup names parts rows configs names_are configs_are plain 
       named = named;
       same = same;
       rows_are = of_parts ∙ ap (λ (v : PublishedStateValue). v.rows) same;
+      uris = uris;
     }
 
 abbrev pub call_setting : PrepareInput → Work → List NameRow → StateParts → IssueInput
@@ -207,13 +217,13 @@ pub call-able : (start : PrepareInput) (setup : EditionInput) (work : Work) (nam
     → IsReady start setup work → making.CanMake (call_setting start work names parts) rows (length start.ring)
 call-able start setup work names parts rows c ready =
     subst (λ (s : IssueInput). making.CanMake s rows (length start.ring)) (sym (settings-same start setup work names parts ready c.named c.same))
-    (subst (λ (r : List KeyRow). making.CanMake (issue_input_for start work) r (length start.ring)) (sym c.rows_are) (is-able c.laws start setup work ready (typed-of c.laws start setup work ready c.plain)))
+    (subst (λ (r : List KeyRow). making.CanMake (issue_input_for start work) r (length start.ring)) (sym c.rows_are) (is-able c.laws start setup work ready (typed-of c.laws start setup work ready c.plain) c.uris))
 
 pub call-made : (start : PrepareInput) (setup : EditionInput) (work : Work) (names : List NameRow) (parts : StateParts) (rows : List KeyRow) (ring : List SignerState) (made : Made)
     → Called start setup names parts rows → IsReady start setup work → IsMade (call_setting start work names parts) rows start.ring ring made
     → IsMadeReady start setup work ring made
 call-made start setup work names parts rows ring made c ready is =
-    made-ready c.laws start setup work ring made ready (typed-of c.laws start setup work ready c.plain)
+    made-ready c.laws start setup work ring made ready (typed-of c.laws start setup work ready c.plain) c.uris
     (subst (λ (r : List KeyRow). IsMade (issue_input_for start work) r start.ring ring made) c.rows_are
     (subst (λ (s : IssueInput). IsMade s rows start.ring ring made) (settings-same start setup work names parts ready c.named c.same) is))
 
@@ -278,6 +288,7 @@ can-stand start setup work ring made ready is = record {
 pub prepared-of : (start : PrepareInput) (setup : EditionInput) (work : Work) (ring : List SignerState) (made : Made) (prepared : NextValue) → IsReady start setup work
     → IsMadeReady start setup work ring made → All CanBeRead made.changes → length made.issued < 2 ^ 62 → IsNextOf start.at setup made prepared
     → IsPrepared start ring prepared
+unfolding planned-of
 prepared-of start setup work ring made prepared ready is readable few next = record {
   moment = next.moment ∙ ready.set_up.moment;
   cut = next.cut ∙ ready.set_up.cut;
@@ -285,6 +296,7 @@ prepared-of start setup work ring made prepared ready is readable few next = rec
   made = record {
     work = work;
     planned = planned-of start setup work ready;
+    places = subst (AreApart start) (bases-same start setup ready.set_up) is.places;
     able = is.able;
     made = made;
     is_made = is.is_made;

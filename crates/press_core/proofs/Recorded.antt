@@ -35,7 +35,8 @@ use Rattle.issue_make.specs.Trace.{IssuingTrace, AreKeys, all_of, puts_of, row_a
 use Rattle.editions.specs.Keys.{IsNextBy, AreEach}
 use Rattle.editions.specs.Edition.{Edition, State, first_state, after_edition, state_from, state_after}
 use Rattle.editions.specs.PublishedState.{PublishedStateValue, IsConsistentState}
-use Rattle.editions.specs.inner.PlanAndTable.{made_from, KeepsUri, AreOfPlan}
+use Rattle.editions.specs.inner.PlanAndTable.{made_from, AreOfPlan}
+use Rattle.editions.specs.laws.RowLaws.{either_row, keeps}
 use Rattle.press_records.specs.Rows.{RowValue, row_value, rise}
 use Rattle.press_records.specs.Stages.{are_staged}
 use Rattle.press_records.specs.Recordable.{IsTyped, IsTypedRow, IsRowOver, IsChangeOver, IsRecordable}
@@ -49,7 +50,7 @@ use Rattle.press_core.specs.Stands.{IsLeftBy}
 use Rattle.press_core.specs.Follows.{edition_of}
 use Rattle.press_core.specs.Records.{edition_value, standing_at, standing_of}
 use Rattle.press_records.specs.Records.{after_editions}
-use Rattle.press_core.proofs.Recording.{rises, after-key, pointed-rows, rows-over, changes-over, grown, past-entries, ids-apart}
+use Rattle.press_core.proofs.Recording.{rises, after-entries, rows-over, changes-over, grown, past-entries, ids-apart}
 
 -- The law of the layers below that this rests on.
 abbrev pub IsKeysLaw : Type 0
@@ -80,32 +81,14 @@ module _ (keys-law : IsKeysLaw) (start : PrepareInput) (ring : List SignerState)
   of-plan : AreOfPlan planned_input is.made.work trace.keys
   of-plan = keys-law planned_input is.made.work trace.keys kept.live.apart is.made.planned.plan.2 is.made.is_made.is_trace.keys
 
-  -- The rows are those of the next keys, each with a new CRL.
-  keeps-it : {A : Type 0} (f : KeyRow → A) (key : KeyRow) → f (after-key s trace key) ≡ f key
-      → f (record key { next_serial = serial_behind (all_of s trace) key; revoked = trace.entries key }) ≡ f key
-      → f (row_after s trace key) ≡ f key
-  keeps-it f key one other = by (has_point s trace.keys key)
-    where
-      by : (b : Bool) → f (cond b (after-key s trace key)
-          (record key { next_serial = serial_behind (all_of s trace) key; revoked = trace.entries key })) ≡ f key
-      by true = one
-      by false = other
-
-  keeps : KeepsUri (row_after s trace)
-  keeps = record {
-    desk = λ key. keeps-it (λ (k : KeyRow). k.desk) key refl refl;
-    role = λ key. keeps-it (λ (k : KeyRow). k.role) key refl refl;
-    key = λ key. keeps-it id_of key refl refl;
-  }
-
+  -- The rows are those of the next keys, each with a new CRL or with the one that it had.
   abbrev after : List KeyRow
-  after = map (after-key s trace) of-plan.keys
+  after = map (row_after s trace) of-plan.keys
 
   rows-are : prepared.next.rows ≡ after
   rows-are =
       is.made.rows
-      ∙ (of-plan.ordered (row_after s trace) keeps is.made.made.rows is.made.is_made.rows is.made.is_made.sorted
-      ∙ pointed-rows s trace of-plan.keys of-plan.pointed)
+      ∙ of-plan.ordered (row_after s trace) (keeps s trace) is.made.made.rows is.made.is_made.rows is.made.is_made.sorted
 
   -- ---- moments
 
@@ -124,24 +107,25 @@ module _ (keys-law : IsKeysLaw) (start : PrepareInput) (ring : List SignerState)
       ap (λ (r : KeyRow). rise r.revoked) (sym c.2)
       ∙ rises (get_or rows c.0 row).revoked (kept.live.revoked c.0 row c.1).rising
 
-  at-end : (key : KeyRow) → Contains of-plan.keys key → Contains prepared.next.rows (after-key s trace key)
+  at-end : (key : KeyRow) → Contains of-plan.keys key → Contains prepared.next.rows (row_after s trace key)
   at-end key c =
-      subst (λ (l : List KeyRow). Contains l (after-key s trace key)) (sym rows-are)
-      (into-map (after-key s trace) of-plan.keys key c)
+      subst (λ (l : List KeyRow). Contains l (row_after s trace key)) (sym rows-are)
+      (into-map (row_after s trace) of-plan.keys key c)
 
   rising-at-end : (key : KeyRow) → Contains of-plan.keys key → rise (trace.entries key) ≡ true
   rising-at-end key c =
       let at = at-end key c in
-      ap (λ (r : KeyRow). rise r.revoked) (sym at.2)
-      ∙ rises (get_or prepared.next.rows at.0 (after-key s trace key)).revoked
-      (is.next.kept.live.revoked at.0 (after-key s trace key) at.1).rising
+      ap rise (sym (after-entries s trace (has_point s trace.keys key) key))
+      ∙ ap (λ (r : KeyRow). rise r.revoked) (sym at.2)
+      ∙ rises (get_or prepared.next.rows at.0 (row_after s trace key)).revoked
+      (is.next.kept.live.revoked at.0 (row_after s trace key) at.1).rising
 
-  past-at-end : (key : KeyRow) → Contains of-plan.keys key → are_past prepared.next.moment (row_value (after-key s trace key)) ≡ true
+  past-at-end : (key : KeyRow) → Contains of-plan.keys key → are_past prepared.next.moment (row_value (row_after s trace key)) ≡ true
   past-at-end key c =
       let at = at-end key c in
       ap (λ (r : KeyRow). are_past prepared.next.moment (row_value r)) (sym at.2)
-      ∙ past-entries prepared.next.moment (get_or prepared.next.rows at.0 (after-key s trace key)).revoked
-      (is.next.kept.live.revoked at.0 (after-key s trace key) at.1).dated
+      ∙ past-entries prepared.next.moment (get_or prepared.next.rows at.0 (row_after s trace key)).revoked
+      (is.next.kept.live.revoked at.0 (row_after s trace key) at.1).dated
 
   firsts-of : (key : KeyRow) → Contains of-plan.keys key → AreFirsts (candidates s trace.keys (puts_of s trace) key) (trace.entries key)
   firsts-of key c =
@@ -176,9 +160,9 @@ module _ (keys-law : IsKeysLaw) (start : PrepareInput) (ring : List SignerState)
     next_serial = subst (λ (k : KeyRow). k.next_serial < 2 ^ 62) (sym by.row) (omega arith);
   }
 
-  settled-row : (key : KeyRow) → IsSmall key → are_past prepared.next.moment (row_value (after-key s trace key)) ≡ true
-      → is_settled prepared.next.moment (row_value (after-key s trace key)) ≡ true
-  settled-row key small past =
+  settled-by : (b : Bool) (key : KeyRow) → IsSmall key → are_past prepared.next.moment (row_value (either_row s trace key b)) ≡ true
+      → is_settled prepared.next.moment (row_value (either_row s trace key b)) ≡ true
+  settled-by true key small past =
       let number = small.number in
       let serial = small.next_serial in
       let count = count_by-le-length (is_numbered key) (all_of s trace) in
@@ -187,16 +171,25 @@ module _ (keys-law : IsKeysLaw) (start : PrepareInput) (ring : List SignerState)
       (le-leb (key.number + 1) (2 ^ 63) (omega (arith, number)))
       (le-leb (serial_behind (all_of s trace) key + 1) (2 ^ 63) (omega (arith, serial, count, few))))
       past
+  settled-by false key small past =
+      let number = small.number in
+      let serial = small.next_serial in
+      let count = count_by-le-length (is_numbered key) (all_of s trace) in
+      and_from (leb key.number (2 ^ 63) && leb (serial_behind (all_of s trace) key) (2 ^ 63)) _
+      (and_from (leb key.number (2 ^ 63)) (leb (serial_behind (all_of s trace) key) (2 ^ 63))
+      (le-leb key.number (2 ^ 63) (omega (arith, number)))
+      (le-leb (serial_behind (all_of s trace) key) (2 ^ 63) (omega (arith, serial, count, few))))
+      past
 
   settled-rows : (nexts : List NextKey) (keys : List KeyRow) → AreEach rows nexts keys
-      → ((key : KeyRow) → Contains keys key → are_past prepared.next.moment (row_value (after-key s trace key)) ≡ true)
-      → list_all (is_settled prepared.next.moment) (map row_value (map (after-key s trace) keys)) ≡ true
+      → ((key : KeyRow) → Contains keys key → are_past prepared.next.moment (row_value (row_after s trace key)) ≡ true)
+      → list_all (is_settled prepared.next.moment) (map row_value (map (row_after s trace) keys)) ≡ true
   settled-rows [] [] each past = refl
   settled-rows [] (key ∷ keys) each past = absurd each
   settled-rows (next ∷ nexts) [] each past = absurd each
   settled-rows (next ∷ nexts) (key ∷ keys) each past =
-      and_from (is_settled prepared.next.moment (row_value (after-key s trace key))) _
-      (settled-row key (small-by next next.name key each.0) (past key (here key keys)))
+      and_from (is_settled prepared.next.moment (row_value (row_after s trace key))) _
+      (settled-by (has_point s trace.keys key) key (small-by next next.name key each.0) (past key (here key keys)))
       (settled-rows nexts keys each.1 (λ k c. past k (there key keys k c)))
 
   settled-all : list_all (is_settled prepared.next.moment) (map row_value prepared.next.rows) ≡ true
@@ -211,7 +204,7 @@ module _ (keys-law : IsKeysLaw) (start : PrepareInput) (ring : List SignerState)
     rows-fit =
         subst (λ (l : List KeyRow). AllByRecursion (IsRowOver (map row_value rows)) (map row_value l)) (sym rows-are)
         (rows-over s trace rows kept.live.apart later rising (next_keys planned_input.basis) of-plan.keys of-plan.next.each
-        of-plan.pointed firsts-of rising-at-end
+        firsts-of rising-at-end
         (subst (λ (l : List KeyRow). AllByRecursion IsTypedRow (map row_value l)) rows-are typed.rows))
 
     changes-fit : AllByRecursion (IsChangeOver (content_at start.at.set)) prepared.changes

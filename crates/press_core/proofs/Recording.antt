@@ -4,7 +4,7 @@ use Rattle.der.specs.Forms.{AreAll}
 use Rattle.std.specs.Prelude.{All, AllPairs, Contains, option_map, get_or}
 use Rattle.std.specs.List.{AllByRecursion, list_all, list_any}
 use Rattle.std.specs.Str.{bytes_eq, is_utf8}
-use Rattle.std.proofs.lemmas.Bool.{and_parts, and_from, le-leb, ne_eqb, cond-true, false_from_ne_true}
+use Rattle.std.proofs.lemmas.Bool.{and_parts, and_from, le-leb, eq-eqb, ne_eqb, false_from_ne_true}
 use Rattle.std.proofs.lemmas.Slice.Eq.{bytes_eq-Decides}
 use Rattle.std.proofs.lemmas.List.Elements.{All-head, All-tail, filter-append}
 use Rattle.sha1.specs.Sha1.{sha1}
@@ -24,13 +24,13 @@ use Rattle.pub_set.specs.Objects.{found_at}
 use Rattle.pub_set.specs.Changes.{Contents, uri_of, change_at}
 use Rattle.issue_keys.specs.Keys.{id_of}
 use Rattle.issue_plan.specs.declared.keys.NextKey.{NextKey}
-use Rattle.issue_drafts.specs.Drafts.{serial_behind}
 use Rattle.issue_drafts.specs.IssueInput.{IssueInput}
 use Rattle.issue_drafts.specs.Firsts.{AreFirsts}
 use Rattle.issue_drafts.specs.Revoking.{has_point, is_listed, candidates, revoked_row, is_superseded}
 use Rattle.issue_drafts.specs.laws.UriOrder.{found-some}
-use Rattle.issue_make.specs.Trace.{IssuingTrace, all_of, made_of, puts_of, hash_at, put_of, withdrawal_at, or_else, wanted_at, row_after}
+use Rattle.issue_make.specs.Trace.{IssuingTrace, made_of, puts_of, hash_at, put_of, withdrawal_at, or_else, wanted_at, row_after}
 use Rattle.editions.specs.Keys.{IsNextBy, AreEach}
+use Rattle.editions.specs.laws.RowLaws.{either_row}
 use Rattle.press_records.specs.Rows.{RowValue, row_value, row_of_key, lasting, carried, carried_by, added, merged, rise_behind, rise}
 use Rattle.press_records.specs.Recordable.{IsTypedRow, IsRowOver, IsChangeOver}
 use Rattle.press_records.specs.Edition.{grows, are_apart}
@@ -97,42 +97,49 @@ none-found (first ∷ rows) key apart =
 
 -- ---- a row of the edition
 
+-- Each certificate ends at 1970 or later.
+all-listed : (entries : List RevokedRow) → filter (λ (row : RevokedRow). leb 0 row.not_after) entries ≡ entries
+all-listed [] = refl
+all-listed (entry ∷ entries) = rw (le-leb 0 entry.not_after (omega arith)) (ap (λ (l : List RevokedRow). entry ∷ l) (all-listed entries))
+
 module _ (s : IssueInput) (trace : IssuingTrace) where
-  -- With a new CRL and a manifest.
-  abbrev pub after-key : KeyRow → KeyRow
-  after-key key = record key {
-    next_serial = serial_behind (all_of s trace) key + 1;
-    number = key.number + 1;
-    this_update = s.work.moment;
-    revoked = trace.entries key;
-  }
+  pub after-entries : (b : Bool) (key : KeyRow) → (either_row s trace key b).revoked ≡ trace.entries key
+  after-entries true key = refl
+  after-entries false key = refl
 
-  pub pointed-row : (key : KeyRow) → has_point s trace.keys key ≡ true → row_after s trace key ≡ after-key key
-  pointed-row key has =
-      cond-true (has_point s trace.keys key) (after-key key)
-      (record key { next_serial = serial_behind (all_of s trace) key; revoked = trace.entries key }) has
+  -- The time of the key's CRL, and the entries that it goes on with.
+  abbrev when-of : Bool → KeyRow → ℕ
+  when-of true key = s.work.moment
+  when-of false key = key.this_update
 
-  pub pointed-rows : (keys : List KeyRow) → ((key : KeyRow) → Contains keys key → has_point s trace.keys key ≡ true)
-      → map (row_after s trace) keys ≡ map after-key keys
-  pointed-rows [] has = refl
-  pointed-rows (key ∷ keys) has =
-      let first = pointed-row key (has key (here key keys)) in
-      let others = pointed-rows keys (λ k c. has k (there key keys k c)) in
-      λ i. first i ∷ others i
+  abbrev carried-on : Bool → KeyRow → List RevokedRow
+  carried-on true key = lasting key.this_update key.revoked
+  carried-on false key = key.revoked
 
-  -- The entries of a key's new CRL go on with those that its last one had, but for what had ended by it.
-  going-on : (key : KeyRow) → has_point s trace.keys key ≡ true → AreFirsts (candidates s trace.keys (puts_of s trace) key) (trace.entries key)
+  listed-of : (b : Bool) (key : KeyRow) → has_point s trace.keys key ≡ b
+      → filter (is_listed s trace.keys key) key.revoked ≡ carried-on b key
+  listed-of true key has =
+      ap (λ (t : Bool). filter (λ (row : RevokedRow). leb (cond t key.this_update 0) row.not_after) key.revoked) has
+  listed-of false key has =
+      ap (λ (t : Bool). filter (λ (row : RevokedRow). leb (cond t key.this_update 0) row.not_after) key.revoked) has
+      ∙ all-listed key.revoked
+
+  rising-of : (b : Bool) (key : KeyRow) → rise key.revoked ≡ true → rise (carried-on b key) ≡ true
+  rising-of true key up = filtered-rise (λ (row : RevokedRow). leb key.this_update row.not_after) key.revoked up
+  rising-of false key up = up
+
+  -- The entries of a key's new CRL go on with those that its last one had, but for what had ended by it. Where the CRL
+  -- stays, all of them do.
+  going-on : (b : Bool) (key : KeyRow) → has_point s trace.keys key ≡ b → AreFirsts (candidates s trace.keys (puts_of s trace) key) (trace.entries key)
       → rise key.revoked ≡ true → rise (trace.entries key) ≡ true
-      → merged (lasting key.this_update key.revoked) (added (trace.entries key) (lasting key.this_update key.revoked)) ≡ trace.entries key
-  going-on key has firsts up over =
+      → merged (carried-on b key) (added (trace.entries key) (carried-on b key)) ≡ trace.entries key
+  going-on b key has firsts up over =
       let others = map (revoked_row s.work.moment) (filter (is_superseded s (puts_of s trace) key) s.issued) in
-      let kept : filter (is_listed s trace.keys key) key.revoked ≡ lasting key.this_update key.revoked =
-      ap (λ (b : Bool). filter (λ (row : RevokedRow). leb (cond b key.this_update 0) row.not_after) key.revoked) has in
-      let all : candidates s trace.keys (puts_of s trace) key ≡ lasting key.this_update key.revoked ++ filter (is_listed s trace.keys key) others =
+      let all : candidates s trace.keys (puts_of s trace) key ≡ carried-on b key ++ filter (is_listed s trace.keys key) others =
       filter-append (is_listed s trace.keys key) key.revoked others
-      ∙ ap (λ (l : List RevokedRow). l ++ filter (is_listed s trace.keys key) others) kept in
-      carried-merged (lasting key.this_update key.revoked) (filter (is_listed s trace.keys key) others) (trace.entries key)
-      (filtered-rise (λ (row : RevokedRow). leb key.this_update row.not_after) key.revoked up)
+      ∙ ap (λ (l : List RevokedRow). l ++ filter (is_listed s trace.keys key) others) (listed-of b key has) in
+      carried-merged (carried-on b key) (filter (is_listed s trace.keys key) others) (trace.entries key)
+      (rising-of b key up)
       over
       (λ serial. firsts.each serial ∙ ap (λ (l : List RevokedRow). entry_at l serial) all)
 
@@ -141,44 +148,48 @@ module _ (s : IssueInput) (trace : IssuingTrace) where
     abbrev Carried : List RevokedRow → KeyRow → Type 0
     Carried known key = merged known (added (trace.entries key) known) ≡ trace.entries key
 
-    carried-live : (row key : KeyRow) → Contains rows row → key.key ≡ row.key → key.this_update ≡ row.this_update → key.revoked ≡ row.revoked
-        → has_point s trace.keys key ≡ true → AreFirsts (candidates s trace.keys (puts_of s trace) key) (trace.entries key)
+    -- What the row's CRL had, as the next one goes on with it.
+    carried-row : (b : Bool) (row key : KeyRow) → Contains rows row → key.this_update ≡ row.this_update → key.revoked ≡ row.revoked
+        → carried (Some (row_value row)) (when-of b key) ≡ carried-on b key
+    carried-row true row key live when entries =
+        let less = later row live in
+        rw (ne_eqb s.work.moment row.this_update (λ same. omega (arith, less, same)))
+        (λ i. lasting (sym when i) (sym entries i))
+    carried-row false row key live when entries = rw (eq-eqb key.this_update row.this_update when) (sym entries)
+
+    carried-live : (b : Bool) (row key : KeyRow) → Contains rows row → key.key ≡ row.key → key.this_update ≡ row.this_update → key.revoked ≡ row.revoked
+        → has_point s trace.keys key ≡ b → AreFirsts (candidates s trace.keys (puts_of s trace) key) (trace.entries key)
         → rise (trace.entries key) ≡ true
-        → Carried (carried_by (map row_value rows) key.key.bytes s.work.moment) key
-    carried-live row key live same when entries has firsts over =
+        → Carried (carried_by (map row_value rows) key.key.bytes (when-of b key)) key
+    carried-live b row key live same when entries has firsts over =
         let found : row_of_key (map row_value rows) key.key.bytes ≡ Some (row_value row) =
         ap (λ (k : List ℕ). row_of_key (map row_value rows) k) (ap (λ k. k.bytes) same)
         ∙ row-found rows row (twos-from (λ a b. id_of a ≢ id_of b) rows apart) (in-from rows row live) in
-        let less = later row live in
-        let known : carried_by (map row_value rows) key.key.bytes s.work.moment ≡ lasting key.this_update key.revoked =
-        ap (λ (o : Option RowValue). carried o s.work.moment) found
-        ∙ (cond-false-eq s.work.moment row.this_update row.revoked (lasting row.this_update row.revoked) less
-        ∙ (λ i. lasting (sym when i) (sym entries i))) in
+        let known : carried_by (map row_value rows) key.key.bytes (when-of b key) ≡ carried-on b key =
+        ap (λ (o : Option RowValue). carried o (when-of b key)) found ∙ carried-row b row key live when entries in
         subst (λ (l : List RevokedRow). Carried l key) (sym known)
-        (going-on key has firsts (ap rise entries ∙ rising row live) over)
-      where
-        cond-false-eq : (moment time : ℕ) (one other : List RevokedRow) → time < moment → cond (eqb moment time) one other ≡ other
-        cond-false-eq moment time one other less = rw (ne_eqb moment time (λ same. omega (arith, less, same))) refl
+        (going-on b key has firsts (ap rise entries ∙ rising row live) over)
 
-    carried-new : (key : KeyRow) → All (λ live. id_of live ≢ id_of key) rows → Carried (carried_by (map row_value rows) key.key.bytes s.work.moment) key
-    carried-new key other =
+    carried-new : (moment : ℕ) (key : KeyRow) → All (λ live. id_of live ≢ id_of key) rows
+        → Carried (carried_by (map row_value rows) key.key.bytes moment) key
+    carried-new moment key other =
         subst (λ (l : List RevokedRow). Carried l key)
-        (sym (ap (λ (o : Option RowValue). carried o s.work.moment) (none-found rows key other)))
+        (sym (ap (λ (o : Option RowValue). carried o moment) (none-found rows key other)))
         (none-added (trace.entries key))
 
-    pub carried-by : (next : NextKey) (name : KeyName) (key : KeyRow) → IsNextBy rows next name key
-        → has_point s trace.keys key ≡ true → AreFirsts (candidates s trace.keys (puts_of s trace) key) (trace.entries key)
-        → rise (trace.entries key) ≡ true → Carried (carried_by (map row_value rows) key.key.bytes s.work.moment) key
-    carried-by next (Live id) key is has firsts over =
-        carried-live is.row key is.live (ap (λ (r : KeyRow). r.key) is.same) (ap (λ (r : KeyRow). r.this_update) is.same)
+    pub carried-by : (b : Bool) (next : NextKey) (name : KeyName) (key : KeyRow) → IsNextBy rows next name key
+        → has_point s trace.keys key ≡ b → AreFirsts (candidates s trace.keys (puts_of s trace) key) (trace.entries key)
+        → rise (trace.entries key) ≡ true → Carried (carried_by (map row_value rows) key.key.bytes (when-of b key)) key
+    carried-by b next (Live id) key is has firsts over =
+        carried-live b is.row key is.live (ap (λ (r : KeyRow). r.key) is.same) (ap (λ (r : KeyRow). r.this_update) is.same)
         (ap (λ (r : KeyRow). r.revoked) is.same) has firsts over
-    carried-by next (Fresh desk) key is has firsts over = carried-new key is.apart
+    carried-by b next (Fresh desk) key is has firsts over = carried-new (when-of b key) key is.apart
 
     -- A row that has numbers of its types can be recorded.
-    row-over : (next : NextKey) (key : KeyRow) → IsNextBy rows next next.name key → has_point s trace.keys key ≡ true
+    row-over : (b : Bool) (next : NextKey) (key : KeyRow) → IsNextBy rows next next.name key → has_point s trace.keys key ≡ b
         → AreFirsts (candidates s trace.keys (puts_of s trace) key) (trace.entries key) → rise (trace.entries key) ≡ true
-        → IsTypedRow (row_value (after-key key)) → IsRowOver (map row_value rows) (row_value (after-key key))
-    row-over next key is has firsts over typed = record {
+        → IsTypedRow (row_value (either_row s trace key b)) → IsRowOver (map row_value rows) (row_value (either_row s trace key b))
+    row-over true next key is has firsts over typed = record {
       desk = typed.desk;
       signer = typed.signer;
       size = key.key.spelled.whole;
@@ -190,22 +201,34 @@ module _ (s : IssueInput) (trace : IssuingTrace) where
       done = typed.done;
       entries = typed.entries;
       rising = over;
-      carried = carried-by next next.name key is has firsts over;
+      carried = carried-by true next next.name key is has firsts over;
+    }
+    row-over false next key is has firsts over typed = record {
+      desk = typed.desk;
+      signer = typed.signer;
+      size = key.key.spelled.whole;
+      form = is-key key.key.bytes key.key.spelled;
+      next_serial = typed.next_serial;
+      number = typed.number;
+      this_update = typed.this_update;
+      since = typed.since;
+      done = typed.done;
+      entries = typed.entries;
+      rising = over;
+      carried = carried-by false next next.name key is has firsts over;
     }
 
     pub rows-over : (nexts : List NextKey) (keys : List KeyRow) → AreEach rows nexts keys
-        → ((key : KeyRow) → Contains keys key → has_point s trace.keys key ≡ true)
         → ((key : KeyRow) → Contains keys key → AreFirsts (candidates s trace.keys (puts_of s trace) key) (trace.entries key))
         → ((key : KeyRow) → Contains keys key → rise (trace.entries key) ≡ true)
-        → AllByRecursion IsTypedRow (map row_value (map after-key keys))
-        → AllByRecursion (IsRowOver (map row_value rows)) (map row_value (map after-key keys))
-    rows-over [] [] are has firsts over typed = tt
-    rows-over [] (key ∷ keys) are has firsts over typed = absurd are
-    rows-over (next ∷ nexts) [] are has firsts over typed = absurd are
-    rows-over (next ∷ nexts) (key ∷ keys) are has firsts over typed = (
-      row-over next key are.0 (has key (here key keys)) (firsts key (here key keys)) (over key (here key keys)) typed.0,
-      rows-over nexts keys are.1 (λ k c. has k (there key keys k c)) (λ k c. firsts k (there key keys k c))
-          (λ k c. over k (there key keys k c)) typed.1,
+        → AllByRecursion IsTypedRow (map row_value (map (row_after s trace) keys))
+        → AllByRecursion (IsRowOver (map row_value rows)) (map row_value (map (row_after s trace) keys))
+    rows-over [] [] are firsts over typed = tt
+    rows-over [] (key ∷ keys) are firsts over typed = absurd are
+    rows-over (next ∷ nexts) [] are firsts over typed = absurd are
+    rows-over (next ∷ nexts) (key ∷ keys) are firsts over typed = (
+      row-over (has_point s trace.keys key) next key are.0 refl (firsts key (here key keys)) (over key (here key keys)) typed.0,
+      rows-over nexts keys are.1 (λ k c. firsts k (there key keys k c)) (λ k c. over k (there key keys k c)) typed.1,
     )
 
 -- ---- the changes

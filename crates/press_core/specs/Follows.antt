@@ -15,6 +15,7 @@ use Rattle.editions.specs.Gathering.{AreNextCommands}
 use Rattle.press_core.specs.PrepareInput.{PrepareInput}
 use Rattle.press_core.specs.Planned.{IsPrepared, calls_for}
 use Rattle.press_core.specs.Next.{NextValue}
+use Rattle.press_core.specs.Incremental.{IsIncremental}
 use Rattle.press_core.specs.Stands.{IsLeftBy, StandsFor}
 
 abbrev pub edition_of : NextValue → Edition
@@ -55,6 +56,8 @@ pub record IsNextEdition (start : PrepareInput) (ring : List SignerState)
     (prepared : NextValue) : Type 0 where
   -- an edition was called for, and this is what the signers made of its plan
   pub is_prepared : IsPrepared start ring prepared
+  -- what fits stays, and no signature is given for it
+  pub incremental : IsIncremental start ring prepared
   -- behind whatever editions left what stood, it leaves what will stand
   pub left : (lists : List (List Command)) (editions : List Edition)
       → IsLeftBy lists editions start.at → AreNextCommands lists start.at.cut start.gathered

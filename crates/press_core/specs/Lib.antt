@@ -3,6 +3,7 @@ pub mod Signers
 pub mod PrepareInput
 pub mod Next
 pub mod Planned
+pub mod Incremental
 pub mod Staged
 pub mod Stands
 pub mod Follows

@@ -1,5 +1,5 @@
 -- What a press sets out to make, and what comes of it.
-use Rattle.std.specs.Prelude.{◌≡◌, ◌<◌, ◌^◌, ℕ, Bool, true, false, List, All, length}
+use Rattle.std.specs.Prelude.{◌≡◌, ◌≢◌, AllPairs, ◌<◌, ◌^◌, ℕ, Bool, true, false, List, All, length}
 use Rattle.signer_api.specs.State.{SignerState}
 use Rattle.signer_ring.specs.Calls.{Call}
 use Rattle.names.specs.Name.{IsName}
@@ -12,6 +12,11 @@ use Rattle.issue_drafts.specs.IssueInput.{IssueInput}
 use Rattle.issue_make.specs.declared.made.Made.{Made}
 use Rattle.issue_make.specs.CanMake as making
 use Rattle.issue_make.specs.Made.{IsMade, calls_of}
+use Rattle.entitle.specs.Owed.{AreOwed}
+use Rattle.entitle.specs.declared.trees.Owed.{Owed}
+use Rattle.key_roll.specs.declared.rows.KeyRow.{KeyRow}
+use Rattle.editions.specs.Keys.{AreNext}
+use Rattle.editions.specs.Wanted.{all_objects}
 use Rattle.editions.specs.PublishedState.{PublishedStateValue}
 use Rattle.editions.specs.Moments.{moment_behind, is_out_of_range, AreBelowEnd}
 use Rattle.editions.specs.Gathering.{configs_with, cut_with}
@@ -45,6 +50,13 @@ pub record IsCalled (start : PrepareInput) (sets : List Resources) (called : Boo
 
 -- ---- what is made
 
+-- No two objects that are wanted have one place.
+abbrev pub AreApart : PrepareInput → Basis → Type 0
+AreApart start basis =
+    (owed : List Owed) (keys : List KeyRow) → AreOwed basis.configs owed → AreNext basis.rows (next_keys basis) keys
+    → AllPairs (λ a b. a.uri ≢ b.uri)
+    (all_objects (record { basis = basis; owed = owed; issued = start.at.issued; site = start.site }) keys)
+
 -- An edition is in range and called for, and this is its plan.
 pub record IsPlanned (start : PrepareInput) (work : Work) : Type 0 where
   pub in_range : IsInRange start.at start.clock
@@ -66,6 +78,7 @@ pub record IsMadeOf (start : PrepareInput) (ring : List SignerState) (prepared :
     : Type 0 where
   pub work : Work
   pub planned : IsPlanned start work
+  pub places : AreApart start (basis_for start planned.sets)
   pub able : making.CanMake (issue_input_for start work) start.at.rows (length start.ring)
   pub made : Made
   pub is_made : IsMade (issue_input_for start work) start.at.rows start.ring ring made

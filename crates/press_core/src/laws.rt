@@ -29,6 +29,7 @@ ghost use Rattle.press_core.specs.Signers.{HasAllVouched};
 ghost use Rattle.press_core.specs.PrepareInput.{PrepareInput};
 ghost use Rattle.press_core.specs.Next.{NextValue};
 ghost use Rattle.press_core.specs.Planned.{IsPrepared, calls_for};
+ghost use Rattle.press_core.specs.Incremental.{IsIncremental};
 ghost use Rattle.press_records.specs.Store.{Store};
 ghost use Rattle.press_core.specs.JournalRecords.{AreRecords, IsRecordOf};
 ghost use Rattle.press_core.specs.Staged.{AreStaged, HasStages};
@@ -42,8 +43,9 @@ ghost use Rattle.press_core.specs.declared.last_export.LastExport.TheVariants.{D
 use editions::{
     accepted_names_are_apart, called_for_by_what_stands, certificates_have_own_serials,
     editions_are_in_profile, editions_are_published, editions_follow_one_another,
-    gathered_commands_go_on, manifests_rise, same_objects_same_set, steps_come_one_by_one,
-    steps_stay_steps, the_plans_keys_are_next, the_table_goes_on, what_is_planned_and_made_follows,
+    gathered_commands_go_on, manifests_rise, same_objects_same_set, signatures_are_of_the_work,
+    steps_come_one_by_one, steps_stay_steps, the_plans_keys_are_next, the_table_goes_on,
+    what_is_planned_and_made_follows,
 };
 use press_records::{one_more_edition, what_stands_alike_reads_alike};
 
@@ -118,6 +120,16 @@ pub fn prepared_editions_follow()
     steps_come_one_by_one();
     the_table_goes_on();
     what_is_planned_and_made_follows();
+}
+
+/// What is prepared puts what is wanted and fits nothing that stands, and nothing else; and its signers gave as many
+/// signatures as that takes.
+pub fn prepared_editions_put_what_is_unfit()
+    ensures { (start : PrepareInput) (ring : List SignerState) (prepared : NextValue) → IsPrepared start ring prepared
+        → IsIncremental start ring prepared }
+{
+    signatures_are_of_the_work();
+    the_plans_keys_are_next();
 }
 
 /// The records of editions, with that of the next one behind them, are those of all of these.

@@ -33,9 +33,9 @@ pub use last_export::LastExport;
 pub use laws::{
     edition_records_go_on, first_published_state_stands, made_keys_are_staged, more_commands_stand,
     more_commands_stay_published, more_editions_stay_shown, prepared_editions_are_published,
-    prepared_editions_follow, prepared_editions_leave, published_editions_have_an_anchor,
-    rrdp_editions_are_what_editions_leave, telling_signers_vouch,
-    vouching_signers_vouch_for_editions,
+    prepared_editions_follow, prepared_editions_leave, prepared_editions_put_what_is_unfit,
+    published_editions_have_an_anchor, rrdp_editions_are_what_editions_leave,
+    telling_signers_vouch, vouching_signers_vouch_for_editions,
 };
 pub use loading::{LoadFault, LoadRefused, Loaded, load};
 pub use press::Press;

@@ -19,10 +19,11 @@ use crate::setup::EditionInput;
 use authority_book::accepted_origins_ascend;
 use editions::{
     PublishedState, StateParts, ended_keys, made_keys_are_live, made_keys_have_signers, next_set,
-    next_table, other_uris_are_clear, planned_work_can_be_made,
+    next_table, other_uris_are_clear, planned_work_can_be_made, wanted_objects_are_apart,
 };
 use entitle::names_of;
 use issue_make::{Made, make};
+use issue_values::can_be_named;
 use items::Items;
 use key_ids::Site;
 use key_roll::{Issued, IssuedRow, Work};
@@ -30,6 +31,7 @@ use pub_set::Change;
 use signer_api::Signer;
 use signer_ring::Ring;
 use std::alloc::{AllocError, Global};
+use std::thread::Threads;
 
 // The length that no object that can be read reaches.
 const TOO_LONG: u64 = 1 << 32;
@@ -104,7 +106,8 @@ fn next_of(
 
 /// Makes the edition that was planned. `now` is the clock that a refusal names, in seconds since
 /// 1970.
-pub fn make_edition<S: Signer>(
+pub fn make_edition<S: Signer + Send, R: Threads + Sync>(
+    rt: &R,
     alloc: Global,
     site: &Site,
     at: &PublishedState,
@@ -127,12 +130,15 @@ pub fn make_edition<S: Signer>(
     let names = names_of(&setup.configs);
     // What the layers below say of the plan.
     accepted_origins_ascend();
+    can_be_named(site);
     planned_work_can_be_made();
     made_keys_are_live();
     made_keys_have_signers();
     other_uris_are_clear();
+    wanted_objects_are_apart();
     made_keys_are_staged();
     let made = match make(
+        rt,
         alloc,
         work,
         parts.rows.as_slice(),

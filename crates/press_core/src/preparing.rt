@@ -20,9 +20,11 @@ use key_ids::Site;
 use signer_api::Signer;
 use signer_ring::Ring;
 use std::alloc::Global;
+use std::thread::Threads;
 
 /// Prepares the next edition over what stands, by those signers. `now` is in seconds since 1970.
-pub fn prepare_over<S: Signer>(
+pub fn prepare_over<S: Signer + Send, R: Threads + Sync>(
+    rt: &R,
     alloc: Global,
     site: &Site,
     at: &PublishedState,
@@ -52,5 +54,5 @@ pub fn prepare_over<S: Signer>(
             met: MetAt::new(24, now),
         });
     }
-    make_edition(alloc, site, at, setup, &work, ring, now)
+    make_edition(rt, alloc, site, at, setup, &work, ring, now)
 }

@@ -31,7 +31,7 @@ use crate::fault::PressFault;
 use crate::last_export::LastExport;
 use crate::laws::{
     prepared_editions_are_published, prepared_editions_follow, prepared_editions_leave,
-    rrdp_editions_are_what_editions_leave,
+    prepared_editions_put_what_is_unfit, rrdp_editions_are_what_editions_leave,
 };
 use crate::next_edition::NextEdition;
 use crate::prepared::Prepared;
@@ -46,6 +46,7 @@ use signer_api::Signer;
 use signer_ring::Ring;
 use std::alloc::{AllocError, Global};
 use std::marker::Model;
+use std::thread::Threads;
 
 /// Publishes for a tree of authorities.
 #[derive(Drop)]
@@ -144,76 +145,6 @@ impl<S: Signer> Press<S> {
         ensures { result ≡ self.now.last_export }
     {
         self.last_export
-    }
-
-    /// Prepares the next edition, at that clock and with the commands that were gathered. Its signers make and sign what
-    /// it puts; else nothing of the press changes.
-    ///
-    /// `now` is in seconds since 1970. Refusals are asked in this order: `ClockRange`, `SerialEnd`,
-    /// `Nothing`, before any signer is called; then `SignerFault` and `KeyClash`, as the signers'
-    /// calls come to them. `Memory` may come at any time.
-    pub(crate) fn prepare(
-        &mut self,
-        alloc: Global,
-        now: u64,
-        gathered: Vec<Gathered>,
-    ) -> Result<Prepared, PressFault>
-        // Commands of each desk once, from where the cut ends, and each accepted after those before it.
-        requires gathered { AreGathered self.old.at.cut gathered.items }
-        requires accepted { AreAccepted self.old.at.configs gathered.items }
-
-        // The press has the signers of the live keys, and of the names at the new cut.
-        requires live_signers { All (λ row. row.signer < length self.old.ring) self.old.at.rows }
-        requires name_signers { All (λ name. name.signer < length self.old.ring)
-            (names_of (configs_with self.old.at.configs gathered.items)) }
-
-        // What the signers made of the plan of an edition that was called for. It follows the editions that the press
-        // stands for, whichever these are; to relying parties it is sound, and yields what is owed.
-        ensures prepared { IfOk result (λ prepared.
-            IsNextEdition (start_of self.old now gathered.items) self.new.ring prepared.edition) }
-
-        // Its delta is the text of what changes, if it can be named beside the snapshot of what will stand.
-        ensures delta { IfOk result (λ prepared.
-            prepared.delta ≡ delta_of self.old.rrdp.session prepared.edition) }
-
-        // Each refusal has its cause. On every answer the rest of the press stays as it is, and the signers keep their
-        // keys, and vouch for what they vouched for.
-        ensures refused { IfErr result (IsPressFault (start_of self.old now gathered.items) self.new.ring) }
-        ensures kept { self.new ≡ record self.old { ring = self.new.ring } }
-        ensures signers { Keeps self.old.ring self.new.ring }
-        ensures keys { HoldKeys self.old.ring self.new.ring }
-    {
-        let edition = self.prepare_edition(alloc, now, gathered)?;
-        match self.delta_of(alloc, &edition) {
-            Ok(delta) => Ok(Prepared::new(edition, delta)),
-            Err(_) => Err(PressFault::Memory),
-        }
-    }
-
-    // The next edition, without its delta.
-    fn prepare_edition(
-        &mut self,
-        alloc: Global,
-        now: u64,
-        gathered: Vec<Gathered>,
-    ) -> Result<NextEdition, PressFault>
-        requires gathered { AreGathered self.old.at.cut gathered.items }
-        requires accepted { AreAccepted self.old.at.configs gathered.items }
-        requires live_signers { All (λ row. row.signer < length self.old.ring) self.old.at.rows }
-        requires name_signers { All (λ name. name.signer < length self.old.ring)
-            (names_of (configs_with self.old.at.configs gathered.items)) }
-        ensures prepared { IfOk result (IsNextEdition (start_of self.old now gathered.items) self.new.ring) }
-        ensures serial { IfOk result (λ edition. edition.next.serial ≡ self.old.rrdp.serial + 1) }
-        ensures short { IfOk result (λ _. IsShort (start_of self.old now gathered.items) self.new.ring) }
-        ensures refused { IfErr result (IsPressFault (start_of self.old now gathered.items) self.new.ring) }
-        ensures kept { self.new ≡ record self.old { ring = self.new.ring } }
-        ensures signers { Keeps self.old.ring self.new.ring }
-        ensures keys { HoldKeys self.old.ring self.new.ring }
-    {
-        prepared_editions_leave();
-        prepared_editions_follow();
-        prepared_editions_are_published();
-        prepare_over(alloc, &self.site, &self.at, &mut self.ring, now, gathered)
     }
 
     // The delta of the next edition.
@@ -325,6 +256,90 @@ impl<S: Signer> Press<S> {
         ensures { result ≡ self.ring }
     {
         self.ring
+    }
+}
+
+impl<S: Signer + Send> Press<S> {
+    /// Prepares the next edition, at that clock and with the commands that were gathered. Its signers make and sign what
+    /// it puts; else nothing of the press changes.
+    ///
+    /// `now` is in seconds since 1970. Refusals are asked in this order: `ClockRange`, `SerialEnd`,
+    /// `Nothing`, before any signer is called; then `SignerFault` and `KeyClash`, as the signers'
+    /// calls come to them. `Memory` may come at any time.
+    pub(crate) fn prepare<R: Threads + Sync>(
+        &mut self,
+        rt: &R,
+        alloc: Global,
+        now: u64,
+        gathered: Vec<Gathered>,
+    ) -> Result<Prepared, PressFault>
+        // Commands of each desk once, from where the cut ends, and each accepted after those before it.
+        requires gathered { AreGathered self.old.at.cut gathered.items }
+        requires accepted { AreAccepted self.old.at.configs gathered.items }
+
+        // The press has the signers of the live keys, and of the names at the new cut.
+        requires live_signers { All (λ row. row.signer < length self.old.ring) self.old.at.rows }
+        requires name_signers { All (λ name. name.signer < length self.old.ring)
+            (names_of (configs_with self.old.at.configs gathered.items)) }
+
+        // What the signers made of the plan of an edition that was called for. It follows the editions that the press
+        // stands for, whichever these are; to relying parties it is sound, and yields what is owed. Nothing that fits is
+        // put, and its signers gave two signatures for each ROA that is, one for each certificate and three for each point.
+        ensures prepared { IfOk result (λ prepared.
+            IsNextEdition (start_of self.old now gathered.items) self.new.ring prepared.edition) }
+
+        // Its delta is the text of what changes, if it can be named beside the snapshot of what will stand.
+        ensures delta { IfOk result (λ prepared.
+            prepared.delta ≡ delta_of self.old.rrdp.session prepared.edition) }
+
+        // Each refusal has its cause. On every answer the rest of the press stays as it is, and the signers keep their
+        // keys, and vouch for what they vouched for.
+        ensures refused { IfErr result (IsPressFault (start_of self.old now gathered.items) self.new.ring) }
+        ensures kept { self.new ≡ record self.old { ring = self.new.ring } }
+        ensures signers { Keeps self.old.ring self.new.ring }
+        ensures keys { HoldKeys self.old.ring self.new.ring }
+    {
+        let edition = self.prepare_edition(rt, alloc, now, gathered)?;
+        match self.delta_of(alloc, &edition) {
+            Ok(delta) => Ok(Prepared::new(edition, delta)),
+            Err(_) => Err(PressFault::Memory),
+        }
+    }
+
+    // The next edition, without its delta.
+    fn prepare_edition<R: Threads + Sync>(
+        &mut self,
+        rt: &R,
+        alloc: Global,
+        now: u64,
+        gathered: Vec<Gathered>,
+    ) -> Result<NextEdition, PressFault>
+        requires gathered { AreGathered self.old.at.cut gathered.items }
+        requires accepted { AreAccepted self.old.at.configs gathered.items }
+        requires live_signers { All (λ row. row.signer < length self.old.ring) self.old.at.rows }
+        requires name_signers { All (λ name. name.signer < length self.old.ring)
+            (names_of (configs_with self.old.at.configs gathered.items)) }
+        ensures prepared { IfOk result (IsNextEdition (start_of self.old now gathered.items) self.new.ring) }
+        ensures serial { IfOk result (λ edition. edition.next.serial ≡ self.old.rrdp.serial + 1) }
+        ensures short { IfOk result (λ _. IsShort (start_of self.old now gathered.items) self.new.ring) }
+        ensures refused { IfErr result (IsPressFault (start_of self.old now gathered.items) self.new.ring) }
+        ensures kept { self.new ≡ record self.old { ring = self.new.ring } }
+        ensures signers { Keeps self.old.ring self.new.ring }
+        ensures keys { HoldKeys self.old.ring self.new.ring }
+    {
+        prepared_editions_leave();
+        prepared_editions_follow();
+        prepared_editions_are_published();
+        prepared_editions_put_what_is_unfit();
+        prepare_over(
+            rt,
+            alloc,
+            &self.site,
+            &self.at,
+            &mut self.ring,
+            now,
+            gathered,
+        )
     }
 }
 

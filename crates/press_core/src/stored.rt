@@ -49,6 +49,7 @@ use signer_api::Signer;
 use signer_ring::Ring;
 use std::alloc::{AllocError, Global};
 use std::marker::Model;
+use std::thread::Threads;
 
 /// A press over its journal.
 #[derive(Drop)]
@@ -130,58 +131,6 @@ impl<D: Disk, S: Signer> StoredPress<D, S> {
         let _safe = self.journal.is_shut();
         let _sizes = self.journal.count();
         &self.press
-    }
-
-    /// Prepares the next edition, at that clock and with the commands that were gathered, and its
-    /// record. Its signers make and sign what it puts; else nothing changes.
-    ///
-    /// `now` is in seconds since 1970. Refusals are asked in this order: `Shut`, `ClockRange`,
-    /// `SerialEnd`, `Nothing`, before any signer is called; then `SignerFault` and `KeyClash`, as the
-    /// signers' calls come to them; then `JournalFull`. `Memory` may come at any time but before `Shut`.
-    pub fn prepare(
-        &mut self,
-        alloc: Global,
-        now: u64,
-        gathered: Vec<Gathered>,
-    ) -> Result<StoredPrepared, PrepareFault<D>>
-        requires gathered { AreGathered self.old.press.at.cut gathered.items }
-        requires accepted { AreAccepted self.old.press.at.configs gathered.items }
-        requires live_signers { All (λ row. row.signer < length self.old.press.ring) self.old.press.at.rows }
-        requires name_signers { All (λ name. name.signer < length self.old.press.ring)
-            (names_of (configs_with self.old.press.at.configs gathered.items)) }
-
-        // It is the edition that the press alone prepares, and follows the ones before it.
-        ensures prepared { IfOk result (λ prepared.
-            IsNextEdition (start_of self.old.press now gathered.items) self.new.press.ring prepared.edition) }
-        ensures delta { IfOk result (λ prepared.
-            prepared.delta ≡ delta_of self.old.press.rrdp.session prepared.edition) }
-
-        // Its bytes are those of the record of this very edition over what stands, and are read back to it. There is
-        // room for it.
-        ensures entry { IfOk result (λ prepared.
-            prepared.entry ≡ record_bytes self.old.press.at prepared.edition) }
-        ensures ready { IfOk result (CanCommit self.new) }
-
-        ensures refused { IfErr result
-            (IsPrepareFault (start_of self.old.press now gathered.items) self.new.press.ring self.old.journal) }
-        ensures kept { self.new.press ≡ record self.old.press { ring = self.new.press.ring } }
-        ensures journal { IsSameButRoom self.old.journal self.new.journal }
-        // What was prepared since the last edition can still be committed.
-        ensures places { self.old.journal.places ≤ self.new.journal.places }
-        ensures signers { Keeps self.old.press.ring self.new.press.ring }
-        ensures keys { HoldKeys self.old.press.ring self.new.press.ring }
-    {
-        if let Some(rose) = self.journal.shut_by() {
-            return Err(PrepareFault::Shut { rose });
-        }
-        prepared_tables_tell_hashes();
-        let prepared = match self.press.prepare(alloc, now, gathered) {
-            Ok(prepared) => prepared,
-            Err(fault) => return Err(PrepareFault::of(fault)),
-        };
-        let entry = self.entry_of(alloc, now, prepared.edition())?;
-        self.journal.reserve_place(alloc)?;
-        Ok(StoredPrepared { prepared, entry })
     }
 
     // The record of the edition, if there is room for it.
@@ -311,6 +260,61 @@ impl<D: Disk, S: Signer> StoredPress<D, S> {
     {
         let StoredPress { press, journal } = self;
         (journal.close(), press.close())
+    }
+}
+
+impl<D: Disk, S: Signer + Send> StoredPress<D, S> {
+    /// Prepares the next edition, at that clock and with the commands that were gathered, and its
+    /// record. Its signers make and sign what it puts; else nothing changes.
+    ///
+    /// `now` is in seconds since 1970. Refusals are asked in this order: `Shut`, `ClockRange`,
+    /// `SerialEnd`, `Nothing`, before any signer is called; then `SignerFault` and `KeyClash`, as the
+    /// signers' calls come to them; then `JournalFull`. `Memory` may come at any time but before `Shut`.
+    pub fn prepare<R: Threads + Sync>(
+        &mut self,
+        rt: &R,
+        alloc: Global,
+        now: u64,
+        gathered: Vec<Gathered>,
+    ) -> Result<StoredPrepared, PrepareFault<D>>
+        requires gathered { AreGathered self.old.press.at.cut gathered.items }
+        requires accepted { AreAccepted self.old.press.at.configs gathered.items }
+        requires live_signers { All (λ row. row.signer < length self.old.press.ring) self.old.press.at.rows }
+        requires name_signers { All (λ name. name.signer < length self.old.press.ring)
+            (names_of (configs_with self.old.press.at.configs gathered.items)) }
+
+        // It is the edition that the press alone prepares, and follows the ones before it.
+        ensures prepared { IfOk result (λ prepared.
+            IsNextEdition (start_of self.old.press now gathered.items) self.new.press.ring prepared.edition) }
+        ensures delta { IfOk result (λ prepared.
+            prepared.delta ≡ delta_of self.old.press.rrdp.session prepared.edition) }
+
+        // Its bytes are those of the record of this very edition over what stands, and are read back to it. There is
+        // room for it.
+        ensures entry { IfOk result (λ prepared.
+            prepared.entry ≡ record_bytes self.old.press.at prepared.edition) }
+        ensures ready { IfOk result (CanCommit self.new) }
+
+        ensures refused { IfErr result
+            (IsPrepareFault (start_of self.old.press now gathered.items) self.new.press.ring self.old.journal) }
+        ensures kept { self.new.press ≡ record self.old.press { ring = self.new.press.ring } }
+        ensures journal { IsSameButRoom self.old.journal self.new.journal }
+        // What was prepared since the last edition can still be committed.
+        ensures places { self.old.journal.places ≤ self.new.journal.places }
+        ensures signers { Keeps self.old.press.ring self.new.press.ring }
+        ensures keys { HoldKeys self.old.press.ring self.new.press.ring }
+    {
+        if let Some(rose) = self.journal.shut_by() {
+            return Err(PrepareFault::Shut { rose });
+        }
+        prepared_tables_tell_hashes();
+        let prepared = match self.press.prepare(rt, alloc, now, gathered) {
+            Ok(prepared) => prepared,
+            Err(fault) => return Err(PrepareFault::of(fault)),
+        };
+        let entry = self.entry_of(alloc, now, prepared.edition())?;
+        self.journal.reserve_place(alloc)?;
+        Ok(StoredPrepared { prepared, entry })
     }
 }
 

@@ -1,7 +1,7 @@
 //! The table of what stands, read from the objects themselves.
 //!
 //! An object that a press never makes, as the certificate of an authority that inherits or a ROA of several entries, has
-//! a row that is none of what is wanted, so that it never fits.
+//! a row that is none of what is wanted, so that it never fits; but the row tells who issued it, and as which serial.
 
 ghost use Rattle.std.specs.Prelude.{◌≡◌, ◌≢◌, IfOk, MatchOption};
 ghost use Rattle.std.specs.Option.{option_map};
@@ -26,8 +26,12 @@ use key_roll::{IssuedRow, What};
 use origins::Origin;
 use payloads::{BodyFault, RoaBody};
 use pub_set::{Object, ObjectSet};
+use res_sets::Resources;
 use sha2::{Digest, Sha256};
 use std::alloc::{AllocError, Global};
+
+// An identifier that is no key's.
+const NOBODY: KeyId = KeyId { bytes: [0; 20] };
 
 // What an object is told by, beside its URI and its hash.
 #[derive(Drop)]
@@ -78,17 +82,37 @@ fn told_of(alloc: Global, bytes: &[u8]) -> Result<Told, AllocError>
     }
     match by_signed_object(alloc, bytes)? {
         Some(told) => Ok(told),
-        None => Ok(unknown()),
+        None => Ok(other_told(alloc, bytes)?),
     }
 }
 
-// What is none of what is wanted.
-fn unknown() -> Told {
-    Told {
-        issuer: KeyId { bytes: [0; 20] },
-        serial: 0,
-        not_after: 0,
-        what: What::Point,
+// What a press never makes: it is told as the certificate of nothing for nobody, which is none that is wanted, and by
+// whom it was issued, until when and as which serial. So it is among its issuer's files, whose point is made anew when it
+// goes, and then its serial is listed.
+fn other_told(alloc: Global, bytes: &[u8]) -> Result<Told, AllocError> {
+    let (issuer, serial, not_after) = match any_certificate(alloc, bytes)? {
+        Some(found) => (found.cert.issuer, found.cert.serial, found.cert.not_after),
+        None => (NOBODY, 0, 0),
+    };
+    Ok(Told {
+        issuer,
+        serial,
+        not_after,
+        what: What::Authority {
+            key: NOBODY,
+            held: Resources::empty(alloc),
+        },
+    })
+}
+
+// The certificate that the bytes are, or that the signed object has.
+fn any_certificate(alloc: Global, bytes: &[u8]) -> Result<Option<ReadCert>, AllocError> {
+    if let Some(found) = certificate_in(alloc, bytes)? {
+        return Ok(Some(found));
+    }
+    match object_in(alloc, bytes) {
+        Some(object) => certificate_in(alloc, object.certificate),
+        None => Ok(None),
     }
 }
 

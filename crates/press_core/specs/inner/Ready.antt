@@ -30,7 +30,7 @@ use Rattle.editions.specs.Clear.{IsClear}
 use Rattle.press_core.specs.PrepareInput.{PrepareInput, started}
 use Rattle.press_core.specs.Next.{NextValue}
 use Rattle.press_core.specs.Staged.{AreStaged, HasStages}
-use Rattle.press_core.specs.Planned.{IsInRange, IsCalled, issue_input_for}
+use Rattle.press_core.specs.Planned.{AreApart, IsInRange, IsCalled, issue_input_for}
 use Rattle.press_core.specs.declared.setup.EditionInput.{EditionInput}
 use Rattle.press_core.specs.declared.fault.PressFault.{PressFault}
 use Rattle.press_core.specs.declared.fault.PressFault.TheVariants.{SignerFault, KeyClash, Memory}
@@ -88,6 +88,7 @@ pub record IsSomehowReady (site : Bases) (at : PublishedStateValue) (ring : List
 pub record IsMadeReady (start : PrepareInput) (setup : EditionInput) (work : Work)
     (ring : List SignerState)
     (made : Made) : Type 0 where
+  pub places : AreApart start (basis_over start.at setup)
   pub able : making.CanMake (issue_input_for start work) start.at.rows (length start.ring)
   pub is_made : IsMade (issue_input_for start work) start.at.rows start.ring ring made
   pub live : AreLive setup.moment made.rows

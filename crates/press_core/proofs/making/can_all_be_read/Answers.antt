@@ -1,7 +1,7 @@
 use Rattle.std.proofs.Common.{◌≡◌, ℕ, ◌+◌, ◌<◌, ◌≤◌, ◌⊎◌, inl, inr, List, length, get_or, sym, subst, arith, rules}
 use Rattle.std.proofs.lemmas.Bool.{cases_lt}
 use Rattle.std.proofs.lemmas.List.{get_or_read}
-use Rattle.std.specs.Prelude.{IsTrue, true, false, All}
+use Rattle.std.specs.Prelude.{IsTrue}
 use Rattle.pub_set.specs.declared.steps.Change.{Change}
 use Rattle.editions.specs.PlannedAndMade.{CanBeRead}
 use Rattle.press_core.proofs.making.can_all_be_read.Goals as goal

@@ -18,11 +18,18 @@ make-requires g c =
       live = c.made_keys_are_live.ensures;
       signers = c.made_keys_have_signers.ensures;
       clear = c.other_uris_are_clear.ensures;
+      apart = c.wanted_objects_are_apart.ensures;
       staged = c.made_keys_are_staged.ensures;
     } in
     let known = called-as laws start c.args.setup c.names_of-names.result.now c.parts-parts.result.now c.as_slice.result.now c.deref.result.now
-    c.names_of-names.ensures.names c.deref.ensures.value c.names_of-names.ensures.plain c.parts-parts.ensures.parts c.as_slice.ensures in
-    call-able start c.args.setup c.args.work.now c.names_of-names.result.now c.parts-parts.result.now c.as_slice.result.now known c.requires.ready
+    c.names_of-names.ensures.names c.deref.ensures.value c.names_of-names.ensures.plain c.parts-parts.ensures.parts c.as_slice.ensures
+    (record { anchor = c.can_be_named.ensures.anchor; certificate = c.can_be_named.ensures.certificate }) in (
+      c.type_bounds.send-S,
+      (
+        c.type_bounds.sync-R,
+        call-able start c.args.setup c.args.work.now c.names_of-names.result.now c.parts-parts.result.now c.as_slice.result.now known c.requires.ready,
+      ),
+    )
 
 pub next_of-requires : goal.next_of-requires
 next_of-requires g c =
@@ -33,10 +40,12 @@ next_of-requires g c =
       live = c.made_keys_are_live.ensures;
       signers = c.made_keys_have_signers.ensures;
       clear = c.other_uris_are_clear.ensures;
+      apart = c.wanted_objects_are_apart.ensures;
       staged = c.made_keys_are_staged.ensures;
     } in
     let known = called-as laws start c.args.setup c.names_of-names.result.now c.parts-parts.result.now c.as_slice.result.now c.deref.result.now
-    c.names_of-names.ensures.names c.deref.ensures.value c.names_of-names.ensures.plain c.parts-parts.ensures.parts c.as_slice.ensures in
+    c.names_of-names.ensures.names c.deref.ensures.value c.names_of-names.ensures.plain c.parts-parts.ensures.parts c.as_slice.ensures
+    (record { anchor = c.can_be_named.ensures.anchor; certificate = c.can_be_named.ensures.certificate }) in
     can-stand start c.args.setup c.args.work.now c.make.new.ring c.in-Ok.made c.requires.ready
     (call-made start c.args.setup c.args.work.now c.names_of-names.result.now c.parts-parts.result.now c.as_slice.result.now c.make.new.ring c.in-Ok.made known c.requires.ready c.in-Ok.ensures.made)
 
@@ -49,10 +58,12 @@ returns-in-Err-clause-refused g c = λ gathered ready.
       live = c.made_keys_are_live.ensures;
       signers = c.made_keys_have_signers.ensures;
       clear = c.other_uris_are_clear.ensures;
+      apart = c.wanted_objects_are_apart.ensures;
       staged = c.made_keys_are_staged.ensures;
     } in
     let known = called-as laws start c.args.setup c.names_of-names.result.now c.parts-parts.result.now c.as_slice.result.now c.deref.result.now
-    c.names_of-names.ensures.names c.deref.ensures.value c.names_of-names.ensures.plain c.parts-parts.ensures.parts c.as_slice.ensures in
+    c.names_of-names.ensures.names c.deref.ensures.value c.names_of-names.ensures.plain c.parts-parts.ensures.parts c.as_slice.ensures
+    (record { anchor = c.can_be_named.ensures.anchor; certificate = c.can_be_named.ensures.certificate }) in
     subst (IsPressFault start c.make.new.ring) (sym c.of.ensures)
     (refused-of start c.args.setup c.args.work.now c.make.new.ring c.in-Err.fault ready
     (call-stopped start c.args.setup c.args.work.now c.names_of-names.result.now c.parts-parts.result.now c.as_slice.result.now c.make.new.ring c.in-Err.fault known ready c.in-Err.ensures.stopped))
@@ -71,10 +82,12 @@ returns-clause-prepared g c = λ gathered ready.
       live = c.made_keys_are_live.ensures;
       signers = c.made_keys_have_signers.ensures;
       clear = c.other_uris_are_clear.ensures;
+      apart = c.wanted_objects_are_apart.ensures;
       staged = c.made_keys_are_staged.ensures;
     } in
     let known = called-as laws start c.args.setup c.names_of-names.result.now c.parts-parts.result.now c.as_slice.result.now c.deref.result.now
-    c.names_of-names.ensures.names c.deref.ensures.value c.names_of-names.ensures.plain c.parts-parts.ensures.parts c.as_slice.ensures in
+    c.names_of-names.ensures.names c.deref.ensures.value c.names_of-names.ensures.plain c.parts-parts.ensures.parts c.as_slice.ensures
+    (record { anchor = c.can_be_named.ensures.anchor; certificate = c.can_be_named.ensures.certificate }) in
     let is = call-made start c.args.setup c.args.work.now c.names_of-names.result.now c.parts-parts.result.now c.as_slice.result.now c.make.new.ring c.in-Ok.made known ready c.in-Ok.ensures.made in
     prepared-of start c.args.setup c.args.work.now c.make.new.ring c.in-Ok.made c.in_ok-next_of.field-0 ready is
     (subst (λ (l : List Change). All CanBeRead l) c.as_slice-2.ensures (c.if-not-can_all_be_read.ensures.0 refl))
@@ -94,10 +107,12 @@ returns-then-not-can_all_be_read-clause-refused g c = λ gathered ready.
       live = c.made_keys_are_live.ensures;
       signers = c.made_keys_have_signers.ensures;
       clear = c.other_uris_are_clear.ensures;
+      apart = c.wanted_objects_are_apart.ensures;
       staged = c.made_keys_are_staged.ensures;
     } in
     let known = called-as laws start c.args.setup c.names_of-names.result.now c.parts-parts.result.now c.as_slice.result.now c.deref.result.now
-    c.names_of-names.ensures.names c.deref.ensures.value c.names_of-names.ensures.plain c.parts-parts.ensures.parts c.as_slice.ensures in
+    c.names_of-names.ensures.names c.deref.ensures.value c.names_of-names.ensures.plain c.parts-parts.ensures.parts c.as_slice.ensures
+    (record { anchor = c.can_be_named.ensures.anchor; certificate = c.can_be_named.ensures.certificate }) in
     short-of start c.args.setup c.args.work.now c.make.new.ring c.in-Ok.made ready
     (call-made start c.args.setup c.args.work.now c.names_of-names.result.now c.parts-parts.result.now c.as_slice.result.now c.make.new.ring c.in-Ok.made known ready c.in-Ok.ensures.made)
 
@@ -117,10 +132,12 @@ returns-in_err-next_of-clause-refused g c =
       live = c.made_keys_are_live.ensures;
       signers = c.made_keys_have_signers.ensures;
       clear = c.other_uris_are_clear.ensures;
+      apart = c.wanted_objects_are_apart.ensures;
       staged = c.made_keys_are_staged.ensures;
     } in
     let known = called-as laws start c.args.setup c.names_of-names.result.now c.parts-parts.result.now c.as_slice.result.now c.deref.result.now
-    c.names_of-names.ensures.names c.deref.ensures.value c.names_of-names.ensures.plain c.parts-parts.ensures.parts c.as_slice.ensures in
+    c.names_of-names.ensures.names c.deref.ensures.value c.names_of-names.ensures.plain c.parts-parts.ensures.parts c.as_slice.ensures
+    (record { anchor = c.can_be_named.ensures.anchor; certificate = c.can_be_named.ensures.certificate }) in
     short-of start c.args.setup c.args.work.now c.make.new.ring c.in-Ok.made ready
     (call-made start c.args.setup c.args.work.now c.names_of-names.result.now c.parts-parts.result.now c.as_slice.result.now c.make.new.ring c.in-Ok.made known ready c.in-Ok.ensures.made))
 

@@ -1,6 +1,6 @@
 use Rattle.std.proofs.Common.{◌≡◌, drop}
 use Rattle.key_roll.specs.declared.rows.KeyRow.{KeyRow}
-use Rattle.rp_rules.specs.Views.{point_value, point_values}
+use Rattle.rp_rules.specs.Views.{point_values}
 use Rattle.press_core.specs.Agreement as agreement
 use Rattle.press_core.proofs.resuming.first_of_rows.Given as goal
 

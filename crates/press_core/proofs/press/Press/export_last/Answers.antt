@@ -1,4 +1,4 @@
-use Rattle.std.proofs.Common.{◌≡◌, ap, ◌∙◌, List, ℕ}
+use Rattle.std.proofs.Common.{ap, ◌∙◌, List, ℕ}
 use Rattle.std.specs.Prelude.{option_map}
 use Rattle.outlet_api.specs.Calls.{Call, after_all}
 use Rattle.press_core.specs.Exports.{puts_all}

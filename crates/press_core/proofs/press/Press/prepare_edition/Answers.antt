@@ -15,6 +15,7 @@ returns-clause-prepared g c =
     let ring = c.prepare_over.new.ring in
     IfOk-weaker c.prepare_over.result (IsPrepared start ring) (IsNextEdition start ring) (λ prepared is. record {
       is_prepared = is;
+      incremental = c.prepared_editions_put_what_is_unfit.ensures start ring prepared is;
       left = c.prepared_editions_leave.ensures start ring prepared is;
       follows = c.prepared_editions_follow.ensures start ring prepared is;
       published = λ premises editions behind. c.prepared_editions_are_published.ensures start ring prepared premises editions is

@@ -9,6 +9,7 @@ use Rattle.press_core.specs.JournalRecords.{IsRecordOf}
 use Rattle.press_core.specs.Stored.{StoredValue}
 use Rattle.press_core.specs.StoredAnswers.{IsPrepareFault}
 use Rattle.press_core.specs.declared.stored_fault.PrepareFault.TheVariants.{Memory}
+use Rattle.press_core.specs.Signers.{HoldKeys}
 use Rattle.press_core.proofs.Entries.{stored_of, none-for, short-behind, can-commit}
 use Rattle.press_core.proofs.stored.StoredPress.prepare.Goals as goal
 
@@ -49,3 +50,15 @@ returns-clause-ready g c =
     (stored_of c.prepare.new.self c.reserve_place.new.self) c.args.now c.args.gathered.items ring
     (record { edition = edition; delta = c.in-Ok.prepared.delta; entry = entry }) c.self.invariant.1 is c.in-Ok.ensures.delta recorded
     c.in_ok-entry.ensures.fits c.prepare.ensures.kept c.reserve_place.ensures.same c.in_ok-reserve_place.ensures.place
+
+pub returns-in_err-entry-clause-keys : goal.returns-in_err-entry-clause-keys
+returns-in_err-entry-clause-keys g c =
+    subst (λ (s : StoredValue _). HoldKeys s.press.ring c.prepare.new.self.ring) c.self.view_is c.prepare.ensures.keys
+
+pub returns-in_err-reserve_place-clause-keys : goal.returns-in_err-reserve_place-clause-keys
+returns-in_err-reserve_place-clause-keys g c =
+    subst (λ (s : StoredValue _). HoldKeys s.press.ring c.prepare.new.self.ring) c.self.view_is c.prepare.ensures.keys
+
+pub returns-clause-keys : goal.returns-clause-keys
+returns-clause-keys g c =
+    subst (λ (s : StoredValue _). HoldKeys s.press.ring c.prepare.new.self.ring) c.self.view_is c.prepare.ensures.keys
