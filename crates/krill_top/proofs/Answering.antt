@@ -91,17 +91,17 @@ module _ {D O : Type 0} (disk_of : DiskGhosts D) (outlet_of : OutletGhosts O) wh
         same_timed : (before after : InstanceState) → after ≡ before → at_clock new.clock after ≡ at_clock old.clock before
         same_timed before after same = λ i. record { state = same i; clock = same_clock i }
 
-    pub fault_text : (fault : CommandFault D) (changed : Bool) → IsFaultText name fault text → changed ≡ is_change (fault_outcome fault)
+    pub fault_text : (fault : CommandFault D) (changed wanting : Bool) → IsFaultText name fault text wanting → changed ≡ is_change (fault_outcome fault)
         → Moves disk_of outlet_of (λ b a. CommandedIn name command (fault_outcome fault) b a) old.instance new.instance
         → MovesTimed disk_of outlet_of (λ b a. IsToldOr (CommandText name command) b text changed a) old new
-    fault_text faults.NoSuchAuthority changed is so moves = told_outcome (fault_outcome {D = D} faults.NoSuchAuthority) changed is so moves
-    fault_text (faults.Shut rose) changed is so moves = told_outcome (fault_outcome {D = D} (faults.Shut rose)) changed is so moves
-    fault_text (faults.JournalFull held needed) changed is so moves = told_outcome (fault_outcome {D = D} (faults.JournalFull held needed)) changed is so moves
-    fault_text (faults.DiskFault rose) changed is so moves = told_outcome (fault_outcome {D = D} (faults.DiskFault rose)) changed is so moves
-    fault_text faults.Memory changed is so moves = told_outcome (fault_outcome {D = D} faults.Memory) changed is so moves
-    fault_text (faults.Verdict refusal) changed is so moves = elim is [
-      | inl told ↦ told_outcome (fault_outcome {D = D} (faults.Verdict refusal)) changed told so moves
-      | inr memory ↦ untold refusal changed memory so moves
+    fault_text faults.NoSuchAuthority changed wanting is so moves = told_outcome (fault_outcome {D = D} faults.NoSuchAuthority) changed is.0 so moves
+    fault_text (faults.Shut rose) changed wanting is so moves = told_outcome (fault_outcome {D = D} (faults.Shut rose)) changed is.0 so moves
+    fault_text (faults.JournalFull held needed) changed wanting is so moves = told_outcome (fault_outcome {D = D} (faults.JournalFull held needed)) changed is.0 so moves
+    fault_text (faults.DiskFault rose) changed wanting is so moves = told_outcome (fault_outcome {D = D} (faults.DiskFault rose)) changed is.0 so moves
+    fault_text faults.Memory changed wanting is so moves = told_outcome (fault_outcome {D = D} faults.Memory) changed is.0 so moves
+    fault_text (faults.Verdict refusal) changed wanting is so moves = elim is [
+      | inl told ↦ told_outcome (fault_outcome {D = D} (faults.Verdict refusal)) changed told.0 so moves
+      | inr memory ↦ untold refusal changed memory.0 so moves
     ]
 
   -- ---- a publication

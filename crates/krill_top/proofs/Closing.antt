@@ -13,7 +13,7 @@ use Rattle.press_core.specs.Exports.{IsCoherent, ShowsEdition}
 use Rattle.outlet_api.specs.declared.outlet.Outlet.{Ghosts as OutletGhosts}
 use Rattle.krill_top.specs.InstanceState.{InstanceState, last_serial, is_exported_at, is_exported, repository_in, IsCoherentIn, ShowsLastIn}
 use Rattle.krill_top.specs.inner.Instances.{InstanceValue, IsInState}
-use Rattle.krill_top.specs.Exports.{Repeats}
+use Rattle.krill_top.specs.Exports.{ExportsAll, Repeats}
 use Rattle.krill_top.specs.Statuses.{run_status, end_fault}
 use Rattle.krill_top.proofs.PressFound.{some_so}
 
@@ -38,13 +38,17 @@ not_well (Spent bytes) export.Memory e = omega (arith, e)
 not_well Memory (export.OutletFault rose) e = omega (arith, e)
 not_well Memory export.Memory e = omega (arith, e)
 
+-- an export that ended well was of the last edition
+pub exported_all : (before after : InstanceState) → ExportsAll before after → is_exported after ≡ true
+exported_all before after all =
+    let serial : last_serial after ≡ last_serial before = ap last_serial all.exports.same in
+    ap (λ (last : LastExport). is_exported_at last (last_serial after))
+    (all.ended ∙ ap Done (sym serial)) ∙ done_exported (last_serial after)
+
 pub well_exported : {O : Type 0} (end : SessionEnd) (closing : Result Bool (ExportFault O))
     (served ended : InstanceState) → Repeats closing served ended
     → run_status (end_fault end closing) ≡ 0 → is_exported ended ≡ true
-well_exported end (Ok true) served ended repeats well =
-    let serial : last_serial ended ≡ last_serial served = ap last_serial repeats.1.exports.same in
-    ap (λ (last : LastExport). is_exported_at last (last_serial ended))
-    (repeats.1.ended ∙ ap Done (sym serial)) ∙ done_exported (last_serial ended)
+well_exported end (Ok true) served ended repeats well = exported_all served ended repeats.1
 well_exported end (Ok false) served ended repeats well = ap is_exported repeats.1 ∙ repeats.0
 well_exported end (Err fault) served ended repeats well = absurd (not_well end fault well)
 

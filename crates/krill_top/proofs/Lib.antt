@@ -22,3 +22,8 @@ pub mod Served
 pub mod StartedInstance
 pub mod PressOpening
 pub mod Removed
+pub mod Naming
+pub mod Granting
+pub mod Holding
+pub mod Workloads
+pub mod WorkedWell

@@ -49,7 +49,7 @@ module _ {D O : Type 0} (disk_of : DiskGhosts D) (outlet_of : OutletGhosts O) wh
   }
 
   -- one call after another
-  pub arrives_then : (P Q R : InstanceState → InstanceState → Type 0) (old mid new : InstanceValue D O) (before : InstanceState) (first : Arrives disk_of outlet_of P old mid before) → Arrives disk_of outlet_of Q mid new first.after
+  unfoldable pub arrives_then : (P Q R : InstanceState → InstanceState → Type 0) (old mid new : InstanceValue D O) (before : InstanceState) (first : Arrives disk_of outlet_of P old mid before) → Arrives disk_of outlet_of Q mid new first.after
       → ((after : InstanceState) → Q first.after after → R before after) → Arrives disk_of outlet_of R old new before
   arrives_then P Q R old mid new before first rest so = record {
     after = rest.after;

@@ -23,7 +23,6 @@ use Rattle.editions.specs.Gathering.{commands_of}
 use Rattle.editions.specs.declared.gathered.Gathered.{Gathered}
 use Rattle.key_ids.specs.Uris.{Bases}
 use Rattle.press_records.specs.Store.{Store}
-use Rattle.gate_journal.specs.Format.{recovered}
 use Rattle.disk_api.specs.Runs.{LeavesOnly}
 use Rattle.press_core.specs.JournalRecords.{AreRecords, store_for}
 use Rattle.press_core.specs.Loading.{LoadedValue, IsLeftAs, IsLoadOf, IsInOrder, IsLoadFault, IsSameStore, IsStoreImage, anchor_of, loaded_store}

@@ -1,6 +1,6 @@
 -- What the instance's calls make of it.
 use Rattle.std.proofs.Common.{◌≡◌, ◌≢◌, ℕ, suc, ◌+◌, ◌≤◌, ◌<◌, List, [], ◌∷◌, ◌++◌, length, get_or, map, refl, sym, ◌∙◌, ap, subst, arith, inl, inr}
-use Rattle.std.specs.Prelude.{◌⊎◌, All, Option, None, Some, IfSome, IsSome, Ok, Err, slice_get}
+use Rattle.std.specs.Prelude.{All, Option, None, Some, IfSome, IsSome, Ok, Err, slice_get}
 use Rattle.std.proofs.lemmas.List.{length-map, length-append}
 use Rattle.disk_api.specs.declared.disk.Disk.{Ghosts as DiskGhosts}
 use Rattle.outlet_api.specs.declared.outlet.Outlet.{Ghosts as OutletGhosts}

@@ -1,6 +1,6 @@
 -- A run over all desks, from what opening found, what the session did, and what closing leaves.
 use Rattle.std.proofs.Common.{◌≡◌, ℕ, zero, suc, ◌+◌, ◌≤◌, List, [], ◌∷◌, map, refl, sym, ◌∙◌, ap, subst, arith}
-use Rattle.std.specs.Prelude.{Bool, Option, None, Some, Result, IfSome, slice_get, ⊤}
+use Rattle.std.specs.Prelude.{Bool, true, Option, None, Some, Result, IfSome, slice_get, ⊤}
 use Rattle.std.specs.Option.{option_map}
 use Rattle.std.proofs.lemmas.Option.{IfSome_then}
 use Rattle.host_calls.specs.Rise.{HasRisen}
@@ -22,23 +22,29 @@ use Rattle.krill_top.specs.declared.ends.Ends.{Ends}
 use Rattle.krill_top.specs.declared.starting.Started.{Started}
 use Rattle.key_ids.specs.Uris.{Bases}
 use Rattle.gate_journal.specs.View.{IsSafe as IsSafeJournal}
-use Rattle.krill_top.specs.InstanceState.{InstanceState, outlet_state}
+use Rattle.krill_top.specs.InstanceState.{InstanceState, at_clock, outlet_state, is_exported}
+use Rattle.krill_top.specs.declared.faults.RunFault.{RunFault}
+use Rattle.krill_top.specs.declared.faults.RunFault.TheVariants as run_faults
 use Rattle.krill_top.specs.inner.Started.{IsStarted, IsStartedIn}
-use Rattle.krill_top.proofs.PressStanding.{press_kept, press_then, grow_then}
+use Rattle.krill_top.proofs.PressStanding.{press_kept}
 use Rattle.krill_top.proofs.PressServed.{RecordsLaw, press_served}
 use Rattle.krill_top.specs.Session.{session_of}
 use Rattle.krill_top.specs.Exports.{Repeats}
 use Rattle.outlet_api.specs.declared.outlet.Outlet.{Ghosts as OutletGhosts}
 use Rattle.outlet_api.specs.declared.exports.ExportFault.{ExportFault}
 use Rattle.krill_top.specs.DesksInStates.{IsIn, InAt, AreIn, all_stored, DeskGoesOn, DeskGoesOnAt, DesksGoOn}
-use Rattle.krill_top.specs.inner.Instances.{InstanceValue, TimedInstance, Moves}
+use Rattle.krill_top.specs.inner.Handlers.{worked}
+use Rattle.krill_top.specs.inner.Instances.{InstanceValue, TimedInstance, IsInState, Arrives, Moves, MovesTimed}
 use Rattle.krill_top.specs.Statuses.{run_status, end_fault}
 use Rattle.krill_top.specs.inner.Opened.{IsOpened, IsClosed, AreOpened, AreClosed}
-use Rattle.krill_top.specs.Sessions.{Served}
-use Rattle.krill_top.specs.Run.{IsNext, IsServed, IsServedAt, AreServed, ServesOne, Tells, TellsOne, streams_of}
+use Rattle.krill_top.specs.Sessions.{Served, Converses}
+use Rattle.krill_top.specs.Telling.{Tells}
+use Rattle.krill_top.specs.Working.{Works, ended_by}
+use Rattle.krill_top.specs.Run.{IsNext, IsServed, IsServedAt, AreServed, Leaves, ServesOne, TellsOne, IsFirstHeld, FindsHeld, WorksOne, streams_of, worked_by}
 use Rattle.krill_top.specs.Summaries.{summary_line}
-use Rattle.krill_top.proofs.Standing.{go_on_same, go_on_then}
-use Rattle.krill_top.proofs.Vouching.{vouch_then}
+use Rattle.krill_top.proofs.Standing.{go_on_same}
+use Rattle.krill_top.proofs.Moving.{arrives_then}
+use Rattle.krill_top.proofs.WorkedWell.{begun_exported, works_exported}
 use Rattle.krill_top.proofs.Exporting.{NewestLaw, exported_shown}
 use Rattle.krill_top.proofs.Closing.{well_exported, started_shown, coherent_begun}
 use Rattle.krill_top.proofs.InTurn.{opened_stood_for, closed_left}
@@ -187,6 +193,48 @@ module _ {D G S K O C : Type 0} (disk_of : DiskGhosts D) (state_of : G → Signe
   abbrev pub timed_by : SessionEnds S K C → InstanceValue D O → TimedInstance D O
   timed_by ends instance = record { instance = instance; clock = clock_of.readings ends.clock }
 
+  -- what closing hands back
+  pub record IsHandedBack (run : RunEnd D G S K O C) (closed : InstanceValue D O) : Type 0 where
+    pub desks : AreClosed disk_of closed.desks run.ends.desks.items
+    pub press : run.ends.press ≡ closed.journal.disk
+    pub safe : IsSafeJournal disk_of closed.journal
+    pub signers : map state_of run.ends.signers.items ≡ closed.press.ring
+    pub outlet : run.ends.outlet ≡ closed.outlet
+
+  -- what a run leaves that began so and went on so
+  pub leaves : NewestLaw → RecordsLaw → (P : InstanceState → InstanceState → Type 0) (site : Bases) (random : List ℕ) (ends : Ends D G O) (run : RunEnd D G S K O C) (started : Started D G O) (closed : InstanceValue D O)
+      (begins : IsStarted disk_of state_of outlet_of site (session_of random) ends started) → (at : IsStartedIn disk_of state_of outlet_of site (session_of random) ends started (opened_seen disk_of ends.desks.items started.instance.desks begins.desks).0)
+      → (done : Arrives disk_of outlet_of P started.instance closed at.begun) → IsHandedBack run closed → (run.status ≡ 0 → is_exported done.after ≡ true)
+      → Leaves disk_of state_of outlet_of random ends at.opened at.begun done.after run
+  unfolding opened_seen
+  leaves law records P site random ends run started closed begins at done is exported =
+      let disks = ends.desks.items in
+      let instance : InstanceValue D O = started.instance in
+      let found = opened_seen disk_of disks instance.desks begins.desks in
+      let begun : InstanceState = at.begun in
+      let ended : InstanceState = done.after in
+      record {
+        disks = subst (λ (b : DeskStates). AreServed disk_of disks run.ends.desks.items b ended.desk_states) (sym at.same)
+            (λ n. served_at disk_of n (slice_get disks n) (slice_get instance.desks n) (slice_get closed.desks n) (slice_get run.ends.desks.items n) (slice_get found.0 n) (slice_get ended.desk_states n)
+            (opened_at disk_of 0 disks instance.desks begins.desks n n (omega arith))
+            (subst (λ (b : DeskStates). DesksGoOn disk_of instance.desks closed.desks b ended.desk_states) at.same done.disks n)
+            (done.stands.desks n) (closed_at disk_of closed.desks run.ends.desks.items is.desks n));
+        press = press_served disk_of outlet_of records (session_of random) ends.press instance.journal.disk run.ends.press closed begun ended at.press done.press done.stands is.safe is.press;
+        same_site = done.same_site;
+        same_session = done.same_session;
+        same_found = done.same_found;
+        grown = done.grown;
+        steps = λ vouched all. (done.stands.stands vouched all).steps;
+        doubt = λ vouched all. IfSome_then ended.in_doubt (done.stands.in_doubt vouched all) (λ edition is. is.1.steps);
+        vouch = done.vouch;
+        signers_ended = is.signers ∙ done.stands.ring;
+        outlet_ended = ap (outlet_state outlet_of) is.outlet ∙ done.stands.outlet;
+        coherent = λ was. done.coherent (at.coherent was);
+        coherent_then = λ some. done.coherent (coherent_begun outlet_of instance at.opened begun at.stands at.opens.just.exported at.opens.exported some);
+        shown = λ so. exported_shown disk_of outlet_of law closed ended done.stands so;
+        well = λ zero. exported_shown disk_of outlet_of law closed ended done.stands (exported zero);
+      }
+
   pub serves : NewestLaw → RecordsLaw → (site : Bases) (random : List ℕ) (ends : Ends D G O) (before after : SessionEnds S K C) (end : SessionEnd) (closing : Result Bool (ExportFault O))
       (run : RunEnd D G S K O C) (started : Started D G O) (served closed : InstanceValue D O)
       → IsStarted disk_of state_of outlet_of site (session_of random) ends started
@@ -194,7 +242,7 @@ module _ {D G S K O C : Type 0} (disk_of : DiskGhosts D) (state_of : G → Signe
       → Moves disk_of outlet_of (Repeats closing) served closed
       → IsRun disk_of state_of outlet_of source_of sink_of before after end closing run closed
       → ServesOne disk_of state_of outlet_of source_of sink_of clock_of site random ends before run
-  unfolding opened_seen
+  unfolding opened_seen arrives_then
   serves law records site random ends before after end closing run started served closed begins session repeats is =
       let disks = ends.desks.items in
       let instance : InstanceValue D O = started.instance in
@@ -203,8 +251,9 @@ module _ {D G S K O C : Type 0} (disk_of : DiskGhosts D) (state_of : G → Signe
       let begun : InstanceState = at.begun in
       let done = session begun at.stands in
       let last = repeats done.after done.stands in
-      let disks_on : DesksGoOn disk_of instance.desks closed.desks begun.desk_states last.after.desk_states =
-      go_on_then disk_of instance.desks served.desks closed.desks begun.desk_states done.after.desk_states last.after.desk_states done.disks last.disks in
+      let Q : InstanceState → InstanceState → Type 0 = Repeats closing in
+      let whole : Arrives disk_of outlet_of (λ b a. Q done.after a) instance closed begun =
+      arrives_then disk_of outlet_of (λ b a. Converses source_of sink_of (streams_of before) (streams_of after) end (at_clock (clock_of.readings before.clock) b) (at_clock (clock_of.readings after.clock) a)) Q (λ b a. Q done.after a) instance served closed begun done last (λ after step. step) in
       record {
         after = after;
         end = end;
@@ -220,31 +269,92 @@ module _ {D G S K O C : Type 0} (disk_of : DiskGhosts D) (state_of : G → Signe
         opens = at.opens;
         session = done.step;
         repeats = last.step;
-        disks = subst (λ (b : DeskStates). AreServed disk_of disks run.ends.desks.items b last.after.desk_states) (sym at.same)
-            (λ n. served_at disk_of n (slice_get disks n) (slice_get instance.desks n) (slice_get closed.desks n) (slice_get run.ends.desks.items n) (slice_get found.0 n) (slice_get last.after.desk_states n)
-            (opened_at disk_of 0 disks instance.desks begins.desks n n (omega arith))
-            (subst (λ (b : DeskStates). DesksGoOn disk_of instance.desks closed.desks b last.after.desk_states) at.same disks_on n)
-            (last.stands.desks n) (closed_at disk_of closed.desks run.ends.desks.items is.desks n));
-        press = press_served disk_of outlet_of records (session_of random) ends.press instance.journal.disk run.ends.press closed begun last.after at.press
-            (press_then disk_of instance.journal.disk served.journal.disk closed.journal.disk begun done.after last.after done.press last.press) last.stands is.safe is.press;
-        same_site = last.same_site ∙ done.same_site;
-        same_session = last.same_session ∙ done.same_session;
-        same_found = last.same_found ∙ done.same_found;
-        grown = grow_then begun done.after last.after done.grown last.grown;
-        steps = λ vouched all. (last.stands.stands vouched all).steps;
-        doubt = λ vouched all. IfSome_then last.after.in_doubt (last.stands.in_doubt vouched all) (λ edition is. is.1.steps);
-        vouch = vouch_then begun done.after last.after done.kept last.kept done.vouch last.vouch;
-        signers_ended = is.signers ∙ last.stands.ring;
-        outlet_ended = ap (outlet_state outlet_of) is.outlet ∙ last.stands.outlet;
-        coherent = λ was. last.coherent (done.coherent (at.coherent was));
-        coherent_then = λ some. last.coherent (done.coherent (coherent_begun outlet_of instance at.opened begun at.stands at.opens.just.exported at.opens.exported some));
-        shown = λ exported. exported_shown disk_of outlet_of law closed last.after last.stands exported;
-        well = λ zero. exported_shown disk_of outlet_of law closed last.after last.stands
-            (well_exported end closing done.after last.after last.step (sym is.status ∙ zero));
+        leaves = leaves law records (λ b a. Q done.after a) site random ends run started closed begins at whole
+            (record { desks = is.desks; press = is.press; safe = is.safe; signers = is.signers; outlet = is.outlet })
+            (λ zero. well_exported end closing done.after last.after last.step (sym is.status ∙ zero));
         source_fault = is.source_fault;
         sink_fault = is.sink_fault;
         source_later = is.source_later;
         sink_later = is.sink_later;
+      }
+
+  -- ---- a workload
+
+  -- what closing leaves of one
+  pub record IsWorked (before after : SessionEnds S K C) (run : RunEnd D G S K O C) (result : Result (Unit {0}) (Option RunFault)) (closed : InstanceValue D O) : Type 0 where
+    pub handed_back : IsHandedBack run closed
+    pub sessions : run.sessions.items ≡ after ∷ []
+    pub status : run.status ≡ run_status (ended_by result)
+    pub fault : run.fault ≡ ended_by result
+    pub source : after.source ≡ before.source
+
+  pub works_one : NewestLaw → RecordsLaw → (authorities : ℕ) (site : Bases) (random : List ℕ) (ends : Ends D G O) (before after : SessionEnds S K C) (result : Result (Unit {0}) (Option RunFault))
+      (run : RunEnd D G S K O C) (started : Started D G O) (closed : InstanceValue D O)
+      → IsStarted disk_of state_of outlet_of site (session_of random) ends started
+      → ((state : InstanceState) → IsInState outlet_of started.instance state → IsFirstHeld state.desk_states None)
+      → MovesTimed disk_of outlet_of (λ b a. Works sink_of authorities result (worked before.sink b) (worked after.sink a)) (timed_by before started.instance) (timed_by after closed)
+      → IsWorked before after run result closed
+      → WorksOne disk_of state_of outlet_of sink_of clock_of authorities site random ends before run
+  unfolding opened_seen
+  works_one law records authorities site random ends before after result run started closed begins none works is =
+      let disks = ends.desks.items in
+      let instance : InstanceValue D O = started.instance in
+      let found = opened_seen disk_of disks instance.desks begins.desks in
+      let at : IsStartedIn disk_of state_of outlet_of site (session_of random) ends started found.0 = begins.each found.0 found.1 in
+      let begun : InstanceState = at.begun in
+      let done = works begun at.stands in
+      record {
+        after = after;
+        opened = at.opened;
+        begun = begun;
+        ended = done.after;
+        summary = started.summary;
+        result = result;
+        empty = none begun at.stands;
+        handed_back = is.sessions;
+        status = is.status;
+        fault = is.fault;
+        same_source = is.source;
+        opens = at.opens;
+        works = done.step;
+        leaves = leaves law records (λ b a. Works sink_of authorities result (worked_by clock_of before b) (worked_by clock_of after a)) site random ends run started closed begins at done is.handed_back
+            (λ zero. works_exported sink_of authorities result (worked_by clock_of before begun) (worked_by clock_of after done.after) (begun_exported O at.opened begun at.opens.exported) done.step (sym is.status ∙ zero));
+      }
+
+  -- what closing leaves of a run that found a desk with commands
+  pub record IsHeld (before : SessionEnds S K C) (run : RunEnd D G S K O C) (desk held : ℕ) (closed : InstanceValue D O) : Type 0 where
+    pub handed_back : IsHandedBack run closed
+    pub sessions : run.sessions.items ≡ before ∷ []
+    pub status : run.status ≡ 3
+    pub fault : run.fault ≡ Some (run_faults.NotEmpty desk held)
+
+  pub finds_held : RecordsLaw → (site : Bases) (random : List ℕ) (ends : Ends D G O) (before : SessionEnds S K C) (desk held : ℕ) (run : RunEnd D G S K O C) (started : Started D G O)
+      → IsStarted disk_of state_of outlet_of site (session_of random) ends started
+      → ((state : InstanceState) → IsInState outlet_of started.instance state → IsFirstHeld state.desk_states (Some (desk, held)))
+      → IsHeld before run desk held started.instance → FindsHeld disk_of state_of outlet_of site random ends before run
+  finds_held records site random ends before desk held run started begins holds is =
+      let disks = ends.desks.items in
+      let instance : InstanceValue D O = started.instance in
+      let found = desks_closed_again disk_of disks instance.desks run.ends.desks.items begins.desks is.handed_back.desks in
+      let at : IsStartedIn disk_of state_of outlet_of site (session_of random) ends started found.0 = begins.each found.0 found.1 in
+      record {
+        opened = at.opened;
+        begun = at.begun;
+        summary = started.summary;
+        desk = desk;
+        held = held;
+        holds = holds at.begun at.stands;
+        untouched = is.sessions;
+        status = is.status;
+        fault = is.fault;
+        opens = at.opens;
+        disks = subst (λ (b : DeskStates). AreServed disk_of disks run.ends.desks.items b b) (sym at.same) found.2;
+        press = press_served disk_of outlet_of records (session_of random) ends.press instance.journal.disk run.ends.press instance at.begun at.begun at.press
+            (press_kept disk_of instance.journal.disk at.begun at.begun refl) at.stands is.handed_back.safe is.handed_back.press;
+        signers_ended = is.handed_back.signers ∙ at.stands.ring;
+        outlet_ended = ap (outlet_state outlet_of) is.handed_back.outlet ∙ at.stands.outlet;
+        coherent = at.coherent;
+        shown = started_shown outlet_of instance at.opened at.begun at.stands at.opens.just.exported at.opens.exported;
       }
 
   -- what closing leaves of a run that told

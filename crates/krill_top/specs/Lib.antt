@@ -14,5 +14,8 @@ pub mod Statuses
 pub mod RunDisks
 pub mod PressDisk
 pub mod Summaries
+pub mod Telling
+pub mod Generated
+pub mod Working
 pub mod Run
 pub mod inner

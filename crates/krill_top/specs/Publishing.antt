@@ -1,5 +1,5 @@
 -- What comes of a publication.
-use Rattle.std.specs.Prelude.{◌≡◌, ◌⊎◌, ◌<◌, ◌+◌, ◌-◌, ◌^◌, min, ℕ, Bool, true, false, List, [], ◌∷◌, ◌++◌, All, length, None, Some, IfSome, IsSome, Result, Ok, Err}
+use Rattle.std.specs.Prelude.{◌≡◌, ◌⊎◌, ◌<◌, ◌+◌, ◌-◌, ◌^◌, min, ℕ, Bool, true, false, List, [], ◌∷◌, ◌++◌, length, None, Some, IfSome, IsSome, Result, Ok, Err}
 use Rattle.entitle.specs.declared.trees.Owed.{Owed}
 use Rattle.entitle.specs.Owed.{AreOwed}
 use Rattle.pub_set.specs.declared.objects.Object.{Object}
@@ -143,10 +143,14 @@ abbrev pub unmade_of : {D : Type 0} → PublishFault D → Unmade
 unmade_of (publish.Unprepared fault) = unprepared_by fault
 unmade_of (publish.Uncommitted fault) = DiskFault
 
--- Whether there was nothing to publish, and whether an edition is in doubt.
+-- Whether there was nothing to publish, whether memory was wanting, and whether an edition is in doubt.
 abbrev pub is_nothing : Unmade → Bool
 is_nothing (ByPress (press_fault.Nothing serial met)) = true
 is_nothing other = false
+
+abbrev pub is_wanting : Unmade → Bool
+is_wanting (ByPress press_fault.Memory) = true
+is_wanting other = false
 
 abbrev pub leaves_doubt : Unmade → Bool
 leaves_doubt DiskFault = true

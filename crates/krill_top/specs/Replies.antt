@@ -3,6 +3,7 @@ use Rattle.std.specs.Prelude.{◌≡◌, ◌⊎◌, ℕ, ◌≤◌, ◌||◌, �
 use Rattle.std.specs.declared.alloc.Global.{Global}
 use Rattle.std.specs.List.{list_all}
 use Rattle.authority_book.specs.declared.commands.Command.{Command}
+use Rattle.authority_book.specs.declared.refusals.Refusal.{Refusal}
 use Rattle.json_api.specs.declared.line.Line.{Line}
 use Rattle.json_api.specs.declared.line.Line.TheVariants as line
 use Rattle.json_api.specs.declared.line.LineFault.{LineFault}
@@ -169,10 +170,17 @@ abbrev pub IsToldOr : (TimedInstanceState → List ℕ → Bool → TimedInstanc
     → TimedInstanceState → List ℕ → Bool → TimedInstanceState → Type 0
 IsToldOr P before text changed after = P before text changed after ⊎ IsTold memory_text before text changed after
 
--- The text that says why a command isn't accepted. There may be no memory for a verdict's.
-abbrev pub IsFaultText : {D : Type 0} → List ℕ → CommandFault D → List ℕ → Type 0
-IsFaultText name (faults.Verdict refusal) text = (text ≡ verdict_spelling refusal) ⊎ (text ≡ memory_text)
-IsFaultText name fault text = text ≡ outcome_text name (fault_outcome fault)
+-- The text of a verdict, or that there was no memory for it, and whether it is that.
+abbrev pub IsVerdictText : Refusal → List ℕ → Bool → Type 0
+IsVerdictText refusal text wanting = ((text ≡ verdict_spelling refusal) × (wanting ≡ false))
+    ⊎ ((text ≡ memory_text) × (wanting ≡ true))
+
+-- The text that says why a command isn't accepted, and whether it says that memory was wanting.
+abbrev pub IsFaultText : {D : Type 0} → List ℕ → CommandFault D → List ℕ → Bool → Type 0
+IsFaultText name (faults.Verdict refusal) text wanting = IsVerdictText refusal text wanting
+IsFaultText name faults.Memory text wanting = (text ≡ memory_text) × (wanting ≡ true)
+IsFaultText name fault text wanting =
+    (text ≡ outcome_text name (fault_outcome fault)) × (wanting ≡ false)
 
 -- The text of a read that found memory.
 abbrev pub IsTextIn : {E : Type 0} → Result (Vec ℕ Global) E → List ℕ → Type 0

@@ -23,7 +23,7 @@ use Rattle.krill_top.specs.declared.faults.RunFault.TheVariants as faults
 use Rattle.krill_top.specs.declared.ends.Ends.{Ends}
 use Rattle.krill_top.specs.declared.summary.Summary.{Summary}
 use Rattle.krill_top.specs.declared.words.Doing.{Doing}
-use Rattle.krill_top.specs.declared.words.Doing.TheVariants.{Run, Audit}
+use Rattle.krill_top.specs.declared.words.Doing.TheVariants.{Run, Audit, Workload}
 use Rattle.krill_top.specs.Words.{AskedValue, asked_of, bases_of}
 use Rattle.key_ids.specs.Base.{IsBase, rsync_scheme, https_scheme}
 use Rattle.key_ids.specs.declared.site.SiteFault.TheVariants as site
@@ -31,7 +31,6 @@ use Rattle.std.specs.declared.alloc.Global.{Global}
 use Rattle.krill_top.specs.Summaries.{summary_line, summary_of, no_edition}
 use Rattle.krill_top.specs.PressDisk.{Given, IsPressServed, AreAsked, IsNotLoaded, IsStopped}
 use Rattle.key_ids.specs.Uris.{Bases}
-use Rattle.std.specs.Io.KnownBytes.{Appends}
 use Rattle.signer_ring.specs.Ring.{AllTell, Vouched as VouchedBy}
 use Rattle.entitle.specs.Owed.{AreOwed}
 use Rattle.rp_rules.specs.Certificates.{WalkContext}
@@ -44,7 +43,7 @@ use Rattle.press_core.specs.Agreement.{owed_yield, AreSameOrigins, first_mismatc
 use Rattle.press_core.specs.Loading.{anchor_of}
 use Rattle.krill_top.specs.declared.serving.SessionEnds.{SessionEnds}
 use Rattle.krill_top.specs.declared.running.RunEnd.{RunEnd}
-use Rattle.krill_top.specs.DeskStates.{DeskStates, DeskState, most_desks, names_in}
+use Rattle.krill_top.specs.DeskStates.{DeskStates, DeskState, most_desks, names_in, commands_at}
 use Rattle.krill_top.specs.InstanceState.{InstanceState, OutletState, at_clock, outlet_state, lists_of, premises_of, IsJustOpened}
 use Rattle.krill_top.specs.InstanceState.{is_exported, AreVouchedIn, VouchForCalls, IsCoherentIn, ShowsLastIn}
 use Rattle.krill_top.specs.Exports.{Repeats}
@@ -53,6 +52,8 @@ use Rattle.outlet_api.specs.declared.outlet.Outlet.{Ghosts as OutletGhosts}
 use Rattle.outlet_api.specs.declared.exports.ExportFault.{ExportFault}
 use Rattle.krill_top.specs.DesksInStates.{all_stored, RoseWithin}
 use Rattle.krill_top.specs.Sessions.{Streams, Converses}
+use Rattle.krill_top.specs.Telling.{Tells}
+use Rattle.krill_top.specs.Working.{Worked, Works, ended_by}
 use Rattle.krill_top.specs.RunDisks.{RecoveredTo, IsSafe, IsOpeningRefused}
 use Rattle.krill_top.specs.Statuses.{fault_status, run_status, end_fault, opening_fault}
 
@@ -269,33 +270,18 @@ pub record Opens {D G O : Type 0} (disk_of : DiskGhosts D) (state_of : G → Sig
 abbrev pub streams_of : {S K C : Type 0} → SessionEnds S K C → Streams S K
 streams_of ends = record { source = ends.source; sink = ends.sink }
 
--- A run that opened all, served its session over it, exported the last edition again where it wasn't
--- exported, and hands all back. Each desk's disk holds the commands that it held and the accepted ones of
--- its authority, and the press's the editions that it held and those that were published of the commands.
--- Each of these follows those before it where the signatures that were made for them are vouched and
--- those that were found are steps; and where all signers tell what they vouch for, the signatures are among
--- that. The session's clock was read for its publications alone. A fault of the source or the sink comes
--- only where it failed in this run.
-pub record ServesOne {D G S K O C : Type 0} (disk_of : DiskGhosts D) (state_of : G → SignerState)
-    (outlet_of : OutletGhosts O) (source_of : SourceGhosts S) (sink_of : SinkGhosts K)
-    (clock_of : ClockGhosts C) (site : Bases) (random : List ℕ) (ends : Ends D G O)
-    (before : SessionEnds S K C) (run : RunEnd D G S K O C) : Type 0 where
-  pub after : SessionEnds S K C
-  pub end : SessionEnd
-  pub closing : Result Bool (ExportFault O)
-  pub opened : InstanceState
-  pub begun : InstanceState
-  pub served : InstanceState
-  pub ended : InstanceState
-  pub summary : Summary
-  pub handed_back : run.sessions.items ≡ after ∷ []
-  pub status : run.status ≡ run_status (end_fault end closing)
-  pub fault : run.fault ≡ end_fault end closing
-  pub opens : Opens disk_of state_of outlet_of site ends opened begun summary
-  pub session : Converses source_of sink_of (streams_of before) (streams_of after) end
-      (at_clock (clock_of.readings before.clock) begun)
-      (at_clock (clock_of.readings after.clock) served)
-  pub repeats : Repeats closing served ended
+abbrev pub worked_by : {S K C : Type 0} → ClockGhosts C → SessionEnds S K C → InstanceState → Worked K
+worked_by clock_of ends state =
+    record { sink = ends.sink; timed = at_clock (clock_of.readings ends.clock) state }
+
+-- What a run leaves that opened all. Each desk's disk holds the commands that it held and the accepted
+-- ones of its authority, and the press's the editions that it held and those that were published of the
+-- commands. Each of these follows those before it where the signatures that were made for them are
+-- vouched and those that were found are steps; and where all signers tell what they vouch for, the
+-- signatures are among that.
+pub record Leaves {D G S K O C : Type 0} (disk_of : DiskGhosts D) (state_of : G → SignerState)
+    (outlet_of : OutletGhosts O) (random : List ℕ) (ends : Ends D G O)
+    (opened begun ended : InstanceState) (run : RunEnd D G S K O C) : Type 0 where
   pub disks : AreServed disk_of ends.desks.items run.ends.desks.items begun.desk_states ended.desk_states
   pub press : IsPressServed disk_of (session_of random) ends.press run.ends.press begun ended
   pub same_site : ended.site ≡ begun.site
@@ -318,20 +304,37 @@ pub record ServesOne {D G S K O C : Type 0} (disk_of : DiskGhosts D) (state_of :
   pub shown : is_exported ended ≡ true → (ended.editions ≡ []) ⊎ ShowsLastIn ended
   -- as it is where the run ended well
   pub well : run.status ≡ 0 → (ended.editions ≡ []) ⊎ ShowsLastIn ended
+
+-- A run that opened all, served its session over it, exported the last edition again where it wasn't
+-- exported, and hands all back. The session's clock was read for its publications alone. A fault of the
+-- source or the sink comes only where it failed in this run.
+pub record ServesOne {D G S K O C : Type 0} (disk_of : DiskGhosts D) (state_of : G → SignerState)
+    (outlet_of : OutletGhosts O) (source_of : SourceGhosts S) (sink_of : SinkGhosts K)
+    (clock_of : ClockGhosts C) (site : Bases) (random : List ℕ) (ends : Ends D G O)
+    (before : SessionEnds S K C) (run : RunEnd D G S K O C) : Type 0 where
+  pub after : SessionEnds S K C
+  pub end : SessionEnd
+  pub closing : Result Bool (ExportFault O)
+  pub opened : InstanceState
+  pub begun : InstanceState
+  pub served : InstanceState
+  pub ended : InstanceState
+  pub summary : Summary
+  pub handed_back : run.sessions.items ≡ after ∷ []
+  pub status : run.status ≡ run_status (end_fault end closing)
+  pub fault : run.fault ≡ end_fault end closing
+  pub opens : Opens disk_of state_of outlet_of site ends opened begun summary
+  pub session : Converses source_of sink_of (streams_of before) (streams_of after) end
+      (at_clock (clock_of.readings before.clock) begun)
+      (at_clock (clock_of.readings after.clock) served)
+  pub repeats : Repeats closing served ended
+  pub leaves : Leaves disk_of state_of outlet_of random ends opened begun ended run
   pub source_fault : end ≡ SourceFault → HasRisen (source_of.fault_count before.source) (source_of.fault_count after.source)
   pub sink_fault : end ≡ SinkFault → HasRisen (sink_of.fault_count before.sink) (sink_of.fault_count after.sink)
   pub source_later : source_of.fault_count before.source ≤ source_of.fault_count after.source
   pub sink_later : sink_of.fault_count before.sink ≤ sink_of.fault_count after.sink
 
 -- ---- a run that tells
-
--- The sink took the line, or a beginning of it where it failed or memory was wanting.
-abbrev pub Tells : {K : Type 0} → SinkGhosts K → List ℕ → Option RunFault → K → K → Type 0
-Tells sink_of line None old new = Appends (sink_of.taken old) (sink_of.taken new) line
-Tells sink_of line (Some fault) old new = (written cut_off : List ℕ)
-    × (line ≡ written ++ cut_off) × Appends (sink_of.taken old) (sink_of.taken new) written
-    × ((fault ≡ faults.Memory)
-    ⊎ ((fault ≡ faults.Device) × HasRisen (sink_of.fault_count old) (sink_of.fault_count new)))
 
 -- A run that opened all, gave the sink one line on the last edition, and hands all back. No source and
 -- no clock was read.
@@ -355,6 +358,67 @@ pub record TellsOne {D G S K O C : Type 0} (disk_of : DiskGhosts D) (state_of : 
   pub coherent : IsCoherentIn opened → IsCoherentIn begun
   pub shown : (begun.editions ≡ []) ⊎ ShowsLastIn begun
 
+-- ---- a run of a workload
+
+-- No desk holds a command; or that one is the first that does, and holds so many.
+abbrev pub IsFirstHeld : DeskStates → Option (ℕ × ℕ) → Type 0
+IsFirstHeld desk_states None = (desk : ℕ) → commands_at desk_states desk ≡ []
+IsFirstHeld desk_states (Some found) = (found.1 ≢ 0)
+    × (length (commands_at desk_states found.0) ≡ found.1)
+    × ((before : ℕ) → before < found.0 → commands_at desk_states before ≡ [])
+
+-- A run that opened all and found that a desk holds a command: no source or clock was read, no sink was
+-- given anything, and all is as it was found.
+pub record FindsHeld {D G S K O C : Type 0} (disk_of : DiskGhosts D) (state_of : G → SignerState)
+    (outlet_of : OutletGhosts O) (site : Bases) (random : List ℕ) (ends : Ends D G O)
+    (before : SessionEnds S K C) (run : RunEnd D G S K O C) : Type 0 where
+  pub opened : InstanceState
+  pub begun : InstanceState
+  pub summary : Summary
+  pub desk : ℕ
+  pub held : ℕ
+  pub holds : IsFirstHeld begun.desk_states (Some (desk, held))
+  pub untouched : run.sessions.items ≡ before ∷ []
+  pub status : run.status ≡ 3
+  pub fault : run.fault ≡ Some (faults.NotEmpty desk held)
+  pub opens : Opens disk_of state_of outlet_of site ends opened begun summary
+  pub disks : AreServed disk_of ends.desks.items run.ends.desks.items begun.desk_states begun.desk_states
+  pub press : IsPressServed disk_of (session_of random) ends.press run.ends.press begun begun
+  pub signers_ended : map state_of run.ends.signers.items ≡ begun.signers
+  pub outlet_ended : outlet_state outlet_of run.ends.outlet ≡ begun.outlet
+  pub coherent : IsCoherentIn opened → IsCoherentIn begun
+  pub shown : (begun.editions ≡ []) ⊎ ShowsLastIn begun
+
+-- A run that opened all, found that no desk holds a command, gave the generated commands, published
+-- these and told of that, up to the first of these steps that was refused or failed, and hands all back. No
+-- source was read.
+pub record WorksOne {D G S K O C : Type 0} (disk_of : DiskGhosts D) (state_of : G → SignerState)
+    (outlet_of : OutletGhosts O) (sink_of : SinkGhosts K) (clock_of : ClockGhosts C)
+    (authorities : ℕ) (site : Bases) (random : List ℕ) (ends : Ends D G O)
+    (before : SessionEnds S K C) (run : RunEnd D G S K O C) : Type 0 where
+  pub after : SessionEnds S K C
+  pub opened : InstanceState
+  pub begun : InstanceState
+  pub ended : InstanceState
+  pub summary : Summary
+  pub result : Result (Unit {0}) (Option RunFault)
+  pub empty : IsFirstHeld begun.desk_states None
+  pub handed_back : run.sessions.items ≡ after ∷ []
+  pub status : run.status ≡ run_status (ended_by result)
+  pub fault : run.fault ≡ ended_by result
+  pub same_source : after.source ≡ before.source
+  pub opens : Opens disk_of state_of outlet_of site ends opened begun summary
+  pub works : Works sink_of authorities result
+      (worked_by clock_of before begun) (worked_by clock_of after ended)
+  pub leaves : Leaves disk_of state_of outlet_of random ends opened begun ended run
+
+abbrev pub DoesWork : {D G S K O C : Type 0} → DiskGhosts D → (G → SignerState)
+    → OutletGhosts O → SinkGhosts K → ClockGhosts C → ℕ → Bases → List ℕ → Ends D G O
+    → SessionEnds S K C → RunEnd D G S K O C → Type 0
+DoesWork disk_of state_of outlet_of sink_of clock_of authorities site random ends before run =
+    FindsHeld disk_of state_of outlet_of site random ends before run
+    ⊎ WorksOne disk_of state_of outlet_of sink_of clock_of authorities site random ends before run
+
 -- What is done where the words ask for it.
 abbrev pub Does : {D G S K O C : Type 0} → DiskGhosts D → (G → SignerState) → OutletGhosts O
     → SourceGhosts S → SinkGhosts K → ClockGhosts C → Doing → Bases → List ℕ → Ends D G O
@@ -363,6 +427,9 @@ Does disk_of state_of outlet_of source_of sink_of clock_of Run site random ends 
     ServesOne disk_of state_of outlet_of source_of sink_of clock_of site random ends before run
 Does disk_of state_of outlet_of source_of sink_of clock_of Audit site random ends before run =
     TellsOne disk_of state_of outlet_of sink_of site random ends before run
+Does disk_of state_of outlet_of source_of sink_of clock_of (Workload authorities) site random ends
+    before run =
+    DoesWork disk_of state_of outlet_of sink_of clock_of authorities site random ends before run
 
 -- A run by these words: what is wrong in number, or it was refused at opening, or did what they ask for.
 abbrev pub RunsBy : {D G S K O C : Type 0} → DiskGhosts D → (G → SignerState) → OutletGhosts O

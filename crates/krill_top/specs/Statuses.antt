@@ -1,5 +1,5 @@
 -- How a run ends: its status, and the line that says why.
-use Rattle.std.specs.Prelude.{ℕ, List, ◌++◌, Option, None, Some, Result, Ok, Err, codes, decimal, string_bytes}
+use Rattle.std.specs.Prelude.{ℕ, Bool, true, false, List, ◌++◌, Option, None, Some, Result, Ok, Err, codes, decimal, string_bytes}
 use Rattle.outlet_api.specs.declared.exports.ExportFault.{ExportFault}
 use Rattle.outlet_api.specs.declared.exports.ExportFault.TheVariants as export
 use Rattle.hex.specs.Hex.{encode_lower}
@@ -14,12 +14,17 @@ use Rattle.krill_top.specs.declared.faults.OpenFault.{OpenFault}
 use Rattle.krill_top.specs.declared.faults.OpenFault.TheVariants as opening
 use Rattle.krill_top.specs.declared.faults.RunFault.{RunFault}
 use Rattle.krill_top.specs.declared.faults.RunFault.TheVariants as faults
+use Rattle.outlet_api.specs.declared.outlet.OutletStop.{OutletStop}
+use Rattle.outlet_api.specs.declared.outlet.OutletStop.TheVariants as export_stop
+use Rattle.krill_top.specs.Publishing.{Outcome as Publication, is_wanting}
+use Rattle.krill_top.specs.Publishing.Outcome.{Published, Unexported, Repeated, Refused}
 
 -- The status of a run that ended by this fault.
 abbrev pub fault_status : RunFault → ℕ
 fault_status faults.Words = 2
 fault_status (faults.Base fault) = 2
 fault_status (faults.Refused fault) = 3
+fault_status (faults.NotEmpty desk held) = 3
 fault_status faults.Device = 4
 fault_status (faults.Spent bytes) = 5
 fault_status faults.Memory = 6
@@ -52,6 +57,23 @@ graver session (Some fault) = Some fault
 -- Why a run ended whose session ended so, and then the export of the last edition.
 abbrev pub end_fault : {T O : Type 0} → SessionEnd → Result T (ExportFault O) → Option RunFault
 end_fault session closing = graver (fault_of session) (export_fault closing)
+
+-- What is wrong where memory was wanting, and where an edition isn't exported.
+abbrev pub wanting_fault : Bool → Option RunFault
+wanting_fault true = Some faults.Memory
+wanting_fault false = None
+
+abbrev pub outlet_fault : OutletStop → RunFault
+outlet_fault export_stop.Fault = faults.Device
+outlet_fault export_stop.Memory = faults.Memory
+
+-- What is wrong where a workload's publication isn't made and exported. Any other refusal is a reply
+-- alone.
+abbrev pub unpublished_fault : Publication → Option RunFault
+unpublished_fault (Unexported serial stopped) = Some (outlet_fault stopped)
+unpublished_fault (Refused serial unmade) = wanting_fault (is_wanting unmade)
+unpublished_fault (Published published) = None
+unpublished_fault (Repeated unmade) = None
 
 -- Why a line wasn't given whole.
 abbrev pub stop_fault : SinkStop → RunFault
@@ -108,12 +130,14 @@ opening_spelling opening.OutletFault = codes "OutletFault"
 opening_spelling opening.Memory = codes "Memory"
 
 abbrev pub usage : List ℕ
-usage = codes "usage: krillc run|audit [--rsync URI] [--rrdp URI]"
+usage = codes "usage: krillc run|audit|workload --number N [--rsync URI] [--rrdp URI]"
 
 abbrev pub fault_spelling : RunFault → List ℕ
 fault_spelling faults.Words = usage
 fault_spelling (faults.Base fault) = usage
 fault_spelling (faults.Refused fault) = codes "opening refused: " ++ opening_spelling fault
+fault_spelling (faults.NotEmpty desk held) =
+    named (codes "opening refused: NotEmpty desk ") desk ++ named (codes " held ") held
 fault_spelling faults.Device = codes "device failed"
 fault_spelling (faults.Spent bytes) = codes "budget spent"
 fault_spelling faults.Memory = codes "out of memory"

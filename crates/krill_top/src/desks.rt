@@ -154,6 +154,20 @@ impl<D: Disk> Desks<D> {
         self.desks[desk].len()
     }
 
+    /// The first desk that holds a command, if one does, and how many it holds.
+    pub fn first_held(&self) -> Option<(u32, u64)>
+        ensures { (desk_states : DeskStates) → AreIn self.now desk_states → run.IsFirstHeld desk_states result }
+    {
+        let _ = &self.desks; // so that their number is known
+        for desk in 0..DESKS {
+            let held = self.held(desk);
+            if held != 0 {
+                return Some((desk as u32, held));
+            }
+        }
+        None
+    }
+
     /// The first so many commands of the desk of that number.
     pub fn first(&self, alloc: Global, desk: usize, count: u64) -> Result<Gathered, AllocError>
         requires desk { desk < most_desks }

@@ -87,6 +87,8 @@ pub enum RunFault {
     Base { fault: SiteFault },
     /// Opening was refused for another cause than a device or memory.
     Refused { fault: OpenFault },
+    /// A workload was asked for, and the desk of that number, the first such one, holds so many commands.
+    NotEmpty { desk: u32, held: u64 },
     /// A device failed at opening, or a source or a sink, or the last edition couldn't be exported.
     Device,
     /// A session took so many bytes, as many as it may.
@@ -102,7 +104,7 @@ impl RunFault {
     {
         match self {
             RunFault::Words | RunFault::Base { .. } => 2,
-            RunFault::Refused { .. } => 3,
+            RunFault::Refused { .. } | RunFault::NotEmpty { .. } => 3,
             RunFault::Device => 4,
             RunFault::Spent { .. } => 5,
             RunFault::Memory => 6,
@@ -110,7 +112,7 @@ impl RunFault {
     }
 }
 
-const USAGE: &str = "usage: krillc run|audit [--rsync URI] [--rrdp URI]";
+const USAGE: &str = "usage: krillc run|audit|workload --number N [--rsync URI] [--rrdp URI]";
 
 /// The line that tells the user of the fault, without the program's name and the line feed.
 pub fn fault_text(alloc: Global, fault: &RunFault) -> Result<String, AllocError>
@@ -119,6 +121,9 @@ pub fn fault_text(alloc: Global, fault: &RunFault) -> Result<String, AllocError>
     match fault {
         RunFault::Words | RunFault::Base { .. } => String::from_str(alloc, USAGE),
         RunFault::Refused { fault } => refusal_text(alloc, fault),
+        RunFault::NotEmpty { desk, held } => {
+            format!(in alloc; "opening refused: NotEmpty desk {desk} held {held}")
+        }
         RunFault::Device => String::from_str(alloc, "device failed"),
         RunFault::Spent { .. } => String::from_str(alloc, "budget spent"),
         RunFault::Memory => String::from_str(alloc, "out of memory"),

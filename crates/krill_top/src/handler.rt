@@ -7,17 +7,21 @@ ghost use Rattle.json_api.specs.Refused.{verdict_spelling, fault_spelling, refus
 ghost use Rattle.krill_top.specs.Replies as spec;
 ghost use Rattle.krill_top.specs.Exports.{stop_of};
 ghost use Rattle.krill_top.specs.Publishing.{outcome_of, unmade_of, unprepared_by};
-ghost use Rattle.krill_top.specs.Replies.{is_blank_byte, IsBlank, memory_text, bad_line_text, published_in_reply, publish_text, unexported_as, serial_text, IsTold, CommandText, PublishText, SaidText, IsToldOr, IsFaultText, IsTextIn};
-ghost use Rattle.krill_top.specs.inner.Instances.{MovesTimed, MayText};
+ghost use Rattle.krill_top.specs.Replies.{is_blank_byte, IsBlank, memory_text, bad_line_text, published_in_reply, publish_text, unexported_as, serial_text, IsTold, CommandText, PublishText, SaidText, IsToldOr, IsVerdictText, IsFaultText, IsTextIn};
+ghost use Rattle.krill_top.specs.Statuses.{wanting_fault, outlet_fault};
+ghost use Rattle.krill_top.specs.Working.{Gives, PublishesOrNot, IsPublishedOrTold};
+ghost use Rattle.krill_top.specs.inner.Instances.{MovesTimed, MayText, MayReply};
 ghost use Rattle.krill_top.specs.inner.Handlers.{timed};
 
 use crate::command_fault::CommandFault;
+use crate::faults::RunFault;
 use crate::instance::Instance;
 use crate::press_opening::PRESS_DEVICE;
 use crate::publication::Publication;
 use crate::publish_fault::PublishFault;
 use authority_book::{Command, Refusal};
 use disk_api::Disk;
+use editions::PublishedNumbers;
 use json_api::{
     Line, LineFault, LineReader, PublishedReply, Refused, accepted_into, fault_into,
     published_into, refused_into, serial_into, verdict_into,
@@ -28,6 +32,7 @@ use outlet_api::{ExportFault, Outlet};
 use press_core::PrepareFault;
 use signer_api::Signer;
 use std::alloc::{AllocError, Global};
+use std::thread::Threads;
 
 /// Room for an accepted command's reply, or one that needs no memory, and its line feed.
 const REPLY_ROOM: usize = 256;
@@ -88,19 +93,42 @@ impl<D: Disk, G: Signer, O: Outlet, C: Clock> Handler<D, G, O, C> {
         }
     }
 
-    // Publishes at the clock's next reading, and says whether that changed the editions or their export. The
-    // room for the reply is taken before that.
-    fn answer_publish(&mut self, alloc: Global, out: &mut Vec<u8>) -> Result<bool, AllocError>
-        ensures ok { IfOk result (λ changed. (text : List ℕ) × (out.new.items ≡ out.old.items ++ text ++ 10 ∷ [])
-            × MovesTimed D.Disk O.Outlet (λ b a. PublishText b text changed a) (timed C.Clock self.old) (timed C.Clock self.new)) }
-        ensures err { OnErr result ((self.new ≡ self.old) × (out.new.items ≡ out.old.items)) }
+    /// Gives a command, as the session's lines do, and appends a reply where it isn't accepted. That is a
+    /// fault where memory is wanting.
+    pub(crate) fn give(
+        &mut self,
+        alloc: Global,
+        name: &Name,
+        command: Command,
+        out: &mut Vec<u8>,
+    ) -> Result<(), Option<RunFault>>
+        requires { out.old.items ≡ [] }
+        ensures gives { MovesTimed D.Disk O.Outlet (λ b a. Gives name.now command out.new.items result b a) (timed C.Clock self.old) (timed C.Clock self.new) }
+        ensures empty { OnOk result (out.new.items ≡ []) }
     {
-        out.reserve(REPLY_ROOM)?;
-        let now = self.clock.now();
-        let publication = self.instance.publish(alloc, now);
-        let changed = publication.has_changed();
-        append_publication(out, publication);
-        Ok(changed)
+        match out.reserve(REPLY_ROOM) {
+            Ok(()) => self.give_in_room(alloc, name, command, out),
+            Err(_) => Err(Some(RunFault::Memory)),
+        }
+    }
+
+    // Does so in the room for a reply that is there.
+    fn give_in_room(
+        &mut self,
+        alloc: Global,
+        name: &Name,
+        command: Command,
+        out: &mut Vec<u8>,
+    ) -> Result<(), Option<RunFault>>
+        requires empty { out.old.items ≡ [] }
+        requires room { vec_len out.old + REPLY_ROOM ≤ vec_capacity out.old }
+        ensures gives { MovesTimed D.Disk O.Outlet (λ b a. Gives name.now command out.new.items result b a) (timed C.Clock self.old) (timed C.Clock self.new) }
+        ensures empty { OnOk result (out.new.items ≡ []) }
+    {
+        match self.instance.command(alloc, name, command) {
+            Ok(_) => Ok(()),
+            Err(fault) => Err(wanting_fault(append_fault(alloc, name, fault, out))),
+        }
     }
 
     // Answers with the serial of the last edition.
@@ -113,10 +141,65 @@ impl<D: Disk, G: Signer, O: Outlet, C: Clock> Handler<D, G, O, C> {
         append_serial(out, self.instance.serial());
         Ok(false)
     }
+}
+
+impl<D: Disk, G: Signer + Send, O: Outlet, C: Clock> Handler<D, G, O, C> {
+    /// Publishes at the clock's next reading, as the session's lines do, and appends a reply where what was
+    /// accepted isn't published and exported. That is a fault where memory is wanting, or the outlet failed.
+    pub(crate) fn publish<R: Threads + Sync>(
+        &mut self,
+        rt: &R,
+        alloc: Global,
+        out: &mut Vec<u8>,
+    ) -> Result<PublishedNumbers, Option<RunFault>>
+        requires { out.old.items ≡ [] }
+        ensures { MovesTimed D.Disk O.Outlet (λ b a. PublishesOrNot out.new.items result b a) (timed C.Clock self.old) (timed C.Clock self.new) }
+    {
+        match out.reserve(REPLY_ROOM) {
+            Ok(()) => self.publish_in_room(rt, alloc, out),
+            Err(_) => Err(Some(RunFault::Memory)),
+        }
+    }
+
+    // Does so in the room for a reply that is there.
+    fn publish_in_room<R: Threads + Sync>(
+        &mut self,
+        rt: &R,
+        alloc: Global,
+        out: &mut Vec<u8>,
+    ) -> Result<PublishedNumbers, Option<RunFault>>
+        requires empty { out.old.items ≡ [] }
+        requires room { vec_len out.old + REPLY_ROOM ≤ vec_capacity out.old }
+        ensures { MovesTimed D.Disk O.Outlet (λ b a. PublishesOrNot out.new.items result b a) (timed C.Clock self.old) (timed C.Clock self.new) }
+    {
+        let now = self.clock.now();
+        published_or_told(self.instance.publish(rt, alloc, now), out)
+    }
+
+    // Publishes at the clock's next reading, and says whether that changed the editions or their export. The
+    // room for the reply is taken before that.
+    fn answer_publish<R: Threads + Sync>(
+        &mut self,
+        rt: &R,
+        alloc: Global,
+        out: &mut Vec<u8>,
+    ) -> Result<bool, AllocError>
+        ensures ok { IfOk result (λ changed. (text : List ℕ) × (out.new.items ≡ out.old.items ++ text ++ 10 ∷ [])
+            × MovesTimed D.Disk O.Outlet (λ b a. PublishText b text changed a) (timed C.Clock self.old) (timed C.Clock self.new)) }
+        ensures err { OnErr result ((self.new ≡ self.old) × (out.new.items ≡ out.old.items)) }
+    {
+        out.reserve(REPLY_ROOM)?;
+        let now = self.clock.now();
+        let publication = self.instance.publish(rt, alloc, now);
+        let changed = publication.has_changed();
+        append_publication(out, publication);
+        Ok(changed)
+    }
 
     // Answers what a line says, and says whether that changed anything.
-    fn answer_said(
+    fn answer_said<R: Threads + Sync>(
         &mut self,
+        rt: &R,
         alloc: Global,
         said: Line,
         out: &mut Vec<u8>,
@@ -127,7 +210,7 @@ impl<D: Disk, G: Signer, O: Outlet, C: Clock> Handler<D, G, O, C> {
     {
         match said {
             Line::Command { name, command } => self.answer_command(alloc, &name, command, out),
-            Line::Publish => self.answer_publish(alloc, out),
+            Line::Publish => self.answer_publish(rt, alloc, out),
             Line::Serial => self.answer_serial(out),
             Line::List => append_told(out, self.instance.list(alloc)),
             Line::Show { name } => append_told(out, self.instance.show(alloc, &name)),
@@ -137,8 +220,9 @@ impl<D: Disk, G: Signer, O: Outlet, C: Clock> Handler<D, G, O, C> {
     }
 
     // Answers a line that isn't blank, and says whether that changed anything.
-    fn answer_text(
+    fn answer_text<R: Threads + Sync>(
         &mut self,
+        rt: &R,
         alloc: Global,
         line: &[u8],
         out: &mut Vec<u8>,
@@ -148,13 +232,33 @@ impl<D: Disk, G: Signer, O: Outlet, C: Clock> Handler<D, G, O, C> {
         ensures err { OnErr result ((self.new ≡ self.old) × (out.new.items ≡ out.old.items)) }
     {
         match self.reader.read(alloc, line) {
-            Ok(said) => self.answer_said(alloc, said, out),
+            Ok(said) => self.answer_said(rt, alloc, said, out),
             Err(fault) => {
                 out.reserve(REPLY_ROOM)?;
                 append_line_fault(alloc, &fault, out);
                 Ok(false)
             }
         }
+    }
+
+    /// Answers a line at the end of `out`, and says whether that changed anything. An `Err` changes nothing. A
+    /// publication starts threads by that handle.
+    pub fn answer<R: Threads + Sync>(
+        &mut self,
+        rt: &R,
+        alloc: Global,
+        line: &[u8],
+        out: &mut Vec<u8>,
+    ) -> Result<bool, AllocError>
+        ensures ok { IfOk result (λ changed. (reply : List ℕ)
+            × MayReply D.Disk O.Outlet (timed C.Clock self.old) line.now reply changed (timed C.Clock self.new)
+            × (out.new.items ≡ out.old.items ++ reply)) }
+        ensures err { OnErr result ((self.new ≡ self.old) × (out.new.items ≡ out.old.items)) }
+    {
+        if is_blank(line) {
+            return Ok(false);
+        }
+        self.answer_text(rt, alloc, line, out)
     }
 }
 
@@ -250,27 +354,94 @@ fn append_serial(out: &mut Vec<u8>, serial: u64)
     append(out, b"\n");
 }
 
-// Appends the line that says why a command isn't accepted, in the room that is there. Only the
-// verdict's refusal may find no memory, and then the line says that.
-fn append_fault<D: Disk>(alloc: Global, name: &Name, fault: CommandFault<D>, out: &mut Vec<u8>)
+// Appends the line that says why a command isn't accepted, in the room that is there, and answers whether
+// it says that memory was wanting. Only the verdict's refusal may find no memory, and then the line says
+// that.
+fn append_fault<D: Disk>(
+    alloc: Global,
+    name: &Name,
+    fault: CommandFault<D>,
+    out: &mut Vec<u8>,
+) -> bool
     requires { vec_len out.old + REPLY_ROOM ≤ vec_capacity out.old }
     ensures { (text : List ℕ) × (out.new.items ≡ out.old.items ++ text ++ 10 ∷ [])
-        × IsFaultText name.now fault text }
+        × IsFaultText name.now fault text result }
 {
     match fault {
         CommandFault::NoSuchAuthority => {
-            append_refused(out, &Refused::NoSuchAuthority { name: *name });
+            append_other(out, &Refused::NoSuchAuthority { name: *name })
         }
-        CommandFault::Shut { .. } => append_refused(out, &Refused::Shut),
+        CommandFault::Shut { .. } => append_other(out, &Refused::Shut),
         CommandFault::Verdict { refusal } => append_verdict(alloc, &refusal, out),
         CommandFault::JournalFull { held, needed } => {
-            append_refused(out, &Refused::JournalFull { held, needed });
+            append_other(out, &Refused::JournalFull { held, needed })
         }
         CommandFault::DiskFault { rose } => {
             let device = rose.desk();
-            append_refused(out, &Refused::DiskFault { device });
+            append_other(out, &Refused::DiskFault { device })
         }
-        CommandFault::Memory => append_refused(out, &Refused::Memory),
+        CommandFault::Memory => {
+            append_refused(out, &Refused::Memory);
+            true
+        }
+    }
+}
+
+// Appends the line of a refusal that doesn't say that memory was wanting.
+fn append_other(out: &mut Vec<u8>, refused: &Refused) -> bool
+    requires { vec_len out.old + REPLY_ROOM ≤ vec_capacity out.old }
+    ensures items { out.new.items ≡ out.old.items ++ refused_spelling refused.now ++ 10 ∷ [] }
+    ensures other { result ≡ false }
+{
+    append_refused(out, refused);
+    false
+}
+
+// What is wrong where memory is wanting.
+fn wanting_fault(is_wanting: bool) -> Option<RunFault>
+    ensures { result ≡ wanting_fault is_wanting }
+{
+    if is_wanting {
+        Some(RunFault::Memory)
+    } else {
+        None
+    }
+}
+
+// What was published, or a reply that says why nothing was, in the room that is there.
+fn published_or_told<D: Disk, O: Outlet>(
+    publication: Publication<D, O>,
+    out: &mut Vec<u8>,
+) -> Result<PublishedNumbers, Option<RunFault>>
+    requires { vec_len out.old + REPLY_ROOM ≤ vec_capacity out.old }
+    ensures { IsPublishedOrTold (outcome_of publication) result out.old.items out.new.items }
+{
+    match publication {
+        Publication::Published { published } => Ok(published),
+        Publication::Unexported { serial, fault } => {
+            let stopped = export_fault(&fault);
+            append_refused(out, &unexported_as(serial, fault));
+            Err(Some(stopped))
+        }
+        Publication::Repeated { fault } => {
+            append_refused(out, &refused_of(fault));
+            Err(None)
+        }
+        Publication::Refused { fault, .. } => {
+            let stopped = wanting_fault(fault.is_wanting());
+            append_refused(out, &refused_of(fault));
+            Err(stopped)
+        }
+    }
+}
+
+// What is wrong where an edition isn't exported.
+fn export_fault<O: Outlet>(fault: &ExportFault<O>) -> RunFault
+    ensures { result ≡ outlet_fault (stop_of fault.now) }
+{
+    match fault {
+        ExportFault::OutletFault { .. } => RunFault::Device,
+        ExportFault::Memory => RunFault::Memory,
     }
 }
 
@@ -283,15 +454,17 @@ fn append_refused(out: &mut Vec<u8>, refused: &Refused)
     append(out, b"\n");
 }
 
-// Appends the line of a verdict, or of want of memory where that finds none.
-fn append_verdict(alloc: Global, refusal: &Refusal, out: &mut Vec<u8>)
+// Appends the line of a verdict, or of want of memory where that finds none, and answers whether it is that.
+fn append_verdict(alloc: Global, refusal: &Refusal, out: &mut Vec<u8>) -> bool
     requires { vec_len out.old + REPLY_ROOM ≤ vec_capacity out.old }
     ensures { (text : List ℕ) × (out.new.items ≡ out.old.items ++ text ++ 10 ∷ [])
-        × ((text ≡ verdict_spelling refusal.now) ⊎ (text ≡ memory_text)) }
+        × IsVerdictText refusal.now text result }
 {
     if verdict_line(alloc, refusal, out).is_err() {
         append_refused(out, &Refused::Memory);
+        return true;
     }
+    false
 }
 
 fn verdict_line(alloc: Global, refusal: &Refusal, out: &mut Vec<u8>) -> Result<(), AllocError>
@@ -424,18 +597,6 @@ impl<D: Disk, G: Signer, O: Outlet, C: Clock> LineHandler for Handler<D, G, O, C
     ghost use Rattle.krill_top.specs.inner.Instances.{MayReply};
 
     ghost answers = { λ old line reply changed new. MayReply D.Disk O.Outlet (timed C.Clock old) line reply changed (timed C.Clock new) };
-
-    fn answer(
-        &mut self,
-        alloc: Global,
-        line: &[u8],
-        out: &mut Vec<u8>,
-    ) -> Result<bool, AllocError> {
-        if is_blank(line) {
-            return Ok(false);
-        }
-        self.answer_text(alloc, line, out)
-    }
 
     fn takes_long(&self, line: &[u8]) -> bool {
         has_publish(line)

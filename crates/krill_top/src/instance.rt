@@ -12,6 +12,7 @@ ghost use Rattle.krill_top.specs.Publishing as publishing;
 ghost use Rattle.krill_top.specs.Exports.{ExportsOrStops, Repeats};
 ghost use Rattle.krill_top.specs.inner.Refusing.{ExportsMade, RefusesFor, refused_or_repeated};
 ghost use Rattle.krill_top.specs.Replies.{CommandedIn};
+ghost use Rattle.krill_top.specs.Run.{IsFirstHeld};
 ghost use Rattle.gate_journal.specs.View.{IsSafe};
 ghost use Rattle.krill_top.specs.inner.Instances.{IsInState, IsPressIn, Moves, stored_in};
 
@@ -34,6 +35,7 @@ use signer_api::Signer;
 use signer_ring::Ring;
 use std::alloc::{AllocError, Global};
 use std::marker::Model;
+use std::thread::Threads;
 
 /// The desks of a tree, and the press that publishes what they have accepted.
 #[derive(Drop)]
@@ -175,40 +177,6 @@ impl<D: Disk, G: Signer, O: Outlet> Instance<D, G, O> {
         self.desks.command(alloc, name, command, self.signers)
     }
 
-    /// Publishes all that the desks have accepted, at that clock in seconds since 1970, and brings it to the
-    /// outlet. The edition follows the last one. Where the outlet fails the edition stands, and the next
-    /// publication exports it again, even where that has nothing to publish.
-    ///
-    /// A refusal changes nothing but what the signers made and counted. Refused in the order of
-    /// [`StoredPress::prepare`](press_core::StoredPress::prepare), and behind these for a fault of the press's disk:
-    /// then the edition is in doubt.
-    pub fn publish(&mut self, alloc: Global, now: u64) -> Publication<D, O>
-        ensures { Moves D.Disk O.Outlet (λ b a. ComesTo now (publishing.outcome_of result) b a) self.old self.new }
-    {
-        match self.make_edition(alloc, now) {
-            Ok(published) => self.export_made(alloc, published),
-            Err(fault) => self.refuse(alloc, fault),
-        }
-    }
-
-    // Makes the next edition of all that the desks have accepted. It isn't exported yet.
-    fn make_edition(&mut self, alloc: Global, now: u64) -> Result<PublishedNumbers, PublishFault<D>>
-        ensures moves { Moves D.Disk O.Outlet (λ b a. MakesOrNot now result b a) self.old self.new }
-        ensures serial { IfOk result (λ published. published.serial ≡ self.new.press.at.serial) }
-        ensures some { IfOk result (λ published. self.new.press.at.serial ≢ 0) }
-    {
-        gathered_commands_go_on();
-        vouching_signers_vouch_for_editions();
-        more_editions_stay_shown();
-        match press_all(alloc, &self.desks, &mut self.press, now) {
-            Ok(Pressed { published, sheet }) => {
-                self.sheet = sheet;
-                Ok(published)
-            }
-            Err(fault) => Err(fault),
-        }
-    }
-
     // Brings the edition that was made to the outlet.
     fn export_made(&mut self, alloc: Global, published: PublishedNumbers) -> Publication<D, O>
         requires some { self.old.press.at.serial ≢ 0 }
@@ -289,6 +257,13 @@ impl<D: Disk, G: Signer, O: Outlet> Instance<D, G, O> {
         self.press.export_to(alloc, &mut self.outlet)
     }
 
+    /// The first desk that holds a command, if one does, and how many it holds.
+    pub fn first_held(&self) -> Option<(u32, u64)>
+        ensures { (state : InstanceState) → IsInState O.Outlet self.now state → IsFirstHeld state.desk_states result }
+    {
+        self.desks.first_held()
+    }
+
     /// The serial of the last edition, and 0 where there was none.
     pub fn serial(&self) -> u64
         ensures { (state : InstanceState) → IsInState O.Outlet self.now state
@@ -327,5 +302,51 @@ impl<D: Disk, G: Signer, O: Outlet> Instance<D, G, O> {
             → text.items ≡ history_reply state.desk_states name.now) }
     {
         self.desks.history(alloc, name)
+    }
+}
+
+impl<D: Disk, G: Signer + Send, O: Outlet> Instance<D, G, O> {
+    /// Publishes all that the desks have accepted, at that clock in seconds since 1970, and brings it to the
+    /// outlet. The edition follows the last one. Where the outlet fails the edition stands, and the next
+    /// publication exports it again, even where that has nothing to publish.
+    ///
+    /// A refusal changes nothing but what the signers made and counted. Refused in the order of
+    /// [`StoredPress::prepare`](press_core::StoredPress::prepare), and behind these for a fault of the press's disk:
+    /// then the edition is in doubt.
+    pub fn publish<R: Threads + Sync>(
+        &mut self,
+        rt: &R,
+        alloc: Global,
+        now: u64,
+    ) -> Publication<D, O>
+        ensures { Moves D.Disk O.Outlet (λ b a. ComesTo now (publishing.outcome_of result) b a) self.old self.new }
+    {
+        match self.make_edition(rt, alloc, now) {
+            Ok(published) => self.export_made(alloc, published),
+            Err(fault) => self.refuse(alloc, fault),
+        }
+    }
+
+    // Makes the next edition of all that the desks have accepted. It isn't exported yet.
+    fn make_edition<R: Threads + Sync>(
+        &mut self,
+        rt: &R,
+        alloc: Global,
+        now: u64,
+    ) -> Result<PublishedNumbers, PublishFault<D>>
+        ensures moves { Moves D.Disk O.Outlet (λ b a. MakesOrNot now result b a) self.old self.new }
+        ensures serial { IfOk result (λ published. published.serial ≡ self.new.press.at.serial) }
+        ensures some { IfOk result (λ published. self.new.press.at.serial ≢ 0) }
+    {
+        gathered_commands_go_on();
+        vouching_signers_vouch_for_editions();
+        more_editions_stay_shown();
+        match press_all(rt, alloc, &self.desks, &mut self.press, now) {
+            Ok(Pressed { published, sheet }) => {
+                self.sheet = sheet;
+                Ok(published)
+            }
+            Err(fault) => Err(fault),
+        }
     }
 }

@@ -8,6 +8,7 @@ mod desks;
 mod ends;
 mod faults;
 mod fronts;
+mod generated;
 mod handler;
 mod instance;
 mod opening;
@@ -19,14 +20,17 @@ mod reads;
 mod running;
 mod serving;
 mod session_id;
+mod sinks;
 mod starting;
 mod summary;
 mod words;
+mod working;
 
 pub use command_fault::CommandFault;
 pub use desks::{DESKS, Desks};
 pub use ends::Ends;
 pub use faults::{OpenFault, RunFault, fault_text};
+pub use generated::Wanted;
 pub use handler::Handler;
 pub use instance::Instance;
 pub use line_loop::{

@@ -17,6 +17,7 @@ use notice_board::Sheet;
 use press_core::{PrepareFault, StoredPrepared, StoredPress};
 use signer_api::Signer;
 use std::alloc::Global;
+use std::thread::Threads;
 
 /// An edition that was published, and what readers are shown of it.
 #[derive(Drop)]
@@ -33,7 +34,8 @@ struct Ready {
 }
 
 // Prepares the next edition, of all that the desks have accepted, at that clock.
-fn prepare_all<D: Disk, G: Signer>(
+fn prepare_all<D: Disk, G: Signer + Send, R: Threads + Sync>(
+    rt: &R,
     alloc: Global,
     desks: &Desks<D>,
     press: &mut StoredPress<D, G>,
@@ -52,14 +54,15 @@ fn prepare_all<D: Disk, G: Signer>(
     ensures told { IfSome press.old.journal.records (λ _. IsSome (D.content press.old.journal.disk)) }
 {
     let gathered = desks.since_cut(alloc, press.press().cut())?;
-    let prepared = press.prepare(alloc, now, gathered)?;
+    let prepared = press.prepare(rt, alloc, now, gathered)?;
     let sheet = prepared.sheet(alloc)?;
     Ok(Ready { prepared, sheet })
 }
 
 /// Publishes all that the desks have accepted, at that clock. All memory is taken before the edition's
 /// record is written.
-pub(crate) fn press_all<D: Disk, G: Signer>(
+pub(crate) fn press_all<D: Disk, G: Signer + Send, R: Threads + Sync>(
+    rt: &R,
     alloc: Global,
     desks: &Desks<D>,
     press: &mut StoredPress<D, G>,
@@ -76,7 +79,7 @@ pub(crate) fn press_all<D: Disk, G: Signer>(
     ensures pressed { IfOk result (λ pressed. IsPressed D.Disk now desks.now press.old press.new pressed.published pressed.sheet) }
     ensures refused { IfErr result (λ fault. IsNotPressed D.Disk now desks.now press.old press.new fault) }
 {
-    let Ready { prepared, sheet } = prepare_all(alloc, desks, press, now)?;
+    let Ready { prepared, sheet } = prepare_all(rt, alloc, desks, press, now)?;
     let published = press.commit(prepared)?;
     press.retire_keys();
     Ok(Pressed { published, sheet })

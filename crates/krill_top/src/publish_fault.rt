@@ -33,6 +33,16 @@ impl<D: Disk> PublishFault<D> {
             PublishFault::Uncommitted { .. } => false,
         }
     }
+
+    // Whether memory was wanting.
+    pub(crate) fn is_wanting(&self) -> bool
+        ensures { result ≡ spec.is_wanting (spec.unmade_of self.now) }
+    {
+        match self {
+            PublishFault::Unprepared { fault } => matches!(fault, PrepareFault::Memory),
+            PublishFault::Uncommitted { .. } => false,
+        }
+    }
 }
 
 impl<D: Disk> From<PrepareFault<D>> for PublishFault<D> {

@@ -6,11 +6,14 @@ ghost use Rattle.key_ids.specs.Uris.{Bases};
 ghost use Rattle.key_ids.specs.declared.site.SiteFault.TheVariants as site;
 ghost use Rattle.krill_top.specs.Words.{AskedValue, asked_of, bases_of};
 ghost use Rattle.krill_top.specs.Summaries.{summary_line};
-ghost use Rattle.krill_top.specs.Statuses.{run_status, fault_of, export_fault, graver, stop_fault, opening_fault};
+ghost use Rattle.krill_top.specs.Statuses.{run_status, fault_of, export_fault, opening_fault};
 ghost use Rattle.krill_top.specs.Session.{session_of};
 ghost use Rattle.krill_top.specs.DeskStates.{most_desks};
+ghost use Rattle.krill_top.specs.InstanceState.{InstanceState};
+ghost use Rattle.krill_top.specs.Telling.{Tells};
+ghost use Rattle.krill_top.specs.inner.Instances.{IsInState};
 ghost use Rattle.krill_top.specs.inner.Started.{IsStarted};
-ghost use Rattle.krill_top.specs.Run.{AreBases, IsUnwanted, ends_of, IsRefusedRun, IsRefusedAtOpening, ServesOne, TellsOne, Tells, Does, RunsAs, miscounted};
+ghost use Rattle.krill_top.specs.Run.{AreBases, IsUnwanted, ends_of, IsRefusedRun, IsRefusedAtOpening, ServesOne, TellsOne, IsFirstHeld, FindsHeld, WorksOne, DoesWork, Does, RunsAs, miscounted};
 ghost use Rattle.krill_top.specs.declared.faults.RunFault.TheVariants as faults;
 ghost use Rattle.krill_top.specs.declared.faults.OpenFault.TheVariants as opening;
 
@@ -22,16 +25,19 @@ use crate::fronts::{put_in_front, take_first};
 use crate::handler::Handler;
 use crate::serving::{Session, SessionEnds};
 use crate::session_id::session_of;
+use crate::sinks::{graver, told};
 use crate::starting::{NotStarted, SIGNERS_WRONG, Started, start, stop};
-use crate::summary::{Summary, give_all};
+use crate::summary::Summary;
 use crate::words::{Asked, Doing, read_words};
+use crate::working::{ended_by, work};
 use disk_api::Disk;
 use key_ids::Site;
-use line_loop::{Clock, SessionEnd, Sink, SinkStop, Source};
+use line_loop::{Clock, SessionEnd, Sink, Source};
 use outlet_api::{ExportFault, Outlet};
 use press_core::{edition_records_go_on, more_editions_stay_shown};
 use signer_api::Signer;
 use std::alloc::Global;
+use std::thread::Threads;
 
 /// What `WrongCount` says is wrong in number.
 const DISKS_WRONG: u32 = 0;
@@ -81,29 +87,6 @@ fn export_fault<O: Outlet>(closing: &Result<bool, ExportFault<O>>) -> Option<Run
     }
 }
 
-// A device that failed goes before want of memory, and that before a budget that is spent.
-fn graver(session: Option<RunFault>, export: Option<RunFault>) -> Option<RunFault>
-    ensures { result ≡ graver session export }
-{
-    match export {
-        None => session,
-        Some(fault) => match session {
-            Some(RunFault::Device) => Some(RunFault::Device),
-            _ => Some(fault),
-        },
-    }
-}
-
-// Why a line isn't given whole.
-fn stop_fault(stop: SinkStop) -> RunFault
-    ensures { result ≡ stop_fault stop }
-{
-    match stop {
-        SinkStop::Fault => RunFault::Device,
-        SinkStop::Memory => RunFault::Memory,
-    }
-}
-
 /// Why a run ended whose opening was refused.
 fn opening_fault(fault: OpenFault) -> RunFault
     ensures { result ≡ opening_fault fault }
@@ -119,7 +102,8 @@ fn opening_fault(fault: OpenFault) -> RunFault
 
 // Serves the one session over the instance, exports the last edition again where it couldn't be before,
 // and closes it.
-fn serve_one<D: Disk, G: Signer, S: Source, K: Sink, O: Outlet, C: Clock>(
+fn serve_one<R: Threads + Sync, D: Disk, G: Signer + Send, S: Source, K: Sink, O: Outlet, C: Clock>(
+    rt: &R,
     alloc: Global,
     started: Started<D, G, O>,
     sessions: Vec<SessionEnds<S, K, C>>,
@@ -145,7 +129,7 @@ fn serve_one<D: Disk, G: Signer, S: Source, K: Sink, O: Outlet, C: Clock>(
         clock,
     } = take_first(&mut sessions);
     let mut handler = Handler::new(alloc, instance, clock);
-    let ended = Session::serve(alloc, &mut handler, &mut source, &mut sink);
+    let ended = Session::serve(rt, alloc, &mut handler, &mut source, &mut sink);
     let (mut instance, clock) = handler.into_parts();
     let closing = instance.repeat_export(alloc);
     let ends = SessionEnds {
@@ -200,10 +184,94 @@ fn tell<K: Sink>(alloc: Global, summary: &Summary, sink: &mut K) -> Option<RunFa
     let Ok(line) = summary.text(alloc) else {
         return Some(RunFault::Memory);
     };
-    match give_all(alloc, sink, line.as_bytes()) {
-        Ok(()) => None,
-        Err(stop) => Some(stop_fault(stop)),
+    told(alloc, sink, line.as_bytes())
+}
+
+// Gives a workload's commands where no desk holds any, publishes them and tells of that, and closes the
+// instance.
+fn work_one<R: Threads + Sync, D: Disk, G: Signer + Send, S: Source, K: Sink, O: Outlet, C: Clock>(
+    rt: &R,
+    alloc: Global,
+    authorities: u8,
+    started: Started<D, G, O>,
+    sessions: Vec<SessionEnds<S, K, C>>,
+) -> RunEnd<D, G, S, K, O, C>
+    requires empty { started.disks.items ≡ [] }
+    requires room { most_desks ≤ vec_capacity started.disks }
+    requires session { length sessions.items ≡ 1 }
+    ensures { (bases : Bases) (random : List ℕ) (ends : Ends D G O) (before : SessionEnds S K C)
+        → IsStarted D.Disk G.state O.Outlet bases (session_of random) ends started → sessions.items ≡ before ∷ []
+        → DoesWork D.Disk G.state O.Outlet K.Sink C.Clock authorities bases random ends before result }
+{
+    match started.instance.first_held() {
+        Some(found) => refuse_held(found, started, sessions),
+        None => work_over(rt, alloc, authorities, started, sessions),
     }
+}
+
+// Closes the instance, a desk of which holds commands.
+fn refuse_held<D: Disk, G: Signer, S: Source, K: Sink, O: Outlet, C: Clock>(
+    found: (u32, u64),
+    started: Started<D, G, O>,
+    sessions: Vec<SessionEnds<S, K, C>>,
+) -> RunEnd<D, G, S, K, O, C>
+    requires empty { started.disks.items ≡ [] }
+    requires room { most_desks ≤ vec_capacity started.disks }
+    requires held { (state : InstanceState) → IsInState O.Outlet started.instance state → IsFirstHeld state.desk_states (Some found) }
+    ensures { (bases : Bases) (random : List ℕ) (ends : Ends D G O) (before : SessionEnds S K C)
+        → IsStarted D.Disk G.state O.Outlet bases (session_of random) ends started → sessions.items ≡ before ∷ []
+        → FindsHeld D.Disk G.state O.Outlet bases random ends before result }
+{
+    edition_records_go_on();
+    let (desk, held) = found;
+    let fault = RunFault::NotEmpty { desk, held };
+    run_end(Some(fault), stop(started), sessions)
+}
+
+// Gives the commands to the instance, no desk of which holds any, and closes it.
+fn work_over<R: Threads + Sync, D: Disk, G: Signer + Send, S: Source, K: Sink, O: Outlet, C: Clock>(
+    rt: &R,
+    alloc: Global,
+    authorities: u8,
+    started: Started<D, G, O>,
+    sessions: Vec<SessionEnds<S, K, C>>,
+) -> RunEnd<D, G, S, K, O, C>
+    requires empty { started.disks.items ≡ [] }
+    requires room { most_desks ≤ vec_capacity started.disks }
+    requires session { length sessions.items ≡ 1 }
+    requires none { (state : InstanceState) → IsInState O.Outlet started.instance state → IsFirstHeld state.desk_states None }
+    ensures { (bases : Bases) (random : List ℕ) (ends : Ends D G O) (before : SessionEnds S K C)
+        → IsStarted D.Disk G.state O.Outlet bases (session_of random) ends started → sessions.items ≡ before ∷ []
+        → WorksOne D.Disk G.state O.Outlet K.Sink C.Clock authorities bases random ends before result }
+{
+    more_editions_stay_shown();
+    edition_records_go_on();
+    let Started {
+        instance,
+        summary,
+        disks,
+    } = started;
+    let mut sessions = sessions;
+    let SessionEnds {
+        source,
+        mut sink,
+        clock,
+    } = take_first(&mut sessions);
+    let mut handler = Handler::new(alloc, instance, clock);
+    let worked = work(rt, alloc, &mut handler, &mut sink, authorities);
+    let (instance, clock) = handler.into_parts();
+    let ends = SessionEnds {
+        source,
+        sink,
+        clock,
+    };
+    put_in_front(&mut sessions, ends);
+    let started = Started {
+        instance,
+        summary,
+        disks,
+    };
+    run_end(ended_by(worked), stop(started), sessions)
 }
 
 /// The status of a run that ended so.
@@ -236,7 +304,8 @@ fn run_end<D: Disk, G: Signer, S: Source, K: Sink, O: Outlet, C: Clock>(
 }
 
 // Opens all, and does what was asked for.
-fn run_one<D: Disk, G: Signer, S: Source, K: Sink, O: Outlet, C: Clock>(
+fn run_one<R: Threads + Sync, D: Disk, G: Signer + Send, S: Source, K: Sink, O: Outlet, C: Clock>(
+    rt: &R,
     alloc: Global,
     asked: Wanted,
     random: [u8; 32],
@@ -252,8 +321,9 @@ fn run_one<D: Disk, G: Signer, S: Source, K: Sink, O: Outlet, C: Clock>(
 {
     match start(alloc, session_of(random), &asked.site, ends) {
         Ok(started) => match asked.doing {
-            Doing::Run => serve_one(alloc, started, sessions),
+            Doing::Run => serve_one(rt, alloc, started, sessions),
             Doing::Audit => tell_one(alloc, started, sessions),
+            Doing::Workload { authorities } => work_one(rt, alloc, authorities, started, sessions),
         },
         Err(NotStarted { ends, fault }) => run_end(Some(opening_fault(fault)), ends, sessions),
     }
@@ -315,15 +385,26 @@ fn read_wanted(alloc: Global, words: &[String]) -> Result<Wanted, RunFault>
 /// its own, and the instance over all of these; audits what was published last, and exports it; and serves
 /// the one session: each command goes to the desk of its authority, and what the desks have accepted is
 /// published and brought to the outlet. Where the last edition couldn't be, that is tried once more at the
-/// end. `audit` opens all so, and gives the session's sink one line that tells of the last edition. The RRDP
-/// session of a new store is drawn from `random`.
+/// end. `audit` opens all so, and gives the session's sink one line that tells of the last edition. `workload`
+/// opens all so, gives the commands of a tree of so many authorities where no desk holds a command yet, publishes
+/// them, changes a grant and publishes that, and gives the sink a line on each of the two editions. The RRDP session of
+/// a new store is drawn from `random`.
 ///
 /// Where opening is refused no source is read and no sink is given anything. All devices come back as they
 /// stand.
 ///
 /// Asked before anything is opened, in this order: the words (`Words`), the bases (`Base`), that there is one
 /// session, 64 desks, and 1 to 8 signers (`WrongCount` with 2, 0 and 1).
-pub fn run_krill<D: Disk, G: Signer, S: Source, K: Sink, O: Outlet, C: Clock>(
+pub fn run_krill<
+    R: Threads + Sync,
+    D: Disk,
+    G: Signer + Send,
+    S: Source,
+    K: Sink,
+    O: Outlet,
+    C: Clock,
+>(
+    rt: &R,
     alloc: Global,
     words: &[String],
     random: [u8; 32],
@@ -358,6 +439,6 @@ pub fn run_krill<D: Disk, G: Signer, S: Source, K: Sink, O: Outlet, C: Clock>(
     };
     match miscounted(ends.desks.len(), ends.signers.len(), sessions.len()) {
         Some(fault) => run_end(Some(fault), ends, sessions),
-        None => run_one(alloc, asked, random, ends, sessions),
+        None => run_one(rt, alloc, asked, random, ends, sessions),
     }
 }

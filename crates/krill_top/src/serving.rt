@@ -1,8 +1,9 @@
 //! A session: its lines, answered over the instance.
 
-ghost use Rattle.std.specs.Prelude.{◌≡◌, ◌≤◌};
+ghost use Rattle.std.specs.Prelude.{◌≡◌, ◌≤◌, ℕ, List, ◌++◌, IfOk, OnErr};
 ghost use Rattle.host_calls.specs.Rise.{HasRisen};
 ghost use Rattle.krill_top.specs.inner.Handlers.{timed};
+ghost use Rattle.krill_top.specs.inner.Instances.{MayReply};
 ghost use Rattle.krill_top.specs.Sessions.{Served};
 
 use crate::handler::Handler;
@@ -10,7 +11,8 @@ use disk_api::Disk;
 use line_loop::{Clock, SessionEnd, Sink, Source, serve_lines};
 use outlet_api::Outlet;
 use signer_api::Signer;
-use std::alloc::Global;
+use std::alloc::{AllocError, Global};
+use std::thread::Threads;
 
 /// The ends of a session.
 #[derive(Drop)]
@@ -31,7 +33,16 @@ impl Session {
     /// clock.
     ///
     /// Before it waits for more input it has given the replies to all lines that have come.
-    pub fn serve<D: Disk, G: Signer, S: Source, K: Sink, O: Outlet, C: Clock>(
+    pub fn serve<
+        R: Threads + Sync,
+        D: Disk,
+        G: Signer + Send,
+        S: Source,
+        K: Sink,
+        O: Outlet,
+        C: Clock,
+    >(
+        rt: &R,
         alloc: Global,
         handler: &mut Handler<D, G, O, C>,
         source: &mut S,
@@ -46,6 +57,14 @@ impl Session {
         ensures source_later { S.fault_count source.old ≤ S.fault_count source.new }
         ensures sink_later { K.fault_count sink.old ≤ K.fault_count sink.new }
     {
-        serve_lines(alloc, handler, source, sink)
+        let answer = |handler: &mut Handler<D, G, O, C>, alloc: Global, line: &[u8], out: &mut Vec<
+            u8,
+        >| -> Result<bool, AllocError>
+            ensures ok { IfOk result (λ changed. (reply : List ℕ)
+                × MayReply D.Disk O.Outlet (timed C.Clock handler.old) line.now reply changed (timed C.Clock handler.new)
+                × (out.new.items ≡ out.old.items ++ reply)) }
+            ensures err { OnErr result ((handler.new ≡ handler.old) × (out.new.items ≡ out.old.items)) }
+        { handler.answer(rt, alloc, line, out) };
+        serve_lines(alloc, handler, &answer, source, sink)
     }
 }

@@ -52,6 +52,7 @@ const HELP: &str = "krillc: a delegated RPKI certificate authority daemon
 
 usage: krillc run [--rsync URI] [--rrdp URI]
        krillc audit [--rsync URI] [--rrdp URI]
+       krillc workload --number N [--rsync URI] [--rrdp URI]
        krillc --help | --version
 
 run reads commands from standard input, one line of JSON each, and writes a line of reply to each on
@@ -69,6 +70,9 @@ where there are none, they are a rehearsal's, which no relying party accepts, an
 Before it reads a line, run audits what was published last: by the rules of relying parties, against what the
 signers vouch for, and against the accepted commands. audit does so too, and then writes one line on it.
 
+workload is a trial of a new store: it makes a tree of N authorities, 1 to 63, with 64 prefixes each, publishes it,
+grants the first of them less and publishes that, and writes a line on each of the two editions.
+
 --rsync URI and --rrdp URI are the bases of what is published, rsync://rpki.example/repo/ and
 https://rpki.example/rrdp/ where they aren't given. A store keeps those that it was made with.
 
@@ -80,7 +84,8 @@ statuses:
        published last
     2  the words are none of those above, a base is none, or KRILL_CLOCK_BEHIND is no such number
     3  the store is damaged, holds what is no accepted command or no edition, or what it published last
-       doesn't stand: standard error says where; or it has other bases, or uses more signers than there are
+       doesn't stand: standard error says where; or it has other bases, or uses more signers than there are;
+       or workload was asked for, and an authority has commands already
     4  a device failed: standard input or output failed or is closed, a file of the store or a pipe of a
        signer can't be opened, read or written at the start, signers are numbered with a gap, one gives
        no answer to `hello`, another krillc has the store, or what was published last couldn't be put
@@ -117,8 +122,7 @@ fn words_of(rt: &HostRuntime) -> Result<Vec<String>, ErrorKind> {
 fn asked_text(words: &[String]) -> Option<&'static str> {
     let asked = match words {
         [word] => word.as_str(),
-        [command, word] if command.as_str() == "run" || command.as_str() == "audit" =>
-            word.as_str(),
+        [command, word] if is_command(command.as_str()) => word.as_str(),
         _ => return None,
     };
     match asked {
@@ -126,6 +130,10 @@ fn asked_text(words: &[String]) -> Option<&'static str> {
         "--version" => Some(VERSION),
         _ => None,
     }
+}
+
+fn is_command(word: &str) -> bool {
+    word == "run" || word == "audit" || word == "workload"
 }
 
 /// Writes the text to standard output, and opens nothing.
@@ -143,7 +151,7 @@ fn open_and_run<R: Threads + Wait + Sync>(
     handle: &R,
     words: &[String],
 ) -> ExitCode {
-    match open_store(rt, asks_for(words, Doing::Audit)) {
+    match open_store(rt, asked_for(words) == Some(Doing::Audit)) {
         Ok(store) => run_over(rt, handle, words, store),
         Err(stop) => refused(rt, fault_of(stop)),
     }
@@ -161,7 +169,7 @@ fn run_over<R: Threads + Wait + Sync>(
         mut disks,
         signers,
     } = store;
-    if asks_for(words, Doing::Run) {
+    if asked_for(words) == Some(Doing::Run) {
         match begins_anew(rt, &mut disks) {
             Ok(false) => {}
             Ok(true) => tell_new_anchor(rt),
@@ -171,8 +179,8 @@ fn run_over<R: Threads + Wait + Sync>(
     if !signers.is_empty() {
         return run_watched(rt, handle, words, disks, &signers);
     }
-    match rehearsal(rt, asks_for(words, Doing::Run)) {
-        Ok(signers) => run(rt, words, disks, signers),
+    match rehearsal(rt, asks_to_sign(words)) {
+        Ok(signers) => run(rt, handle, words, disks, signers),
         Err(stop) => refused(rt, fault_of(stop)),
     }
 }
@@ -191,7 +199,7 @@ fn run_watched<R: Threads + Wait + Sync>(
         || tell_waits(rt, handle, found, &end),
         || {
             let code = match open_signers(rt, found) {
-                Ok(signers) => run(rt, words, disks, signers),
+                Ok(signers) => run(rt, handle, words, disks, signers),
                 Err(stop) => refused(rt, fault_of(stop)),
             };
             end.tell();
@@ -201,11 +209,19 @@ fn run_watched<R: Threads + Wait + Sync>(
     code
 }
 
-/// Whether the words ask for that. A faulty command line asks for nothing.
-fn asks_for(words: &[String], doing: Doing) -> bool {
+/// What the words ask for. A faulty command line asks for nothing.
+fn asked_for(words: &[String]) -> Option<Doing> {
     match read_words(words) {
-        Some(asked) => asked.doing == doing,
-        None => false,
+        Some(asked) => Some(asked.doing),
+        None => None,
+    }
+}
+
+/// Whether the words ask for what needs signatures.
+fn asks_to_sign(words: &[String]) -> bool {
+    match asked_for(words) {
+        Some(Doing::Run | Doing::Workload { .. }) => true,
+        Some(Doing::Audit) | None => false,
     }
 }
 
@@ -348,7 +364,13 @@ fn make_folder_locked(rt: &HostRuntime) -> Result<fs::File, io::Error> {
 }
 
 /// Runs over standard input and output, and tells why it ended otherwise than well.
-fn run<G: Signer>(rt: &HostRuntime, words: &[String], disks: Disks, signers: Vec<G>) -> ExitCode {
+fn run<G: Signer + Send, R: Threads + Sync>(
+    rt: &HostRuntime,
+    handle: &R,
+    words: &[String],
+    disks: Disks,
+    signers: Vec<G>,
+) -> ExitCode {
     let behind = match seconds_behind(rt) {
         Ok(seconds) => seconds,
         Err(ClockFault::Value) => return refused_clock(rt),
@@ -368,6 +390,7 @@ fn run<G: Signer>(rt: &HostRuntime, words: &[String], disks: Disks, signers: Vec
     };
     let Disks { desks, press } = disks;
     let end = run_krill(
+        handle,
         rt.alloc(),
         words,
         random,

@@ -9,6 +9,7 @@ use outlet_api::MemoryOutlet;
 use sha2::{Digest, Sha256};
 use signer_api::{MemorySigner, Rehearsal, Signer};
 use std::alloc::Global;
+use std::thread::Threads;
 
 type Session = SessionEnds<MemorySource, MemorySink, ListClock>;
 
@@ -237,20 +238,25 @@ impl Bench {
 
     /// Runs with the signers, all of one kind, and keeps the disks and the signers as they are left. The
     /// input is used up.
-    pub fn run(&mut self, alloc: Global) -> Result<()> {
+    pub fn run<R: Threads + Sync>(&mut self, rt: &R, alloc: Global) -> Result<()> {
         if self.memory_signers.is_empty() {
             let signers = std::mem::replace(&mut self.rehearsals, Vec::new(alloc));
-            self.rehearsals = self.run_with(alloc, signers)?;
+            self.rehearsals = self.run_with(rt, alloc, signers)?;
         } else if self.rehearsals.is_empty() {
             let signers = std::mem::replace(&mut self.memory_signers, Vec::new(alloc));
-            self.memory_signers = self.run_with(alloc, signers)?;
+            self.memory_signers = self.run_with(rt, alloc, signers)?;
         } else {
             bail!("signers of two kinds");
         }
         Ok(())
     }
 
-    fn run_with<G: Signer>(&mut self, alloc: Global, signers: Vec<G>) -> Result<Vec<G>> {
+    fn run_with<G: Signer + Send, R: Threads + Sync>(
+        &mut self,
+        rt: &R,
+        alloc: Global,
+        signers: Vec<G>,
+    ) -> Result<Vec<G>> {
         let sessions = self.all_sessions(alloc)?;
         self.input.clear();
         let disks = std::mem::replace(&mut self.disks, Vec::new(alloc));
@@ -258,6 +264,7 @@ impl Bench {
         let empty = MemoryDisk::new(alloc, Vec::new(alloc), Vec::new(alloc));
         let press = std::mem::replace(&mut self.press, empty);
         let end = run_krill(
+            rt,
             alloc,
             self.words.as_slice(),
             self.random,

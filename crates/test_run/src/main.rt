@@ -11,19 +11,20 @@ mod steps;
 
 use anyhow::{Context, Result};
 use bench::Bench;
+use std::thread::Threads;
 
 fn main(rt: HostRuntime) -> Result<()> {
     for line in rt.lines(rt.alloc()) {
-        print_case(&rt, line?.as_str())?;
+        print_case(&rt, &rt, line?.as_str())?;
     }
     Ok(())
 }
 
-fn print_case(rt: &HostRuntime, line: &str) -> Result<()> {
+fn print_case<R: Threads + Sync>(rt: &HostRuntime, handle: &R, line: &str) -> Result<()> {
     let (name, steps) = line.split_once('\t').context("a case without steps")?;
     let mut bench = Bench::new(rt.alloc())?;
     for step in steps.split('\t') {
-        steps::take(rt.alloc(), &mut bench, step).context(format_args!("{name}: {step}"))?;
+        steps::take(handle, rt.alloc(), &mut bench, step).context(format_args!("{name}: {step}"))?;
     }
     let told = bench.told();
     println!(rt; "{name}{told}")?;

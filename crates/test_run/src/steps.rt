@@ -4,10 +4,11 @@ use crate::bench::Bench;
 use anyhow::{Context, Result, bail};
 use krill_top::RunFault;
 use std::alloc::Global;
+use std::thread::Threads;
 use test_support::{fixed_of, numbers_of};
 
 /// Takes a step: a word, and behind a blank what goes with it.
-pub fn take(alloc: Global, bench: &mut Bench, step: &str) -> Result<()> {
+pub fn take<R: Threads + Sync>(rt: &R, alloc: Global, bench: &mut Bench, step: &str) -> Result<()> {
     let (word, text) = step.split_once(' ').unwrap_or((step, ""));
     match word {
         // What is handed in.
@@ -17,11 +18,17 @@ pub fn take(alloc: Global, bench: &mut Bench, step: &str) -> Result<()> {
         "failing" => bench.add_disk(alloc, Vec::new(alloc), numbers_of(alloc, text, ' ')?),
         "stop" => bench.stop_first(text.parse::<u64>()?),
         "image" => bench.keep_image(alloc, text.parse::<u64>()?),
-        _ => take_store_step(alloc, bench, word, text),
+        _ => take_store_step(rt, alloc, bench, word, text),
     }
 }
 
-fn take_store_step(alloc: Global, bench: &mut Bench, word: &str, text: &str) -> Result<()> {
+fn take_store_step<R: Threads + Sync>(
+    rt: &R,
+    alloc: Global,
+    bench: &mut Bench,
+    word: &str,
+    text: &str,
+) -> Result<()> {
     match word {
         "reword" => {
             bench.clear_words();
@@ -44,11 +51,17 @@ fn take_store_step(alloc: Global, bench: &mut Bench, word: &str, text: &str) -> 
         "press-flip" => bench.flip_press(alloc, text.parse::<usize>()?),
         "press-add" => bench.extend_press(alloc, &hex::decode(alloc, text)?),
         "press-left" => bench.tell_press(alloc),
-        _ => take_signer_step(alloc, bench, word, text),
+        _ => take_signer_step(rt, alloc, bench, word, text),
     }
 }
 
-fn take_signer_step(alloc: Global, bench: &mut Bench, word: &str, text: &str) -> Result<()> {
+fn take_signer_step<R: Threads + Sync>(
+    rt: &R,
+    alloc: Global,
+    bench: &mut Bench,
+    word: &str,
+    text: &str,
+) -> Result<()> {
     match word {
         "unsigned" => {
             bench.clear_signers();
@@ -60,11 +73,17 @@ fn take_signer_step(alloc: Global, bench: &mut Bench, word: &str, text: &str) ->
             bench.set_clock(numbers_of(alloc, text, ' ')?);
             Ok(())
         }
-        _ => take_session_step(alloc, bench, word, text),
+        _ => take_session_step(rt, alloc, bench, word, text),
     }
 }
 
-fn take_session_step(alloc: Global, bench: &mut Bench, word: &str, text: &str) -> Result<()> {
+fn take_session_step<R: Threads + Sync>(
+    rt: &R,
+    alloc: Global,
+    bench: &mut Bench,
+    word: &str,
+    text: &str,
+) -> Result<()> {
     match word {
         "outlet" => bench.set_outlet(alloc, numbers_of(alloc, text, ' ')?),
         "random" => bench.set_random(fixed_of(alloc, text)?),
@@ -77,14 +96,20 @@ fn take_session_step(alloc: Global, bench: &mut Bench, word: &str, text: &str) -
         "bytes" => bench.add_input(&hex::decode(alloc, text)?)?,
         "blanks" => add_blanks(bench, text.parse::<u32>()?)?,
         "origins" => add_many(alloc, bench, text.parse::<u32>()?)?,
-        _ => take_run_step(alloc, bench, word, text)?,
+        _ => take_run_step(rt, alloc, bench, word, text)?,
     }
     Ok(())
 }
 
-fn take_run_step(alloc: Global, bench: &mut Bench, word: &str, text: &str) -> Result<()> {
+fn take_run_step<R: Threads + Sync>(
+    rt: &R,
+    alloc: Global,
+    bench: &mut Bench,
+    word: &str,
+    text: &str,
+) -> Result<()> {
     match word {
-        "run" => bench.run(alloc),
+        "run" => bench.run(rt, alloc),
         "replies" => bench.tell_replies(alloc),
         "among" => bench.tell_whether_replies(alloc, text),
         "left" => bench.tell_disks(alloc),
@@ -111,6 +136,7 @@ fn fault_of(name: &str) -> Result<RunFault> {
         "device" => Ok(RunFault::Device),
         "spent" => Ok(RunFault::Spent { bytes: 1 << 40 }),
         "memory" => Ok(RunFault::Memory),
+        "not-empty" => Ok(RunFault::NotEmpty { desk: 3, held: 5 }),
         _ => bail!("an unknown fault"),
     }
 }

@@ -18,6 +18,7 @@ unwanted_for : (words : List (String Global)) (asked : AskedValue) → asked_of 
 unwanted_for words asked is faults.Words refused = absurd refused
 unwanted_for words asked is (faults.Base fault) refused = (asked, is, refused)
 unwanted_for words asked is (faults.Refused fault) refused = absurd refused
+unwanted_for words asked is (faults.NotEmpty desk held) refused = absurd refused
 unwanted_for words asked is faults.Device refused = absurd refused
 unwanted_for words asked is (faults.Spent bytes) refused = absurd refused
 unwanted_for words asked is faults.Memory refused = (asked, is, refused)

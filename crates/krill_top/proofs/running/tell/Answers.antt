@@ -1,4 +1,4 @@
-use Rattle.std.proofs.Common.{◌≡◌, ◌++◌, ◌∙◌, [], List, ℕ, sym, refl, ap, subst, inl, inr}
+use Rattle.std.proofs.Common.{[], refl, inl}
 use Rattle.krill_top.specs.Summaries.{summary_line}
 use Rattle.krill_top.proofs.Writing.{none_given}
 use Rattle.krill_top.proofs.running.tell.Goals as goal

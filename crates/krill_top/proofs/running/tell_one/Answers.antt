@@ -6,7 +6,8 @@ use Rattle.krill_top.specs.declared.serving.SessionEnds.{SessionEnds}
 use Rattle.krill_top.specs.Statuses.{run_status}
 use Rattle.krill_top.specs.Summaries.{summary_line}
 use Rattle.krill_top.specs.inner.Opened.{AreClosed}
-use Rattle.krill_top.specs.Run.{TellsOne, Tells}
+use Rattle.krill_top.specs.Run.{TellsOne}
+use Rattle.krill_top.specs.Telling.{Tells}
 use Rattle.krill_top.proofs.Served.{tells_one}
 use Rattle.krill_top.proofs.running.tell_one.Goals as goal
 

@@ -17,5 +17,5 @@ returns-in-Err-clause-ok g c =
     let said = c.append_fault.ensures in (
       said.0,
       said.1 ∙ ap (λ (l : List ℕ). l ++ said.0 ++ 10 ∷ []) c.in_ok-reserve.ensures.items,
-      fault_text g.D.Disk g.O.Outlet c.args.name.now c.args.command said.0 (timed g.C.Clock c.args.self.now) (record { instance = c.command.new.self; clock = g.C.Clock.readings c.args.self.now.clock }) refl c.in-Err.fault c.leaves_doubt-in_doubt.result said.2 c.leaves_doubt-in_doubt.ensures c.in-Err.ensures,
+      fault_text g.D.Disk g.O.Outlet c.args.name.now c.args.command said.0 (timed g.C.Clock c.args.self.now) (record { instance = c.command.new.self; clock = g.C.Clock.readings c.args.self.now.clock }) refl c.in-Err.fault c.leaves_doubt-in_doubt.result c.append_fault.result said.2 c.leaves_doubt-in_doubt.ensures c.in-Err.ensures,
     )

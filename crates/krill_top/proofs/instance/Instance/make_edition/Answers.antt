@@ -6,24 +6,24 @@ use Rattle.krill_top.proofs.Publishing.{published, unpublished, pressed_serial, 
 use Rattle.krill_top.proofs.instance.Instance.make_edition.Goals as goal
 
 pub press_all-requires-clause-cut : goal.press_all-requires-clause-cut
-press_all-requires-clause-cut g c = cut_long g.O.Outlet _ c.self.invariant
+press_all-requires-clause-cut g c = λ lifetimes lives. cut_long g.O.Outlet _ c.self.invariant
 
 pub press_all-requires-clause-within : goal.press_all-requires-clause-within
-press_all-requires-clause-within g c = within_right g.O.Outlet _ c.self.invariant
+press_all-requires-clause-within g c = λ lifetimes lives. within_right g.O.Outlet _ c.self.invariant
 
 pub press_all-requires-clause-gathered : goal.press_all-requires-clause-gathered
-press_all-requires-clause-gathered g c groups since =
+press_all-requires-clause-gathered g c lifetimes lives groups since =
     let old : InstanceValue g.row.D.Denot g.row.O.Denot = record { desks = c.self.inside.desks; press = c.self.inside.press.press; journal = c.self.inside.press.journal; sheet = c.self.inside.sheet; signers = c.self.inside.signers; outlet = c.self.inside.outlet } in
     gathered_right g.O.Outlet old groups since
 
 pub press_all-requires-clause-accepted : goal.press_all-requires-clause-accepted
-press_all-requires-clause-accepted g c groups since = accepted_right g.O.Outlet _ groups c.self.invariant since
+press_all-requires-clause-accepted g c lifetimes lives groups since = accepted_right g.O.Outlet _ groups c.self.invariant since
 
 pub press_all-requires-clause-live_signers : goal.press_all-requires-clause-live_signers
-press_all-requires-clause-live_signers g c = live_signers_right g.O.Outlet _ c.self.invariant
+press_all-requires-clause-live_signers g c = λ lifetimes lives. live_signers_right g.O.Outlet _ c.self.invariant
 
 pub press_all-requires-clause-name_signers : goal.press_all-requires-clause-name_signers
-press_all-requires-clause-name_signers g c groups since = name_signers_right g.O.Outlet _ groups c.gathered_commands_go_on.ensures.configs c.self.invariant since
+press_all-requires-clause-name_signers g c lifetimes lives groups since = name_signers_right g.O.Outlet _ groups c.gathered_commands_go_on.ensures.configs c.self.invariant since
 
 pub invariant_of-self-in-Err : goal.invariant_of-self-in-Err
 invariant_of-self-in-Err g c =

@@ -2,7 +2,7 @@ use Rattle.std.proofs.Common.{◌≡◌, [], ◌++◌, ◌∷◌, ◌∙◌, sym
 use Rattle.std.specs.Prelude.{IsTrue}
 use Rattle.krill_top.specs.inner.Handlers.{timed}
 use Rattle.krill_top.proofs.Answering.{if_ok_so, text_replies, blank_replies}
-use Rattle.krill_top.proofs.handler.HandlerLineHandler.answer.Goals as goal
+use Rattle.krill_top.proofs.handler.Handler.answer.Goals as goal
 
 pub returns-clause-ok : goal.returns-clause-ok
 returns-clause-ok g c = if_ok_so c.answer_text.result _ _ c.answer_text.ensures.ok
