@@ -17,7 +17,8 @@ use Rattle.notice_board.specs.Seats.{BoardSeat}
 use Rattle.notice_board.specs.Lists.{last_serial}
 use Rattle.notice_board.specs.declared.shown.ShownEdition.{ShownEdition}
 use Rattle.editions.specs.Edition.{cut_at}
-use Rattle.editions.specs.Due.{is_due, grows, steps_next}
+use Rattle.issue_plan.specs.Due.{is_due}
+use Rattle.editions.specs.Due.{grows, steps_next}
 use Rattle.editions.specs.Calling.{is_called_for}
 use Rattle.editions.specs.Moments.{moment_behind}
 use Rattle.editions.specs.declared.gathered.Gathered.{Gathered}

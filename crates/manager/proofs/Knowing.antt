@@ -208,3 +208,10 @@ learned_look a b c is rest grows = record {
   shown = prefix_on a.shown b.shown c.shown is.shown grows;
   places = ap (λ (p : PassValue). p.places) rest ∙ is.places;
 }
+
+pub look_learned : (a b c : PassValue) → b ≡ record a { shown = b.shown } → IsPrefix a.shown b.shown → HasLearned b c → HasLearned a c
+look_learned a b c rest grows is = record {
+  seats = subst (λ (l : List FollowerSeat). KnowsMore l c.seats) (ap (λ (p : PassValue). p.seats) rest) is.seats;
+  shown = prefix_on a.shown b.shown c.shown grows is.shown;
+  places = is.places ∙ ap (λ (p : PassValue). p.places) rest;
+}

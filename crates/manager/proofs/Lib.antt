@@ -24,3 +24,4 @@ pub mod Gathering
 pub mod Publishing
 pub mod Ends
 pub mod Starting
+pub mod Rising

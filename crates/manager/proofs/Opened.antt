@@ -9,7 +9,6 @@ use Rattle.editions.specs.Edition.{Edition}
 use Rattle.press_core.specs.Stands.{IsLeftBy, StandsFor}
 use Rattle.press_core.specs.Files.{HasFilesOf}
 use Rattle.press_core.specs.Exports.{IsCoherent, ShowsEdition, ShowsLast}
-use Rattle.press_core.specs.declared.last_export.LastExport.{LastExport}
 use Rattle.press_core.specs.Stored.{HasRecordsOf}
 use Rattle.manager.specs.Named.{Named}
 use Rattle.manager.specs.Locked.{LockedValue, premises_of, repository_in, IsInDoubt, IsLockedOver, IsLocked}
@@ -42,7 +41,7 @@ module _ {D O : Type 0} (outlet_of : OutletGhosts O) (named : Named) (locked : L
     list = is.list;
     shown = is.shown;
     files = subst (λ (es : List Edition). HasFilesOf es locked.press.press) (sym none_more) is.files;
-    shows = subst (λ (l : LastExport). ShowsLast (ShowsEdition named.session named.site) (named.editions ++ []) l (outlet_of.files locked.outlet)) (sym is.last_export) tt;
+    shows = subst (λ (es : List Edition). ShowsLast (ShowsEdition named.session named.site) es locked.press.press.last_export (outlet_of.files locked.outlet)) (sym none_more) is.shows;
     coherent = λ was. subst (λ (es : List Edition). IfSome (outlet_of.files locked.outlet) (IsCoherent (repository_in named) es)) (sym none_more)
         (subst (λ (f : Option Files). IfSome f (IsCoherent (repository_in named) named.editions)) (sym is.outlet) was);
     limit = is.limit;

@@ -14,7 +14,8 @@ use Rattle.editions.specs.Edition.{Edition}
 use Rattle.editions.specs.PublishedState.{PublishedStateValue, published_of}
 use Rattle.editions.specs.Sheets.{sheet_of}
 use Rattle.editions.specs.declared.published_state.PublishedNumbers.{PublishedNumbers}
-use Rattle.press_core.specs.Press.{PressValue}
+use Rattle.press_core.specs.Press.{PressValue, DropsEach}
+use Rattle.editions.specs.declared.ended.EndedKey.{EndedKey}
 use Rattle.press_core.specs.PrepareInput.{PrepareInput}
 use Rattle.press_core.specs.Planned.{IsPrepared}
 use Rattle.press_core.specs.Faults.{IsShort}
@@ -50,6 +51,7 @@ module _ {D : Type 0} (start : PrepareInput) (old new : StoredValue D) (prepared
   pub unready_short : IsUnready start old new prepare.Memory
   unready_short = record {
     kept = is.kept;
+    held = is.held;
     same = is.same;
     journal = is.journal;
     cause = (open_before, inr (short_of start new.press.ring prepared.edition is.edition.is_prepared));
@@ -71,6 +73,7 @@ pub record IsCommit {D : Type 0} (disk_of : DiskGhosts D) (prepared : NextValue)
   pub at : mid.press.at ≡ prepared.next
   pub site : mid.press.site ≡ old.press.site
   pub ring : mid.press.ring ≡ old.press.ring
+  pub ended : mid.press.ended ≡ prepared.ended
   pub session : mid.press.rrdp.session ≡ old.press.rrdp.session
   pub last_export : mid.press.last_export ≡ old.press.last_export
   pub files : (lists : List (List Command)) (editions : List Edition) → IsLeftBy lists editions old.press.at → HasFilesOf editions old.press → HasFilesOf (editions ++ edition_of prepared ∷ []) mid.press
@@ -81,7 +84,7 @@ pub record IsCommit {D : Type 0} (disk_of : DiskGhosts D) (prepared : NextValue)
   pub told_is : told ≡ published_of prepared.next
 
 module _ {D : Type 0} (disk_of : DiskGhosts D) (prepared : NextValue) (told : PublishedNumbers) (old mid new : StoredValue D) (is : IsCommit disk_of prepared told old mid)
-    (others : new.press ≡ record mid.press { ring = new.press.ring; ended = [] }) (kept : Keeps mid.press.ring new.press.ring) (journal : new.journal ≡ mid.journal) where
+    (others : new.press ≡ record mid.press { ring = new.press.ring; ended = [] }) (kept : Keeps mid.press.ring new.press.ring) (dropped : DropsEach mid.press.ended mid.press.ring new.press.ring) (journal : new.journal ≡ mid.journal) where
   abbrev retired : StoredValue D
   retired = record { press = record mid.press { ring = new.press.ring; ended = [] }; journal = mid.journal }
 
@@ -99,6 +102,9 @@ module _ {D : Type 0} (disk_of : DiskGhosts D) (prepared : NextValue) (told : Pu
     session = ap (λ (p : PressValue). p.rrdp.session) others ∙ is.session;
     last_export = ap (λ (p : PressValue). p.last_export) others ∙ is.last_export;
     kept = subst (λ (ring : List SignerState). Keeps ring new.press.ring) is.ring kept;
+    dropped = subst (λ (ring : List SignerState). DropsEach prepared.ended ring new.press.ring) is.ring
+        (subst (λ (ended : List EndedKey). DropsEach ended mid.press.ring new.press.ring) is.ended dropped);
+    ended = ap (λ (p : PressValue). p.ended) others;
     files = λ lists editions left has. files_then (editions ++ edition_of prepared ∷ []) (is.files lists editions left has);
     records = λ lists editions left has. subst (HasRecordsOf (editions ++ edition_of prepared ∷ [])) same (is.records lists editions left has);
     limit = ap (λ (v : JournalView D). v.limit) journal ∙ is.limit;

@@ -59,6 +59,12 @@ module _ {D : Type 0} (words : ℕ → TableId) (named : Named) where
   seen_from from (desk ∷ desks) all zero below = all.0.found ∙ ap (λ (n : ℕ). get_or named.records n []) (omega arith)
   seen_from from (desk ∷ desks) all (suc k) below = seen_from (suc from) desks all.1 k (omega (arith, below)) ∙ ap (λ (n : ℕ). get_or named.records n []) (omega arith)
 
+  recovered_from : (from : ℕ) (desks : List (CountedView D)) → AreOpenedDesks words named from desks → (k : ℕ) → k < length desks
+      → (seat_at (map first_seat desks) k).recovered ≡ length (get_or named.records (from + k) [])
+  recovered_from from [] all k below = absurd (omega (arith, below))
+  recovered_from from (desk ∷ desks) all zero below = all.0.recovered ∙ (ap length all.0.found ∙ ap (λ (n : ℕ). length (get_or named.records n [])) (omega arith))
+  recovered_from from (desk ∷ desks) all (suc k) below = recovered_from (suc from) desks all.1 k (omega (arith, below)) ∙ ap (λ (n : ℕ). length (get_or named.records n [])) (omega arith)
+
   none_made : (desks : List (CountedView D)) (k : ℕ) → (seat_at (map first_seat desks) k).mine ≡ []
   none_made [] k = ap (λ (s : FollowerSeat). s.mine) (get_or_past [] k no_seat (omega arith))
   none_made (desk ∷ desks) zero = refl
@@ -69,6 +75,8 @@ module _ {D : Type 0} (words : ℕ → TableId) (named : Named) where
     count = ap length seats ∙ (length-map desks first_seat ∙ count);
     seen = λ desk below. ap (λ (l : List FollowerSeat). (seat_at l desk).seen) seats
         ∙ (seen_from 0 desks all desk (subst (λ (n : ℕ). desk < n) (sym count) below) ∙ ap (λ (n : ℕ). get_or named.records n []) (omega arith));
+    recovered = λ desk below. ap (λ (l : List FollowerSeat). (seat_at l desk).recovered) seats
+        ∙ (recovered_from 0 desks all desk (subst (λ (n : ℕ). desk < n) (sym count) below) ∙ ap (λ (n : ℕ). length (get_or named.records n [])) (omega arith));
     none = λ desk. ap (λ (l : List FollowerSeat). (seat_at l desk).mine) seats ∙ none_made desks desk;
     places = places;
   }

@@ -25,11 +25,11 @@ HaveSeen {D = D} seats desks = (place : ℕ) (desk : View D) → slice_get desks
 
 -- The press stood so behind its lock, and its disk holds what it held then. The lists over which its
 -- editions were made are what the desks' lists begin with; the editions that were seen are among those
--- that it showed, which are the one found last and those of this run. So neither the edition that stands nor any
--- other of this run takes in a command that its desk hasn't, and so of one in doubt.
+-- that it showed, which are the one found last and those of this run. So neither the edition that
+-- stands nor any other of this run takes in a command that its desk hasn't, and so of one in doubt.
 pub record AreEnds {D O : Type 0} (disk_of : DiskGhosts D) (outlet_of : OutletGhosts O)
-    (named : Named) (viewed : List ShownEdition) (desks : List (View D)) (disk : D) (ring : List SignerState) (outlet : O)
-    : Type 0 where
+    (named : Named) (viewed : List ShownEdition) (desks : List (View D)) (disk : D)
+    (ring : List SignerState) (outlet : O) : Type 0 where
   pub locked : LockedValue D O
   pub closed : IsClosed disk_of outlet_of named locked
   pub disk_is : disk ≡ locked.press.journal.disk

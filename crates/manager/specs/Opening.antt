@@ -6,7 +6,7 @@ use Rattle.rp_rules.specs.Certificates.{Vouched}
 use Rattle.editions.specs.PublishedState.{desks}
 use Rattle.press_core.specs.Stands.{IsLeftBy, StandsFor}
 use Rattle.press_core.specs.Files.{HasFilesOf}
-use Rattle.press_core.specs.declared.last_export.LastExport.TheVariants.{NoExport}
+use Rattle.press_core.specs.Exports.{ShowsEdition, ShowsLast}
 use Rattle.press_core.specs.JournalRecords.{press_limit}
 use Rattle.press_core.specs.Stored.{HasRecordsOf}
 use Rattle.manager.specs.Named.{Named}
@@ -16,7 +16,7 @@ use Rattle.manager.specs.Locked.{LockedValue, premises_of, AreFoundSteps}
 
 -- The press stands behind the editions that were found, whatever they are: nothing is asked of them. That
 -- they follow one another is a premise of what is said of vouched signatures. The board shows what was
--- found, and nothing was exported in this run.
+-- found, and so does the outlet, where an edition was exported in this run and that ended well.
 pub record IsOpened {D O : Type 0} (outlet_of : OutletGhosts O) (named : Named)
     (locked : LockedValue D O) : Type 0 where
   pub lists : List (List Command)
@@ -34,7 +34,8 @@ pub record IsOpened {D O : Type 0} (outlet_of : OutletGhosts O) (named : Named)
   pub list : locked.board.list ≡ named.list
   pub shown : locked.board.shown ≡ shown_at named.at ∷ []
   pub files : HasFilesOf named.editions locked.press.press
-  pub last_export : locked.press.press.last_export ≡ NoExport
+  pub shows : ShowsLast (ShowsEdition named.session named.site) named.editions
+      locked.press.press.last_export (outlet_of.files locked.outlet)
   pub outlet : outlet_of.files locked.outlet ≡ named.files
   pub limit : locked.press.journal.limit ≡ press_limit
   pub records : HasRecordsOf named.editions locked.press

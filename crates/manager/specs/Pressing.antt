@@ -9,6 +9,8 @@ use Rattle.editions.specs.PublishedState.{published_of}
 use Rattle.editions.specs.declared.published_state.PublishedNumbers.{PublishedNumbers}
 use Rattle.press_core.specs.PrepareInput.{PrepareInput}
 use Rattle.press_core.specs.Next.{NextValue}
+use Rattle.press_core.specs.Press.{DropsEach}
+use Rattle.press_core.specs.Signers.{HoldKeys}
 use Rattle.press_core.specs.Follows.{edition_of, IsNextEdition}
 use Rattle.press_core.specs.Stands.{IsLeftBy}
 use Rattle.press_core.specs.Files.{HasFilesOf}
@@ -23,6 +25,7 @@ pub record IsReady {D : Type 0} (start : PrepareInput) (old new : StoredValue D)
     (prepared : StoredPreparedValue) : Type 0 where
   pub edition : IsNextEdition start new.press.ring prepared.edition
   pub kept : Keeps old.press.ring new.press.ring
+  pub held : HoldKeys old.press.ring new.press.ring
   pub same : new.press ≡ record old.press { ring = new.press.ring }
   pub journal : IsSameButRoom old.journal new.journal
   pub can : CanCommit new prepared
@@ -31,11 +34,12 @@ pub record IsReady {D : Type 0} (start : PrepareInput) (old new : StoredValue D)
 pub record IsUnready {D : Type 0} (start : PrepareInput) (old new : StoredValue D)
     (fault : PrepareFault D) : Type 0 where
   pub kept : Keeps old.press.ring new.press.ring
+  pub held : HoldKeys old.press.ring new.press.ring
   pub same : new.press ≡ record old.press { ring = new.press.ring }
   pub journal : IsSameButRoom old.journal new.journal
   pub cause : IsPrepareFault start new.press.ring old.journal fault
 
--- It was committed, and the keys that it ended were dropped.
+-- It was committed, and the keys that it ended were dropped, each once, by the signers.
 pub record IsCommitted {D : Type 0} (disk_of : DiskGhosts D) (prepared : NextValue)
     (told : PublishedNumbers) (old new : StoredValue D) : Type 0 where
   pub at : new.press.at ≡ prepared.next
@@ -43,6 +47,8 @@ pub record IsCommitted {D : Type 0} (disk_of : DiskGhosts D) (prepared : NextVal
   pub session : new.press.rrdp.session ≡ old.press.rrdp.session
   pub last_export : new.press.last_export ≡ old.press.last_export
   pub kept : Keeps old.press.ring new.press.ring
+  pub dropped : DropsEach prepared.ended old.press.ring new.press.ring
+  pub ended : new.press.ended ≡ []
   pub files : (lists : List (List Command)) (editions : List Edition)
       → IsLeftBy lists editions old.press.at → HasFilesOf editions old.press
       → HasFilesOf (editions ++ edition_of prepared ∷ []) new.press

@@ -37,5 +37,7 @@ pub record IsFirstPass (named : Named) (pass : PassValue) : Type 0 where
   pub count : length pass.seats ≡ most_authorities
   pub seen : (desk : ℕ) → desk < most_authorities
       → (seat_at pass.seats desk).seen ≡ get_or named.records desk []
+  pub recovered : (desk : ℕ) → desk < most_authorities
+      → (seat_at pass.seats desk).recovered ≡ length (get_or named.records desk [])
   pub none : (desk : ℕ) → (seat_at pass.seats desk).mine ≡ []
   pub places : pass.places ≡ first_places

@@ -36,6 +36,7 @@ use signer_ring::Ring;
 use std::alloc::{AllocError, Global};
 use std::marker::Model;
 use std::sync::Wait;
+use std::thread::Threads;
 
 /// What is left of a press behind a lock.
 #[derive(Drop)]
@@ -148,71 +149,6 @@ impl<N: Names, D: Disk, S: Signer, O: Outlet> LockedPress<N, D, S, O> {
         })
     }
 
-    /// Makes the next edition of what was gathered of each desk behind the cut, and shows it. It isn't exported
-    /// yet. `now` is in seconds since 1970.
-    pub fn press<R: Wait>(
-        &mut self,
-        rt: &R,
-        alloc: Global,
-        now: u64,
-        gathered: Vec<Gathered>,
-    ) -> Result<PublishedNumbers, Unmade<D>>
-        requires { (lists : List (List Command)) → AreSeen (length N.named.signers) lists self.old.seats
-            → AreSince 0 lists self.old.press.press.at.cut gathered.items }
-        ensures seats { self.new.seats ≡ self.old.seats }
-        ensures outlet { self.new.outlet ≡ self.old.outlet }
-        ensures answered { IfOk result (λ told. IsAnswered told self.old.seats self.new.board.shown) }
-        ensures behind { IfOk result (IsBehind now self.old.press.press.at) }
-        ensures some { OnOk result (self.new.press.press.at.serial ≢ 0) }
-        ensures same { OnErr result (self.new.board.shown ≡ self.old.board.shown) }
-        ensures nothing { IfErr result (λ unmade. IfSome (nothing_behind unmade) (λ serial. IsShownTo serial self.old.seats self.new.board.shown)) }
-        ensures cause { IfErr result (IsUnmadeFor D.Disk (start_of self.old.press.press now gathered.items) self.old.press self.new.press) }
-    {
-        gathered_commands_go_on();
-        vouching_signers_vouch_for_editions();
-        more_editions_stay_shown();
-        let LockedPress { press, board, .. } = self;
-        let prepared = match make_ready(alloc, press, board, now, gathered) {
-            Ok(prepared) => prepared,
-            Err(fault) => return Err(Unmade::Unprepared { fault }),
-        };
-        let told = match commit_shown(rt, press, board, prepared) {
-            Ok(told) => told,
-            Err(fault) => return Err(Unmade::Uncommitted { fault }),
-        };
-        Ok(told)
-    }
-
-    /// Publishes what was gathered of each desk behind the cut, shows it and brings it to the outlet; and tells a
-    /// viewer of all that was shown. Where there is nothing to publish, an edition whose export failed is
-    /// exported again. `now` is in seconds since 1970.
-    pub fn publish<R: Wait>(
-        &mut self,
-        rt: &R,
-        alloc: Global,
-        now: u64,
-        gathered: Vec<Gathered>,
-        viewer: &mut Viewer,
-    ) -> Result<PublishedNumbers, PublishFault<D, O>>
-        requires since { (lists : List (List Command)) → AreSeen (length N.named.signers) lists self.old.seats
-            → AreSince 0 lists self.old.press.press.at.cut gathered.items }
-        requires viewer { viewer.old.list ≡ N.named.list }
-        ensures seats { self.new.seats ≡ self.old.seats }
-        ensures list { viewer.new.list ≡ viewer.old.list }
-        ensures grows { IsPrefix viewer.old.seen viewer.new.seen }
-        ensures whole { viewer.new.seen ≡ self.new.board.shown }
-        ensures published { IfOk result (λ told. IsAnswered told self.old.seats viewer.new.seen) }
-        ensures behind { IfOk result (IsBehind now self.old.press.press.at) }
-        ensures exported { OnOk result (self.new.press.press.last_export ≡ Done self.new.press.press.at.serial) }
-        ensures refused { IfErr result (IsNotPublished self.old.seats viewer.new.seen) }
-        ensures cause { IfErr result (IsMetBy D.Disk (start_of self.old.press.press now gathered.items) self.old.press self.new.press) }
-        ensures left { IfErr result (IsExportLeft self.new.press.press.last_export self.new.press.press.at.serial) }
-    {
-        let published = self.press_and_export(rt, alloc, now, gathered);
-        self.tell(rt, viewer);
-        published
-    }
-
     /// Tells a viewer of all that was shown.
     pub fn tell<R: Wait>(&mut self, rt: &R, viewer: &mut Viewer)
         requires { viewer.old.list ≡ N.named.list }
@@ -220,9 +156,11 @@ impl<N: Names, D: Disk, S: Signer, O: Outlet> LockedPress<N, D, S, O> {
         ensures list { viewer.new.list ≡ viewer.old.list }
         ensures grows { IsPrefix viewer.old.seen viewer.new.seen }
         ensures whole { viewer.new.seen ≡ self.old.board.shown }
+        ensures not_past { last_serial viewer.old.seen ≤ self.old.press.press.at.serial }
         ensures kept { IsLocked O.Outlet N.named self.new }
     {
         self.board.tell(rt, viewer);
+        viewer.last_seen();
     }
 
     /// The serial of the edition that was shown last, and 0 where there is none.
@@ -230,31 +168,6 @@ impl<N: Names, D: Disk, S: Signer, O: Outlet> LockedPress<N, D, S, O> {
         ensures { result ≡ last_serial self.now.board.shown }
     {
         self.board.serial()
-    }
-
-    // Publishes and exports.
-    fn press_and_export<R: Wait>(
-        &mut self,
-        rt: &R,
-        alloc: Global,
-        now: u64,
-        gathered: Vec<Gathered>,
-    ) -> Result<PublishedNumbers, PublishFault<D, O>>
-        requires { (lists : List (List Command)) → AreSeen (length N.named.signers) lists self.old.seats
-            → AreSince 0 lists self.old.press.press.at.cut gathered.items }
-        ensures seats { self.new.seats ≡ self.old.seats }
-        ensures published { IfOk result (λ told. IsAnswered told self.old.seats self.new.board.shown) }
-        ensures behind { IfOk result (IsBehind now self.old.press.press.at) }
-        ensures exported { OnOk result (self.new.press.press.last_export ≡ Done self.new.press.press.at.serial) }
-        ensures refused { IfErr result (IsNotPublished self.old.seats self.new.board.shown) }
-        ensures cause { IfErr result (IsMetBy D.Disk (start_of self.old.press.press now gathered.items) self.old.press self.new.press) }
-        ensures left { IfErr result (IsExportLeft self.new.press.press.last_export self.new.press.press.at.serial) }
-    {
-        let told = match self.press(rt, alloc, now, gathered) {
-            Ok(told) => told,
-            Err(fault) => return Err(self.refuse(alloc, fault)),
-        };
-        self.export_made(alloc, told)
     }
 
     // Brings the edition to the outlet that was made.
@@ -349,6 +262,98 @@ impl<N: Names, D: Disk, S: Signer, O: Outlet> LockedPress<N, D, S, O> {
             followers,
             outlet,
         }
+    }
+}
+
+impl<N: Names, D: Disk, S: Signer + Send, O: Outlet> LockedPress<N, D, S, O> {
+    /// Makes the next edition of what was gathered of each desk behind the cut, and shows it. It isn't exported
+    /// yet. `now` is in seconds since 1970.
+    pub fn press<R: Threads + Wait + Sync>(
+        &mut self,
+        rt: &R,
+        alloc: Global,
+        now: u64,
+        gathered: Vec<Gathered>,
+    ) -> Result<PublishedNumbers, Unmade<D>>
+        requires { (lists : List (List Command)) → AreSeen (length N.named.signers) lists self.old.seats
+            → AreSince 0 lists self.old.press.press.at.cut gathered.items }
+        ensures seats { self.new.seats ≡ self.old.seats }
+        ensures outlet { self.new.outlet ≡ self.old.outlet }
+        ensures answered { IfOk result (λ told. IsAnswered told self.old.seats self.new.board.shown) }
+        ensures behind { IfOk result (IsBehind now self.old.press.press.at) }
+        ensures some { OnOk result (self.new.press.press.at.serial ≢ 0) }
+        ensures same { OnErr result (self.new.board.shown ≡ self.old.board.shown) }
+        ensures nothing { IfErr result (λ unmade. IfSome (nothing_behind unmade) (λ serial. IsShownTo serial self.old.seats self.new.board.shown)) }
+        ensures cause { IfErr result (IsUnmadeFor D.Disk (start_of self.old.press.press now gathered.items) self.old.press self.new.press) }
+    {
+        gathered_commands_go_on();
+        vouching_signers_vouch_for_editions();
+        more_editions_stay_shown();
+        let LockedPress { press, board, .. } = self;
+        let prepared = match make_ready(rt, alloc, press, board, now, gathered) {
+            Ok(prepared) => prepared,
+            Err(fault) => return Err(Unmade::Unprepared { fault }),
+        };
+        let told = match commit_shown(rt, press, board, prepared) {
+            Ok(told) => told,
+            Err(fault) => return Err(Unmade::Uncommitted { fault }),
+        };
+        Ok(told)
+    }
+
+    /// Publishes what was gathered of each desk behind the cut, shows it and brings it to the outlet; and tells a
+    /// viewer of all that was shown. Where there is nothing to publish, an edition whose export failed is
+    /// exported again. `now` is in seconds since 1970.
+    pub fn publish<R: Threads + Wait + Sync>(
+        &mut self,
+        rt: &R,
+        alloc: Global,
+        now: u64,
+        gathered: Vec<Gathered>,
+        viewer: &mut Viewer,
+    ) -> Result<PublishedNumbers, PublishFault<D, O>>
+        requires since { (lists : List (List Command)) → AreSeen (length N.named.signers) lists self.old.seats
+            → AreSince 0 lists self.old.press.press.at.cut gathered.items }
+        requires viewer { viewer.old.list ≡ N.named.list }
+        ensures seats { self.new.seats ≡ self.old.seats }
+        ensures list { viewer.new.list ≡ viewer.old.list }
+        ensures grows { IsPrefix viewer.old.seen viewer.new.seen }
+        ensures whole { viewer.new.seen ≡ self.new.board.shown }
+        ensures published { IfOk result (λ told. IsAnswered told self.old.seats viewer.new.seen) }
+        ensures behind { IfOk result (IsBehind now self.old.press.press.at) }
+        ensures exported { OnOk result (self.new.press.press.last_export ≡ Done self.new.press.press.at.serial) }
+        ensures refused { IfErr result (IsNotPublished self.old.seats viewer.new.seen) }
+        ensures cause { IfErr result (IsMetBy D.Disk (start_of self.old.press.press now gathered.items) self.old.press self.new.press) }
+        ensures left { IfErr result (IsExportLeft self.new.press.press.last_export self.new.press.press.at.serial) }
+    {
+        let published = self.press_and_export(rt, alloc, now, gathered);
+        self.tell(rt, viewer);
+        published
+    }
+
+    // Publishes and exports.
+    fn press_and_export<R: Threads + Wait + Sync>(
+        &mut self,
+        rt: &R,
+        alloc: Global,
+        now: u64,
+        gathered: Vec<Gathered>,
+    ) -> Result<PublishedNumbers, PublishFault<D, O>>
+        requires { (lists : List (List Command)) → AreSeen (length N.named.signers) lists self.old.seats
+            → AreSince 0 lists self.old.press.press.at.cut gathered.items }
+        ensures seats { self.new.seats ≡ self.old.seats }
+        ensures published { IfOk result (λ told. IsAnswered told self.old.seats self.new.board.shown) }
+        ensures behind { IfOk result (IsBehind now self.old.press.press.at) }
+        ensures exported { OnOk result (self.new.press.press.last_export ≡ Done self.new.press.press.at.serial) }
+        ensures refused { IfErr result (IsNotPublished self.old.seats self.new.board.shown) }
+        ensures cause { IfErr result (IsMetBy D.Disk (start_of self.old.press.press now gathered.items) self.old.press self.new.press) }
+        ensures left { IfErr result (IsExportLeft self.new.press.press.last_export self.new.press.press.at.serial) }
+    {
+        let told = match self.press(rt, alloc, now, gathered) {
+            Ok(told) => told,
+            Err(fault) => return Err(self.refuse(alloc, fault)),
+        };
+        self.export_made(alloc, told)
     }
 }
 

@@ -1,8 +1,8 @@
 //! What a session knows and has made: it hands its pass to each call.
-ghost use Rattle.std.specs.Prelude.{◌≡◌, ◌≢◌, ◌≤◌, ◌<◌, ◌-◌, ◌++◌, [], ◌∷◌, ℕ, List, All, map, take, length, vec_capacity, IfOk, IfErr, OnOk, OnErr};
+ghost use Rattle.std.specs.Prelude.{◌≡◌, ◌≢◌, ◌≤◌, ◌<◌, ◌-◌, ◌++◌, [], ◌∷◌, ℕ, true, List, All, map, take, length, vec_capacity, IfOk, IfErr, OnOk, OnErr};
 ghost use mathlib.Core.List.{IsPrefix};
 ghost use Rattle.authority_book.specs.Verdict.{most_authorities};
-ghost use Rattle.notice_board.specs.Lists.{last_serial};
+ghost use Rattle.notice_board.specs.Lists.{last_serial, rises};
 ghost use Rattle.notice_board.specs.Rows.{IsRowShown};
 ghost use Rattle.authority_book.specs.declared.commands.Command.{Command};
 ghost use Rattle.press_core.specs.PrepareInput.{start_of};
@@ -25,6 +25,7 @@ use signer_api::Signer;
 use std::alloc::{AllocError, Global};
 use std::marker::{Model, PhantomData};
 use std::sync::Wait;
+use std::thread::Threads;
 
 /// A seat at each desk's word, a viewer of the board, and viewers for the passes that can still be split off.
 #[derive(Drop)]
@@ -103,15 +104,16 @@ impl<N: Names> Pass<N> {
         self.viewer.row(alloc, desk)
     }
 
-    /// The serial of the edition that was seen last. It doesn't look.
+    /// The serial of the edition that was seen last. It doesn't look. Those that were seen have rising serials.
     pub fn last_seen(&self) -> u64
-        ensures { result ≡ last_serial self.now.shown }
+        ensures serial { result ≡ last_serial self.now.shown }
+        ensures rises { rises self.now.shown ≡ true }
     {
         self.viewer.last_seen()
     }
 
     /// Publishes what was gathered with the press, whose lock is held, and sees all editions that are shown then.
-    pub(crate) fn publish<D: Disk, S: Signer, O: Outlet, R: Wait>(
+    pub(crate) fn publish<D: Disk, S: Signer + Send, O: Outlet, R: Threads + Wait + Sync>(
         &mut self,
         rt: &R,
         alloc: Global,
@@ -141,6 +143,7 @@ impl<N: Names> Pass<N> {
         ensures rest { self.new ≡ record self.old { shown = self.new.shown } }
         ensures grows { IsPrefix self.old.shown self.new.shown }
         ensures whole { self.new.shown ≡ press.old.board.shown }
+        ensures not_past { last_serial self.old.shown ≤ press.old.press.press.at.serial }
         ensures same { press.new ≡ press.old }
     {
         press.tell(rt, &mut self.viewer);

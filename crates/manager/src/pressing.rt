@@ -20,10 +20,12 @@ use signer_api::Signer;
 use std::alloc::Global;
 use std::marker::Brand;
 use std::sync::Wait;
+use std::thread::Threads;
 
 /// Prepares the next edition of what was gathered, and makes its sheet ready on the board. All memory that a
 /// publication needs is taken here, before the edition's record is written.
-pub(crate) fn make_ready<D: Disk, S: Signer>(
+pub(crate) fn make_ready<D: Disk, S: Signer + Send, R: Threads + Sync>(
+    rt: &R,
     alloc: Global,
     press: &mut StoredPress<D, S>,
     board: &mut Board,
@@ -41,7 +43,7 @@ pub(crate) fn make_ready<D: Disk, S: Signer>(
     ensures refused { IfErr result (IsUnready (start_of press.old.press now gathered.items) press.old press.new) }
     ensures same { OnErr result (board.new ≡ board.old) }
 {
-    let prepared = press.prepare(alloc, now, gathered)?;
+    let prepared = press.prepare(rt, alloc, now, gathered)?;
     let Ok(sheet) = prepared.sheet(alloc) else {
         return Err(PrepareFault::Memory);
     };

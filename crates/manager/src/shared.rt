@@ -1,10 +1,10 @@
 //! Desks and press behind their locks, which sessions share.
-ghost use Rattle.std.specs.Prelude.{◌≡◌, ◌⊎◌, ◌≤◌, List, IfOk, IfErr};
+ghost use Rattle.std.specs.Prelude.{◌≡◌, ◌⊎◌, ◌≤◌, ◌<◌, List, IfOk, IfErr};
 ghost use mathlib.Core.List.{IsPrefix};
 ghost use Rattle.commit_word.specs.Seats.{FollowerSeat};
 ghost use Rattle.notice_board.specs.Lists.{last_serial};
 ghost use Rattle.manager.specs.Passes.{HasLearned};
-ghost use Rattle.manager.specs.Answers.{IsAnswered, IsNotPublished};
+ghost use Rattle.manager.specs.Answers.{IsAnswered, IsBehind, IsNotPublished};
 ghost use Rattle.manager.specs.Publishing.{IsUngathered, IsMetAt};
 
 use crate::{LockedDesks, LockedPress, Names, Pass, PublishFault, Unmade};
@@ -15,6 +15,7 @@ use press_core::PrepareFault;
 use signer_api::Signer;
 use std::alloc::Global;
 use std::sync::{Mutex, MutexGuard, Wait};
+use std::thread::Threads;
 
 /// The desks behind their locks, and the press behind its own. Sessions share it, and each hands its pass to the
 /// calls.
@@ -47,12 +48,20 @@ impl<N: Names, D: Disk, S: Signer, O: Outlet> Manager<N, D, S, O> {
         pass.look()
     }
 
+    /// The desks, and the press out of its lock, once no other thread has them.
+    pub(crate) fn into_parts(self) -> (LockedDesks<N, D>, LockedPress<N, D, S, O>) {
+        let Manager { desks, press } = self;
+        (desks, press.into_inner())
+    }
+}
+
+impl<N: Names, D: Disk, S: Signer + Send, O: Outlet> Manager<N, D, S, O> {
     /// Publishes all that the desks have accepted, which is no less than the pass has seen, and shows it to the
     /// pass. `now` is in seconds since 1970.
     ///
     /// The press's lock is held throughout. Each desk's lock is taken while its commands are gathered and given
     /// back before the next: so a command waits for no signature.
-    pub fn publish<R: Wait>(
+    pub fn publish<R: Threads + Wait + Sync>(
         &self,
         rt: &R,
         alloc: Global,
@@ -61,6 +70,7 @@ impl<N: Names, D: Disk, S: Signer, O: Outlet> Manager<N, D, S, O> {
     ) -> Result<PublishedNumbers, PublishFault<D, O>>
         ensures learned { HasLearned pass.old pass.new }
         ensures published { IfOk result (λ told. IsAnswered told pass.old.seats pass.new.shown) }
+        ensures later { IfOk result (λ told. last_serial pass.old.shown < told.serial) }
         ensures moment { IfOk result (λ told. now ≤ told.moment) }
         ensures refused { IfErr result (IsNotPublished pass.old.seats pass.new.shown) }
         ensures cause { IfErr result (λ fault. IsUngathered fault ⊎ IsMetAt D.Disk now fault) }
@@ -71,8 +81,29 @@ impl<N: Names, D: Disk, S: Signer, O: Outlet> Manager<N, D, S, O> {
         published
     }
 
-    // Publishes with the press, whose lock is held.
-    fn publish_held<R: Wait>(
+    // Publishes with the press, whose lock is held. The pass is told first of what was shown before.
+    fn publish_held<R: Threads + Wait + Sync>(
+        &self,
+        rt: &R,
+        alloc: Global,
+        locked: &mut LockedPress<N, D, S, O>,
+        pass: &mut Pass<N>,
+        now: u64,
+    ) -> Result<PublishedNumbers, PublishFault<D, O>>
+        ensures learned { HasLearned pass.old pass.new }
+        ensures whole { pass.new.shown ≡ locked.new.board.shown }
+        ensures published { IfOk result (λ told. IsAnswered told pass.old.seats pass.new.shown) }
+        ensures later { IfOk result (λ told. last_serial pass.old.shown < told.serial) }
+        ensures moment { IfOk result (λ told. now ≤ told.moment) }
+        ensures refused { IfErr result (IsNotPublished pass.old.seats pass.new.shown) }
+        ensures cause { IfErr result (λ fault. IsUngathered fault ⊎ IsMetAt D.Disk now fault) }
+    {
+        pass.tell(rt, locked);
+        self.gather_and_publish(rt, alloc, locked, pass, now)
+    }
+
+    // Gathers of each desk, and publishes that with the press, whose lock is held.
+    fn gather_and_publish<R: Threads + Wait + Sync>(
         &self,
         rt: &R,
         alloc: Global,
@@ -83,7 +114,7 @@ impl<N: Names, D: Disk, S: Signer, O: Outlet> Manager<N, D, S, O> {
         ensures learned { HasLearned pass.old pass.new }
         ensures whole { pass.new.shown ≡ press.new.board.shown }
         ensures published { IfOk result (λ told. IsAnswered told pass.old.seats pass.new.shown) }
-        ensures moment { IfOk result (λ told. now ≤ told.moment) }
+        ensures behind { IfOk result (IsBehind now press.old.press.press.at) }
         ensures refused { IfErr result (IsNotPublished pass.old.seats pass.new.shown) }
         ensures cause { IfErr result (λ fault. IsUngathered fault ⊎ IsMetAt D.Disk now fault) }
     {
@@ -92,12 +123,6 @@ impl<N: Names, D: Disk, S: Signer, O: Outlet> Manager<N, D, S, O> {
             Err(_) => return Err(ungathered(rt, press, pass)),
         };
         pass.publish(rt, alloc, press, now, gathered)
-    }
-
-    /// The desks, and the press out of its lock, once no other thread has them.
-    pub(crate) fn into_parts(self) -> (LockedDesks<N, D>, LockedPress<N, D, S, O>) {
-        let Manager { desks, press } = self;
-        (desks, press.into_inner())
     }
 }
 

@@ -13,6 +13,7 @@ returns-clause-committed g c =
       at = c.in-Ok.ensures.at;
       site = c.commit.ensures.site;
       ring = c.commit.ensures.ring;
+      ended = c.in-Ok.ensures.ended;
       session = c.commit.ensures.session;
       last_export = c.commit.ensures.last_export;
       files = c.in-Ok.ensures.files;
@@ -21,7 +22,7 @@ returns-clause-committed g c =
       limit = c.commit.ensures.limit;
       later = c.commit.ensures.later;
       told_is = c.in-Ok.ensures.published;
-    }) c.retire_keys.ensures.others c.retire_keys.ensures.kept c.retire_keys.ensures.journal
+    }) c.retire_keys.ensures.others c.retire_keys.ensures.kept c.retire_keys.ensures.dropped c.retire_keys.ensures.journal
 
 pub returns-clause-shown : goal.returns-clause-shown
 returns-clause-shown g c = shown_then c.args.board.now c.show_last.new.board c.commit.new.self.press.at c.args.prepared.edition.next c.in-Ok.ensures.at c.show_last.ensures

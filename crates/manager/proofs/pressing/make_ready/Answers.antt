@@ -13,6 +13,7 @@ returns-in_default-clause-refused g c =
     unready_short (start_of c.args.press.now.press c.args.now c.args.gathered.items) c.args.press.now c.prepare.new.self c.in_ok-prepared.prepared (record {
       edition = c.in_ok-prepared.ensures.prepared;
       kept = c.prepare.ensures.signers;
+      held = c.prepare.ensures.keys;
       same = c.prepare.ensures.kept;
       journal = c.prepare.ensures.journal;
       can = c.in_ok-prepared.ensures.ready;
@@ -23,6 +24,7 @@ returns-then-is_err-clause-refused g c =
     unready_short (start_of c.args.press.now.press c.args.now c.args.gathered.items) c.args.press.now c.prepare.new.self c.in_ok-prepared.prepared (record {
       edition = c.in_ok-prepared.ensures.prepared;
       kept = c.prepare.ensures.signers;
+      held = c.prepare.ensures.keys;
       same = c.prepare.ensures.kept;
       journal = c.prepare.ensures.journal;
       can = c.in_ok-prepared.ensures.ready;

@@ -69,4 +69,4 @@ returns-clause-roas g c =
     subst (λ (l : List Origin). AreShownRoas row l c.new.result) c.as_slice.ensures.value
     (subst (λ (l : List ShownRoa). AreShownRoas row c.as_slice.result.now l) (sym c.new.ensures) c.in_ok-rows.ensures) in
     roas_are c.args.name.now c.origins-origins.new.pass c.row.new.self roas row origins c.in-Some.desk c.row.ensures.rest (named_stays c.commands_are_determined.ensures c.find.new.pass.seats c.origins-origins.new.pass.seats c.args.name.now c.in-Some.desk
-    (c.origins-origins.ensures.more.each anchor_desk).grows (c.desks.ensures.known anchor_desk (omega arith)) c.in-Some.ensures.named) c.in_ok-origins.ensures.origins c.in_ok-row.ensures.row states c.last_seen.ensures
+    (c.origins-origins.ensures.more.each anchor_desk).grows (c.desks.ensures.known anchor_desk (omega arith)) c.in-Some.ensures.named) c.in_ok-origins.ensures.origins c.in_ok-row.ensures.row states c.last_seen.ensures.serial

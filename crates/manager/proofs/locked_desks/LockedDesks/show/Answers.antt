@@ -45,4 +45,4 @@ returns-clause-learned g c = looked_learned c.args.pass.now c.find.new.pass c.fa
 pub returns-clause-shown : goal.returns-clause-shown
 returns-clause-shown g c =
     shown_is c.args.name.now c.family-family.new.pass c.row.new.self _ c.in-Some.desk c.row.ensures.rest (named_stays c.commands_are_determined.ensures c.find.new.pass.seats c.family-family.new.pass.seats c.args.name.now c.in-Some.desk
-    (c.family-family.ensures.more.each anchor_desk).grows (c.desks.ensures.known anchor_desk (omega arith)) c.in-Some.ensures.named) c.in_ok-family.ensures.family c.in_ok-row.ensures.row c.last_seen.ensures
+    (c.family-family.ensures.more.each anchor_desk).grows (c.desks.ensures.known anchor_desk (omega arith)) c.in-Some.ensures.named) c.in_ok-family.ensures.family c.in_ok-row.ensures.row c.last_seen.ensures.serial

@@ -15,35 +15,35 @@ use Rattle.manager.proofs.locked_press.LockedPress.press.Goals as goal
 -- ---- what is asked for
 
 pub make_ready-requires-clause-gathered : goal.make_ready-requires-clause-gathered
-make_ready-requires-clause-gathered g c =
+make_ready-requires-clause-gathered g c = λ lifetimes lives.
     let inside = c.self.inside in
     let groups = c.args.gathered.items in
     let since : Since g.N.Names.named inside.press inside.followers groups = since_inside g.N.Names.named groups _ _ c.self.view_is c.requires in
     asks_gathered g.O.Outlet g.N.Names.named inside.press inside.followers inside.board inside.outlet c.self.invariant c.args.now groups since
 
 pub make_ready-requires-clause-accepted : goal.make_ready-requires-clause-accepted
-make_ready-requires-clause-accepted g c =
+make_ready-requires-clause-accepted g c = λ lifetimes lives.
     let inside = c.self.inside in
     let groups = c.args.gathered.items in
     let since : Since g.N.Names.named inside.press inside.followers groups = since_inside g.N.Names.named groups _ _ c.self.view_is c.requires in
     asks_accepted g.O.Outlet g.N.Names.named inside.press inside.followers inside.board inside.outlet c.self.invariant c.args.now groups since
 
 pub make_ready-requires-clause-live_signers : goal.make_ready-requires-clause-live_signers
-make_ready-requires-clause-live_signers g c =
+make_ready-requires-clause-live_signers g c = λ lifetimes lives.
     let inside = c.self.inside in
     let groups = c.args.gathered.items in
     let since : Since g.N.Names.named inside.press inside.followers groups = since_inside g.N.Names.named groups _ _ c.self.view_is c.requires in
     asks_live g.O.Outlet g.N.Names.named inside.press inside.followers inside.board inside.outlet c.self.invariant c.args.now groups since
 
 pub make_ready-requires-clause-name_signers : goal.make_ready-requires-clause-name_signers
-make_ready-requires-clause-name_signers g c =
+make_ready-requires-clause-name_signers g c = λ lifetimes lives.
     let inside = c.self.inside in
     let groups = c.args.gathered.items in
     let since : Since g.N.Names.named inside.press inside.followers groups = since_inside g.N.Names.named groups _ _ c.self.view_is c.requires in
     asks_names g.O.Outlet g.N.Names.named inside.press inside.followers inside.board inside.outlet c.self.invariant c.args.now groups since c.gathered_commands_go_on.ensures.configs
 
 pub make_ready-requires-clause-serial : goal.make_ready-requires-clause-serial
-make_ready-requires-clause-serial g c =
+make_ready-requires-clause-serial g c = λ lifetimes lives.
     let inside = c.self.inside in
     let groups = c.args.gathered.items in
     let since : Since g.N.Names.named inside.press inside.followers groups = since_inside g.N.Names.named groups _ _ c.self.view_is c.requires in

@@ -1,7 +1,10 @@
-use Rattle.std.proofs.Common.{◌∙◌, sym, ap, subst}
+use Rattle.std.proofs.Common.{◌≤◌, ◌∙◌, ℕ, sym, ap, subst}
 use Rattle.notice_board.specs.Seats.{BoardSeat, ViewerSeat}
+use Rattle.notice_board.specs.Lists.{last_serial}
 use Rattle.manager.specs.Locked.{LockedValue, IsLocked}
 use Rattle.manager.proofs.Kept.{lock}
+use Rattle.manager.proofs.Answered.{shown_serial}
+use Rattle.manager.proofs.Rising.{serial_grows}
 use Rattle.manager.proofs.locked_press.LockedPress.tell.Goals as goal
 
 pub tell-requires : goal.tell-requires
@@ -25,3 +28,12 @@ returns-clause-list g c = ap (λ (v : ViewerSeat). v.list) c.tell.ensures.whole 
 
 pub returns-clause-whole : goal.returns-clause-whole
 returns-clause-whole g c = ap (λ (v : ViewerSeat). v.seen) c.tell.ensures.whole ∙ ap (λ (l : LockedValue _ _). l.board.shown) c.self.view_is
+
+pub returns-clause-not_past : goal.returns-clause-not_past
+returns-clause-not_past g c =
+    let inside = c.self.inside in
+    let old = c.args.viewer.now.seen in
+    let shown = ap (λ (v : ViewerSeat). last_serial v.seen) c.tell.ensures.whole in
+    let stands = shown_serial g.O.Outlet g.N.Names.named inside.press inside.followers inside.board inside.outlet c.self.invariant in
+    let here = ap (λ (l : LockedValue _ _). l.press.press.at.serial) c.self.view_is in
+    subst (λ (n : ℕ). last_serial old ≤ n) (shown ∙ (stands ∙ here)) (serial_grows old c.tell.new.viewer.seen c.tell.ensures.seen c.last_seen.ensures.rises)

@@ -1,56 +1,39 @@
-use Rattle.std.proofs.Common.{◌≤◌, inl}
-use Rattle.std.proofs.lemmas.Result.{IfOk-weaker, IfErr-weaker}
+use Rattle.std.proofs.Common.{◌≤◌, ◌<◌, ap, subst}
+use Rattle.std.specs.Prelude.{IfOk, IfErr}
+use Rattle.std.proofs.lemmas.Result.{IfOk-weaker}
+use Rattle.notice_board.specs.Lists.{last_serial}
+use Rattle.manager.specs.Passes.{PassValue}
+use Rattle.manager.specs.Locked.{LockedValue}
 use Rattle.manager.specs.Answers.{IsAnswered, IsBehind, IsNotPublished}
-use Rattle.manager.proofs.Knowing.{learned_rest, learned_look}
-use Rattle.manager.proofs.Gathering.{seen_less}
-use Rattle.manager.proofs.Publishing.{answered_less, not_published_less, not_before, met_at}
+use Rattle.manager.proofs.Knowing.{look_learned}
+use Rattle.manager.proofs.Publishing.{not_before}
+use Rattle.manager.proofs.Rising.{is_new}
 use Rattle.manager.proofs.shared.Manager.publish_held.Goals as goal
-
--- ---- memory ran out
-
-pub returns-in-Err-clause-learned : goal.returns-in-Err-clause-learned
-returns-in-Err-clause-learned g c =
-    learned_look c.args.pass.now c.gather.new.pass c.ungathered.new.pass
-    (learned_rest c.args.pass.now c.gather.new.pass c.gather.ensures.pass c.gather.ensures.more)
-    c.ungathered.ensures.rest c.ungathered.ensures.grows
-
-pub returns-in-Err-clause-refused : goal.returns-in-Err-clause-refused
-returns-in-Err-clause-refused g c = c.ungathered.ensures.refused c.args.pass.now.seats
-
-pub returns-in-Err-clause-cause : goal.returns-in-Err-clause-cause
-returns-in-Err-clause-cause g c = inl c.ungathered.ensures.cause
-
--- ---- all was gathered
 
 pub returns-clause-learned : goal.returns-clause-learned
 returns-clause-learned g c =
-    learned_look c.args.pass.now c.gather.new.pass c.publish.new.self
-    (learned_rest c.args.pass.now c.gather.new.pass c.gather.ensures.pass c.gather.ensures.more)
-    c.publish.ensures.rest c.publish.ensures.grows
+    look_learned c.args.pass.now c.tell.new.self c.gather_and_publish.new.pass c.tell.ensures.rest c.tell.ensures.grows c.gather_and_publish.ensures.learned
 
 pub returns-clause-published : goal.returns-clause-published
 returns-clause-published g c =
-    let known = c.args.pass.now.seats in
-    let press = c.gather.new.press.seats in
-    let shown = c.publish.new.self.shown in
-    let less = seen_less known c.gather.new.pass.seats press c.gather.ensures.more c.in-Ok.ensures.alike in
-    IfOk-weaker c.publish.result (λ told. IsAnswered told press shown) (λ told. IsAnswered told known shown)
-    (λ told is. answered_less known press shown less told is) c.publish.ensures.published
-
-pub returns-clause-moment : goal.returns-clause-moment
-returns-clause-moment g c =
-    IfOk-weaker c.publish.result (λ told. IsBehind c.args.now c.gather.new.press.press.press.at told) (λ told. c.args.now ≤ told.moment)
-    (λ told is. not_before c.args.now c.gather.new.press.press.press.at told is) c.publish.ensures.behind
+    let shown = c.gather_and_publish.new.pass.shown in
+    subst (λ (p : PassValue). IfOk c.gather_and_publish.result (λ told. IsAnswered told p.seats shown)) c.tell.ensures.rest c.gather_and_publish.ensures.published
 
 pub returns-clause-refused : goal.returns-clause-refused
 returns-clause-refused g c =
-    let known = c.args.pass.now.seats in
-    let press = c.gather.new.press.seats in
-    let shown = c.publish.new.self.shown in
-    let less = seen_less known c.gather.new.pass.seats press c.gather.ensures.more c.in-Ok.ensures.alike in
-    IfErr-weaker c.publish.result (λ fault. IsNotPublished press shown fault) (λ fault. IsNotPublished known shown fault)
-    (λ fault is. not_published_less known press shown less fault is) c.publish.ensures.refused
+    let shown = c.gather_and_publish.new.pass.shown in
+    subst (λ (p : PassValue). IfErr c.gather_and_publish.result (IsNotPublished p.seats shown)) c.tell.ensures.rest c.gather_and_publish.ensures.refused
 
-pub returns-clause-cause : goal.returns-clause-cause
-returns-clause-cause g c =
-    met_at g.D.Disk c.args.now c.gather.new.press.press c.publish.new.press.press c.in-Ok.gathered.items c.publish.result c.publish.ensures.cause
+pub returns-clause-moment : goal.returns-clause-moment
+returns-clause-moment g c =
+    let at = c.tell.new.press.press.press.at in
+    IfOk-weaker c.gather_and_publish.result (IsBehind c.args.now at) (λ told. c.args.now ≤ told.moment)
+    (λ told is. not_before c.args.now at told is) c.gather_and_publish.ensures.behind
+
+pub returns-clause-later : goal.returns-clause-later
+returns-clause-later g c =
+    let at = c.tell.new.press.press.press.at in
+    let seen = last_serial c.args.pass.now.shown in
+    let same = ap (λ (l : LockedValue _ _). l.press.press.at.serial) c.tell.ensures.same in
+    IfOk-weaker c.gather_and_publish.result (IsBehind c.args.now at) (λ told. seen < told.serial)
+    (λ told is. is_new seen c.args.locked.now.press.press.at.serial c.args.now at told same c.tell.ensures.not_past is) c.gather_and_publish.ensures.behind
