@@ -11,18 +11,20 @@ mod script;
 mod store;
 
 use anyhow::{Context, Result};
+use std::alloc::Global;
+use std::thread::Threads;
 
 fn main(rt: HostRuntime) -> Result<()> {
     for line in rt.lines(rt.alloc()) {
-        print_case(&rt, line?.as_str())?;
+        let told = told(&rt, rt.alloc(), line?.as_str())?;
+        println!(rt; "{told}")?;
     }
     Ok(())
 }
 
-/// Prints the answer to the case of a line.
-fn print_case(rt: &HostRuntime, line: &str) -> Result<()> {
+/// The name of a case, and its answer.
+fn told<R: Threads + Sync>(rt: &R, alloc: Global, line: &str) -> Result<String> {
     let (name, steps) = line.split_once('\t').context("a case without steps")?;
-    let answer = script::answer(rt.alloc(), steps).context(format_args!("{name}"))?;
-    println!(rt; "{name}{answer}")?;
-    Ok(())
+    let answer = script::answer(rt, alloc, steps).context(format_args!("{name}"))?;
+    Ok(format!(in alloc; "{name}{answer}")?)
 }

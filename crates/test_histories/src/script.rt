@@ -7,10 +7,11 @@ use authority_book::Command;
 use json_api::{Line, read_line};
 use key_ids::Site;
 use std::alloc::Global;
+use std::thread::Threads;
 use test_support::number_of;
 
 /// What comes of the steps of a case over a new store.
-pub fn answer(alloc: Global, steps: &str) -> Result<String> {
+pub fn answer<R: Threads + Sync>(rt: &R, alloc: Global, steps: &str) -> Result<String> {
     let mut read = Vec::new(alloc);
     for step in steps.split('\t') {
         read.push(step_of(alloc, step)?)?;
@@ -20,7 +21,7 @@ pub fn answer(alloc: Global, steps: &str) -> Result<String> {
         "rsync://rpki.example/repo/",
         "https://rpki.example/rrdp/",
     )?;
-    let done = play(alloc, &site, read.as_slice())?;
+    let done = play(rt, alloc, &site, read.as_slice())?;
     let mut text = String::new(alloc);
     for one in done.as_slice() {
         tell(&mut text, one)?;

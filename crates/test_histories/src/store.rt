@@ -31,6 +31,7 @@ use press_core::{
 };
 use signer_api::Rehearsal;
 use std::alloc::{AllocError, Global};
+use std::thread::Threads;
 
 /// The desk of the trust anchor, which has the names of the tree.
 const ANCHOR: usize = 0;
@@ -46,13 +47,18 @@ pub struct Store {
 }
 
 /// Takes the steps one after another over a new store of that site, and tells what was done: a legal history.
-pub fn play(alloc: Global, site: &Site, steps: &[Step]) -> Result<Vec<Done>>
+pub fn play<R: Threads + Sync>(
+    rt: &R,
+    alloc: Global,
+    site: &Site,
+    steps: &[Step],
+) -> Result<Vec<Done>>
     ensures { IfOk result (λ done. (history : History) × IsLegal site.now history × AreTold done.items history) }
 {
     let mut store = new_store(alloc, site)?;
     let mut done = Vec::new(alloc);
     for step in steps {
-        store = take(alloc, site, store, &mut done, step)?;
+        store = take(rt, alloc, site, store, &mut done, step)?;
     }
     Ok(done)
 }
@@ -67,7 +73,8 @@ fn new_store(alloc: Global, site: &Site) -> Result<Store>
 }
 
 // Takes a step.
-fn take(
+fn take<R: Threads + Sync>(
+    rt: &R,
     alloc: Global,
     site: &Site,
     store: Store,
@@ -87,7 +94,7 @@ fn take(
         }
         Step::Publish { clock } => {
             let mut store = store;
-            publish(alloc, &mut store, done, *clock)?;
+            publish(rt, alloc, &mut store, done, *clock)?;
             Ok(store)
         }
         Step::Stop { pick, limit } => stop(alloc, site, store, done, *pick, limit),
@@ -154,7 +161,13 @@ fn note(done: &mut Vec<Done>, one: Done) -> Result<(), AllocError>
 }
 
 // Publishes what the desks have accepted, at that clock. A refusal leaves what was published.
-fn publish(alloc: Global, store: &mut Store, done: &mut Vec<Done>, clock: u64) -> Result<()>
+fn publish<R: Threads + Sync>(
+    rt: &R,
+    alloc: Global,
+    store: &mut Store,
+    done: &mut Vec<Done>,
+    clock: u64,
+) -> Result<()>
     requires { IsAt store.old.desks.items store.old.press done.old.items }
     ensures at { OnOk result (IsAt store.new.desks.items store.new.press done.new.items) }
     ensures site { OnOk result (store.new.press.press.site ≡ store.old.press.press.site) }
@@ -166,7 +179,7 @@ fn publish(alloc: Global, store: &mut Store, done: &mut Vec<Done>, clock: u64) -
     }
     let gathered = gather(alloc, store)?;
     let _sizes = store.press.press();
-    match store.press.prepare(alloc, clock, gathered) {
+    match store.press.prepare(rt, alloc, clock, gathered) {
         Ok(prepared) => {
             let one = commit(&mut store.press, prepared);
             Ok(note(done, one)?)

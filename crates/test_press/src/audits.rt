@@ -17,17 +17,16 @@ mod print;
 
 use anyhow::{Context, Result};
 use pub_set::ObjectSet;
+use std::alloc::Global;
 use test_support::read_set;
 
-/// Takes the set of a line as the base of the cases behind it, or prints the answer to the case of a line.
-pub fn print_case(rt: &HostRuntime, base: &mut ObjectSet, line: &str) -> Result<()> {
-    let alloc = rt.alloc();
+/// Takes the set of a line as the base of the cases behind it, or answers the case of a line.
+pub fn told(alloc: Global, base: &mut ObjectSet, line: &str) -> Result<Option<String>> {
     let (call, rest) = line.split_once('\t').context("no call")?;
     if call == "base" {
         *base = read_set(alloc, rest)?;
-    } else {
-        let answer = calls::answer(alloc, base, call, rest)?;
-        println!(rt; "{answer}")?;
+        return Ok(None);
     }
-    Ok(())
+    let answer = calls::answer(alloc, base, call, rest)?;
+    Ok(Some(answer))
 }

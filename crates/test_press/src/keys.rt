@@ -17,12 +17,10 @@ fn answer(alloc: Global, fields: &[&str]) -> Result<String> {
     }
 }
 
-/// Prints the answer to the case of a line.
-pub fn print_case(rt: &HostRuntime, line: &str) -> Result<()> {
-    let alloc = rt.alloc();
+/// The name of a case, and its answer.
+pub fn told(alloc: Global, line: &str) -> Result<String> {
     let fields: Vec<&str> = line.split('\t').collect(alloc)?;
     let name = fields.first().copied().unwrap_or("");
     let answer = answer(alloc, &fields)?;
-    println!(rt; "{name}\t{answer}")?;
-    Ok(())
+    Ok(format!(in alloc; "{name}\t{answer}")?)
 }

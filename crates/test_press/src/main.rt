@@ -11,6 +11,8 @@ mod works;
 
 use anyhow::{Result, bail};
 use pub_set::ObjectSet;
+use std::alloc::Global;
+use std::thread::Threads;
 
 fn main(rt: HostRuntime) -> Result<()> {
     let mut part = String::new(rt.alloc());
@@ -22,19 +24,30 @@ fn main(rt: HostRuntime) -> Result<()> {
                 println!(rt; "# {heading}")?;
                 part = String::from_str(rt.alloc(), heading)?;
             }
-            None => print_case(&rt, &mut audited, part.as_str(), line.as_str())?,
+            None => {
+                let told = told(&rt, rt.alloc(), &mut audited, part.as_str(), line.as_str())?;
+                if let Some(told) = told {
+                    println!(rt; "{told}")?;
+                }
+            }
         }
     }
     Ok(())
 }
 
-/// Prints the answer to the case of a line, by the part that it is of. Audits are of the set before them.
-fn print_case(rt: &HostRuntime, audited: &mut ObjectSet, part: &str, line: &str) -> Result<()> {
+/// The name of a case and its answer, by the part that it is of. Audits are of the set before them.
+fn told<R: Threads + Sync>(
+    rt: &R,
+    alloc: Global,
+    audited: &mut ObjectSet,
+    part: &str,
+    line: &str,
+) -> Result<Option<String>> {
     match part {
-        "publications" => publications::print_case(rt, line),
-        "keys" => keys::print_case(rt, line),
-        "works" => works::print_case(rt, line),
-        "audits" => audits::print_case(rt, audited, line),
+        "publications" => Ok(Some(publications::told(rt, alloc, line)?)),
+        "keys" => Ok(Some(keys::told(alloc, line)?)),
+        "works" => Ok(Some(works::told(rt, alloc, line)?)),
+        "audits" => audits::told(alloc, audited, line),
         _ => bail!("no such part: {part}"),
     }
 }

@@ -17,26 +17,25 @@ mod trials;
 
 use anyhow::{Context, Result, bail};
 use std::alloc::Global;
+use std::thread::Threads;
 
 /// The answers to a case: the kind of the signers, the starts, the numbers of calls that fail, and the steps.
-fn answer(alloc: Global, fields: &[&str]) -> Result<String> {
+fn answer<R: Threads + Sync>(rt: &R, alloc: Global, fields: &[&str]) -> Result<String> {
     match fields {
         [_, "Rehearsal", starts, _, steps @ ..] => {
-            steps::answers(alloc, signers::rehearsals(alloc, starts)?, steps)
+            steps::answers(rt, alloc, signers::rehearsals(alloc, starts)?, steps)
         }
         [_, "MemorySigner", start, fails, steps @ ..] => {
-            steps::answers(alloc, signers::in_memory(alloc, start, fails)?, steps)
+            steps::answers(rt, alloc, signers::in_memory(alloc, start, fails)?, steps)
         }
         _ => bail!("no such signers"),
     }
 }
 
-/// Prints the answer to the case of a line.
-pub fn print_case(rt: &HostRuntime, line: &str) -> Result<()> {
-    let alloc = rt.alloc();
+/// The name of a case, and its answers.
+pub fn told<R: Threads + Sync>(rt: &R, alloc: Global, line: &str) -> Result<String> {
     let fields: Vec<&str> = line.split('\t').collect(alloc)?;
     let name = fields.first().copied().unwrap_or("");
-    let answer = answer(alloc, &fields).context(format_args!("{name}"))?;
-    println!(rt; "{name}{answer}")?;
-    Ok(())
+    let answer = answer(rt, alloc, &fields).context(format_args!("{name}"))?;
+    Ok(format!(in alloc; "{name}{answer}")?)
 }

@@ -9,9 +9,10 @@ mod fields;
 use crate::works::answers::SignerCase;
 use anyhow::{Context, Result, bail};
 use std::alloc::Global;
+use std::thread::Threads;
 
 /// The answer to a case: the moment, the ROA's origin or nothing, the live key or nothing, and the signer.
-fn answer(alloc: Global, fields: &[&str]) -> Result<String> {
+fn answer<R: Threads + Sync>(rt: &R, alloc: Global, fields: &[&str]) -> Result<String> {
     match fields {
         [_, moment, origin, live, kind, start, fails, before] => {
             let signer = SignerCase {
@@ -20,18 +21,16 @@ fn answer(alloc: Global, fields: &[&str]) -> Result<String> {
                 fails,
                 before,
             };
-            answers::made(alloc, moment, origin, live, &signer)
+            answers::made(rt, alloc, moment, origin, live, &signer)
         }
         _ => bail!("another number of fields"),
     }
 }
 
-/// Prints the answer to the case of a line.
-pub fn print_case(rt: &HostRuntime, line: &str) -> Result<()> {
-    let alloc = rt.alloc();
+/// The name of a case, and its answer.
+pub fn told<R: Threads + Sync>(rt: &R, alloc: Global, line: &str) -> Result<String> {
     let fields: Vec<&str> = line.split('\t').collect(alloc)?;
     let name = fields.first().copied().unwrap_or("");
-    let answer = answer(alloc, &fields).context(format_args!("{name}"))?;
-    println!(rt; "{name}\t{answer}")?;
-    Ok(())
+    let answer = answer(rt, alloc, &fields).context(format_args!("{name}"))?;
+    Ok(format!(in alloc; "{name}\t{answer}")?)
 }

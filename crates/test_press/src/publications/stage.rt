@@ -6,6 +6,7 @@ use crate::publications::exports::shown;
 use crate::publications::hours;
 use crate::publications::numbered::{adding, removing};
 use crate::publications::shown::{edition_text, fault_text};
+use crate::publications::superseded::Kept;
 use crate::publications::trials::{Edition, Trial};
 use anyhow::{Result, bail};
 use key_ids::Site;
@@ -13,9 +14,11 @@ use outlet_api::MemoryOutlet;
 use signer_api::Signer;
 use signer_ring::Ring;
 use std::alloc::Global;
+use std::thread::Threads;
 use test_support::digest_text;
 
-/// A press, the desks, the repository, the last edition's changes as a text, and an outlet.
+/// A press, the desks, the repository, the last edition's changes as a text, an outlet, and the certificates of the
+/// editions whose CRLs were looked at.
 #[derive(Drop)]
 pub struct Stage<S: Signer> {
     trial: Trial<S>,
@@ -23,6 +26,7 @@ pub struct Stage<S: Signer> {
     site: Site,
     changes: String,
     outlet: MemoryOutlet,
+    kept: Kept,
 }
 
 fn site(alloc: Global) -> Result<Site> {
@@ -33,7 +37,7 @@ fn site(alloc: Global) -> Result<Site> {
     )?)
 }
 
-impl<S: Signer> Stage<S> {
+impl<S: Signer + Send> Stage<S> {
     /// A press of these signers that published nothing, and desks without commands.
     pub fn new(alloc: Global, signers: Vec<S>) -> Result<Stage<S>> {
         if signers.len() > 8 {
@@ -46,6 +50,7 @@ impl<S: Signer> Stage<S> {
             site,
             changes: String::new(alloc),
             outlet: MemoryOutlet::new(alloc, Vec::new(alloc)),
+            kept: Kept::new(alloc),
         })
     }
 
@@ -67,20 +72,47 @@ impl<S: Signer> Stage<S> {
     }
 
     /// Publishes, and tells of the edition, or why there is none.
-    pub fn count(&mut self, alloc: Global, clock: u64) -> Result<String> {
-        match self.trial.publish(alloc, clock, &self.desks)? {
+    pub fn count<R: Threads + Sync>(
+        &mut self,
+        rt: &R,
+        alloc: Global,
+        clock: u64,
+    ) -> Result<String> {
+        match self.trial.publish(rt, alloc, clock, &self.desks)? {
             Ok(edition) => self.edition(alloc, edition),
             Err(fault) => fault_text(alloc, &fault),
         }
     }
 
     /// The same with the digest of the set.
-    pub fn publish(&mut self, alloc: Global, clock: u64) -> Result<String> {
+    pub fn publish<R: Threads + Sync>(
+        &mut self,
+        rt: &R,
+        alloc: Global,
+        clock: u64,
+    ) -> Result<String> {
         let before = self.serial();
-        let mut text = self.count(alloc, clock)?;
+        let mut text = self.count(rt, alloc, clock)?;
         if self.serial() != before {
             let digest = digest_text(alloc, &self.trial.published_state().parts().set)?;
             write!(text, ", {digest}")?;
+        }
+        Ok(text)
+    }
+
+    /// Publishes as `publish` does, and tells how many entries the edition's new CRLs have, too, which are looked at.
+    pub fn listed<R: Threads + Sync>(
+        &mut self,
+        rt: &R,
+        alloc: Global,
+        clock: u64,
+    ) -> Result<String> {
+        let before = self.serial();
+        let mut text = self.publish(rt, alloc, clock)?;
+        if self.serial() != before {
+            let parts = self.trial.published_state().parts();
+            let entries = self.kept.look(alloc, &parts.set, parts.moment)?;
+            write!(text, ", {entries} entries")?;
         }
         Ok(text)
     }
@@ -120,8 +152,14 @@ impl<S: Signer> Stage<S> {
     }
 
     /// So many editions of the trust anchor, one each hour.
-    pub fn hours(&mut self, alloc: Global, count: u64, clock: u64) -> Result<String> {
+    pub fn hours<R: Threads + Sync>(
+        &mut self,
+        rt: &R,
+        alloc: Global,
+        count: u64,
+        clock: u64,
+    ) -> Result<String> {
         let (trial, desks) = (&mut self.trial, &mut self.desks);
-        hours::run(alloc, trial, desks, &self.site, count, clock)
+        hours::run(rt, alloc, trial, desks, &self.site, count, clock)
     }
 }

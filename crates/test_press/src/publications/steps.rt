@@ -4,6 +4,7 @@
 //! - `add COUNT`, `remove COUNT`: the trust anchor's first so many numbered origins;
 //! - `publish CLOCK`: an edition, of which the numbers and the digest of the set are printed;
 //! - `count CLOCK`: the same without the digest;
+//! - `listed CLOCK`: as `publish`, and how many entries the new CRLs have, which are looked at in each edition so far;
 //! - `changes`: the changes of the last edition are printed;
 //! - `outlet NUMBER`: an outlet without a file, of which the call of that number fails;
 //! - `export`: the last edition is exported, and what the outlet shows is printed;
@@ -13,6 +14,7 @@ use crate::publications::stage::Stage;
 use anyhow::{Context, Result, bail};
 use signer_api::Signer;
 use std::alloc::Global;
+use std::thread::Threads;
 use test_support::number_of;
 
 /// A step that is no line with a command.
@@ -22,6 +24,7 @@ enum Step {
     Remove { count: u64 },
     Publish { clock: u64 },
     Count { clock: u64 },
+    Listed { clock: u64 },
     Changes,
     Outlet { fails: u64 },
     Export,
@@ -48,17 +51,23 @@ fn read_one(word: &str, number: u64) -> Result<Step> {
         "remove" => Ok(Step::Remove { count: number }),
         "publish" => Ok(Step::Publish { clock: number }),
         "count" => Ok(Step::Count { clock: number }),
+        "listed" => Ok(Step::Listed { clock: number }),
         "outlet" => Ok(Step::Outlet { fails: number }),
         _ => bail!("no such step: {word}"),
     }
 }
 
 /// What the steps come to, each answer behind a tab.
-pub fn answers<S: Signer>(alloc: Global, signers: Vec<S>, steps: &[&str]) -> Result<String> {
+pub fn answers<S: Signer + Send, R: Threads + Sync>(
+    rt: &R,
+    alloc: Global,
+    signers: Vec<S>,
+    steps: &[&str],
+) -> Result<String> {
     let mut stage = Stage::new(alloc, signers)?;
     let mut text = String::new(alloc);
     for step in steps {
-        let told = told(alloc, &mut stage, step).context(format_args!("{step}"))?;
+        let told = told(rt, alloc, &mut stage, step).context(format_args!("{step}"))?;
         if !told.is_empty() {
             write!(text, "\t{told}")?;
         }
@@ -67,7 +76,12 @@ pub fn answers<S: Signer>(alloc: Global, signers: Vec<S>, steps: &[&str]) -> Res
 }
 
 // What a step comes to, and nothing where it tells nothing.
-fn told<S: Signer>(alloc: Global, stage: &mut Stage<S>, step: &str) -> Result<String> {
+fn told<S: Signer + Send, R: Threads + Sync>(
+    rt: &R,
+    alloc: Global,
+    stage: &mut Stage<S>,
+    step: &str,
+) -> Result<String> {
     if step.starts_with("{") {
         stage.take_line(alloc, step)?;
         return Ok(String::new(alloc));
@@ -76,11 +90,12 @@ fn told<S: Signer>(alloc: Global, stage: &mut Stage<S>, step: &str) -> Result<St
     match read(&words)? {
         Step::Add { count } => stage.add(alloc, count),
         Step::Remove { count } => stage.remove(alloc, count),
-        Step::Publish { clock } => stage.publish(alloc, clock),
-        Step::Count { clock } => stage.count(alloc, clock),
+        Step::Publish { clock } => stage.publish(rt, alloc, clock),
+        Step::Count { clock } => stage.count(rt, alloc, clock),
+        Step::Listed { clock } => stage.listed(rt, alloc, clock),
         Step::Changes => stage.changes(alloc),
         Step::Outlet { fails } => stage.set_outlet(alloc, fails),
         Step::Export => stage.export(alloc),
-        Step::Hours { count, clock } => stage.hours(alloc, count, clock),
+        Step::Hours { count, clock } => stage.hours(rt, alloc, count, clock),
     }
 }

@@ -20,6 +20,7 @@ use signer_api::Signer;
 use signer_ring::Ring;
 use std::alloc::Global;
 use std::marker::Model;
+use std::thread::Threads;
 use uuid::Uuid;
 
 /// The session of the press's files, 00000000-0000-4000-8000-000000000000.
@@ -55,7 +56,7 @@ impl<S: Signer> Model for Trial<S> {
     ghost invariant = { λ trial. length trial.press.press.ring ≡ trial.signers };
 }
 
-impl<S: Signer> Trial<S> {
+impl<S: Signer + Send> Trial<S> {
     /// A press that published nothing, over an empty disk.
     pub fn new(alloc: Global, site: &Site, ring: Ring<S>) -> Result<Trial<S>> {
         let signers = ring.len();
@@ -84,7 +85,13 @@ impl<S: Signer> Trial<S> {
     }
 
     /// Publishes at that clock what the desks accepted.
-    pub fn publish(&mut self, alloc: Global, now: u64, desks: &Desks) -> Result<Told> {
+    pub fn publish<R: Threads + Sync>(
+        &mut self,
+        rt: &R,
+        alloc: Global,
+        now: u64,
+        desks: &Desks,
+    ) -> Result<Told> {
         let at = self.press.press().published_state();
         let gathered = gathered(alloc, at, desks)?;
         if !rows_have_signers(at.parts().rows.as_slice(), self.signers) {
@@ -93,7 +100,7 @@ impl<S: Signer> Trial<S> {
         if !names_have_signers(alloc, at, &gathered, self.signers)? {
             bail!("a name without a signer");
         }
-        let prepared = match self.press.prepare(alloc, now, gathered) {
+        let prepared = match self.press.prepare(rt, alloc, now, gathered) {
             Ok(prepared) => prepared,
             Err(fault) => return Ok(Err(fault)),
         };

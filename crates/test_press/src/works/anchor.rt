@@ -17,6 +17,7 @@ use res_sets::Resources;
 use signer_api::{PublicKey, Signer};
 use signer_ring::Ring;
 use std::alloc::{AllocError, Global};
+use std::thread::Threads;
 
 fn none<T>(alloc: Global) -> Items<T>
     ensures { result ≡ [] }
@@ -121,7 +122,8 @@ fn unused_rows(alloc: Global, live: Option<PublicKey>) -> Result<Vec<KeyRow>, Al
 }
 
 /// Makes the edition, where nothing stands, beside a live key that signed nothing, if there is one.
-pub fn make_anchor<S: Signer>(
+pub fn make_anchor<S: Signer + Send, R: Threads + Sync>(
+    rt: &R,
     alloc: Global,
     moment: u64,
     origins: &[Origin],
@@ -140,5 +142,5 @@ pub fn make_anchor<S: Signer>(
     let work = anchor_work(alloc, moment, held, origins)?;
     let rows = unused_rows(alloc, live)?;
     let issued = Issued { rows: none(alloc) };
-    make(alloc, &work, &rows, names, &issued, site, ring)
+    make(rt, alloc, &work, &rows, names, &issued, site, ring)
 }

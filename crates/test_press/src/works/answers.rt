@@ -20,6 +20,7 @@ use pub_set::Change;
 use signer_api::{Digest, MemorySigner, PublicKey, Rehearsal, Signer};
 use signer_ring::Ring;
 use std::alloc::Global;
+use std::thread::Threads;
 use test_support::{fixed_of, number_of};
 
 /// A signer: its kind, its start, the number of a call that fails or nothing, and how many keys it made before.
@@ -32,7 +33,8 @@ pub struct SignerCase<'a> {
 }
 
 /// What is made of the anchor's work by the signer.
-pub fn made(
+pub fn made<R: Threads + Sync>(
+    rt: &R,
     alloc: Global,
     at: &str,
     origin: &str,
@@ -45,6 +47,7 @@ pub fn made(
     let counted = is_counted(origin);
     if signer.kind == "Rehearsal" {
         return answer(
+            rt,
             alloc,
             moment,
             &origins,
@@ -54,6 +57,7 @@ pub fn made(
         );
     }
     answer(
+        rt,
         alloc,
         moment,
         &origins,
@@ -119,7 +123,8 @@ fn names_of(alloc: Global) -> Result<Vec<NameRow>>
     Ok(names)
 }
 
-fn answer<S: Signer>(
+fn answer<S: Signer + Send, R: Threads + Sync>(
+    rt: &R,
     alloc: Global,
     moment: u64,
     origins: &[Origin],
@@ -138,7 +143,7 @@ fn answer<S: Signer>(
     )?;
     let names = names_of(alloc)?;
     let mut ring = ring_of(alloc, signer)?;
-    match make_anchor(alloc, moment, origins, live, &names, &site, &mut ring) {
+    match make_anchor(rt, alloc, moment, origins, live, &names, &site, &mut ring) {
         Ok(made) if counted => counts_text(alloc, &made),
         Ok(made) => made_text(alloc, &made),
         Err(fault) => fault_text(alloc, fault),

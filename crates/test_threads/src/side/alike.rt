@@ -1,16 +1,16 @@
 //! Jobs at the same time, and the same jobs one by one.
 
 use anyhow::{Result, bail};
-use signer_api::{Digest, PublicKey, Rehearsal};
+use signer_api::{Digest, PublicKey, Rehearsal, Signer};
 use signer_ring::{Ring, SignJob, Signed};
 use std::alloc::Global;
 use std::thread::Threads;
 
 /// How many signers there are at most.
-const MOST_SIGNERS: usize = 8;
+pub const MOST_SIGNERS: usize = 8;
 
 /// So many signers for rehearsals.
-fn signers(alloc: Global, count: u8) -> Result<Ring<Rehearsal>> {
+pub fn rehearsals(alloc: Global, count: u8) -> Result<Ring<Rehearsal>> {
     let mut signers = Vec::new(alloc);
     for start in 0..count {
         signers.push(Rehearsal::new([start; 32]))?;
@@ -42,7 +42,8 @@ fn job_of(keys: &[PublicKey], word: &str, place: u64) -> Result<SignJob> {
     })
 }
 
-fn jobs_of(alloc: Global, keys: &[PublicKey], words: &str) -> Result<Vec<SignJob>> {
+/// The jobs of these words, each over another digest.
+pub fn jobs_of(alloc: Global, keys: &[PublicKey], words: &str) -> Result<Vec<SignJob>> {
     let mut jobs = Vec::new(alloc);
     let mut place = 0;
     for word in words.split(' ') {
@@ -53,7 +54,7 @@ fn jobs_of(alloc: Global, keys: &[PublicKey], words: &str) -> Result<Vec<SignJob
 }
 
 /// Does one job.
-fn do_one(alloc: Global, ring: &mut Ring<Rehearsal>, job: &SignJob) -> Result<Signed> {
+fn do_one<S: Signer>(alloc: Global, ring: &mut Ring<S>, job: &SignJob) -> Result<Signed> {
     match job {
         SignJob::Sign {
             signer,
@@ -71,7 +72,7 @@ fn do_one(alloc: Global, ring: &mut Ring<Rehearsal>, job: &SignJob) -> Result<Si
 }
 
 /// Does the jobs one by one.
-fn do_each(alloc: Global, ring: &mut Ring<Rehearsal>, jobs: &[SignJob]) -> Result<Vec<Signed>> {
+fn do_each<S: Signer>(alloc: Global, ring: &mut Ring<S>, jobs: &[SignJob]) -> Result<Vec<Signed>> {
     let mut answers = Vec::new(alloc);
     for job in jobs {
         answers.push(do_one(alloc, ring, job)?)?;
@@ -79,30 +80,41 @@ fn do_each(alloc: Global, ring: &mut Ring<Rehearsal>, jobs: &[SignJob]) -> Resul
     Ok(answers)
 }
 
+/// The first key of each signer.
+pub fn first_keys<S: Signer>(alloc: Global, ring: &mut Ring<S>) -> Result<Vec<PublicKey>> {
+    let mut keys = Vec::new(alloc);
+    for signer in 0..ring.len() {
+        keys.push(ring.make_key(alloc, signer)?)?;
+    }
+    Ok(keys)
+}
+
+/// Whether the answers are those that the other ring gives one by one.
+pub fn compared<S: Signer>(
+    alloc: Global,
+    answers: &[Signed],
+    apart: &mut Ring<S>,
+    jobs: &[SignJob],
+) -> Result<String> {
+    let same = do_each(alloc, apart, jobs)?;
+    if same.as_slice() == answers {
+        Ok(format!(in alloc; "{} answers, as one by one", answers.len())?)
+    } else {
+        Ok(String::from_str(alloc, "other answers than one by one")?)
+    }
+}
+
 /// What two rings of such signers answer, the one at the same time and the other one by one.
 pub fn alike<R: Threads + Sync>(rt: &R, alloc: Global, count: u8, words: &str) -> Result<String> {
-    let (mut together, mut apart) = (signers(alloc, count)?, signers(alloc, count)?);
-    let mut keys = Vec::new(alloc);
-    for signer in 0..u32::from(count) {
-        let (Ok(key), Ok(same)) = (
-            together.make_key(alloc, signer),
-            apart.make_key(alloc, signer),
-        ) else {
-            bail!("no key");
-        };
-        if key != same {
-            bail!("another key");
-        }
-        keys.push(key)?;
+    let (mut together, mut apart) = (rehearsals(alloc, count)?, rehearsals(alloc, count)?);
+    let keys = first_keys(alloc, &mut together)?;
+    if keys != first_keys(alloc, &mut apart)? {
+        bail!("another key");
     }
     let jobs = jobs_of(alloc, &keys, words)?;
     let copied = Vec::from_slice(alloc, &jobs)?;
-    let answer = match together.for_all(rt, alloc, jobs) {
-        Ok(all) if all == do_each(alloc, &mut apart, &copied)? => {
-            format!(in alloc; "{} answers, as one by one", all.len())?
-        }
-        Ok(_) => String::from_str(alloc, "other answers than one by one")?,
-        Err(fault) => format!(in alloc; "{fault}")?,
-    };
-    Ok(answer)
+    match together.for_all(rt, alloc, jobs) {
+        Ok(all) => compared(alloc, &all, &mut apart, &copied),
+        Err(fault) => Ok(format!(in alloc; "{fault}")?),
+    }
 }

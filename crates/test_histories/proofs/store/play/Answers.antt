@@ -6,7 +6,7 @@ use Rattle.test_histories.specs.Standing.{IsAt}
 use Rattle.test_histories.proofs.store.play.Goals as goal
 
 pub loop-step-init : goal.loop-step-init
-loop-step-init c =
+loop-step-init g c =
     let store = c.in_ok-store.store in
     let empty : c.new-done.result.items ≡ [] = search rules in (
       subst (λ (done : List Done). IsAt store.desks.items store.press done) (sym empty) c.in_ok-store.ensures.at,
@@ -14,6 +14,6 @@ loop-step-init c =
     )
 
 pub returns : goal.returns
-returns c =
+returns g c =
     let at = c.loop-step.invariant.0 in
     (at.history, subst (λ (site : Bases). IsLegal site at.history) c.loop-step.invariant.1 at.legal, at.told)

@@ -11,27 +11,27 @@ use Rattle.test_histories.proofs.Published.{all_desks, whole_cut, within_desks, 
 use Rattle.test_histories.proofs.store.publish.Goals as goal
 
 pub gather-requires-clause-all : goal.gather-requires-clause-all
-gather-requires-clause-all c = all_desks c.args.store.now.desks.items c.args.store.now.press c.args.done.now.items c.requires
+gather-requires-clause-all g c = all_desks c.args.store.now.desks.items c.args.store.now.press c.args.done.now.items c.requires
 
 pub gather-requires-clause-cut : goal.gather-requires-clause-cut
-gather-requires-clause-cut c = whole_cut c.args.store.now.desks.items c.args.store.now.press c.args.done.now.items c.requires
+gather-requires-clause-cut g c = whole_cut c.args.store.now.desks.items c.args.store.now.press c.args.done.now.items c.requires
 
 pub gather-requires-clause-within : goal.gather-requires-clause-within
-gather-requires-clause-within c = within_desks c.args.store.now.desks.items c.args.store.now.press c.args.done.now.items c.requires
+gather-requires-clause-within g c = within_desks c.args.store.now.desks.items c.args.store.now.press c.args.done.now.items c.requires
 
 pub prepare-requires-clause-gathered : goal.prepare-requires-clause-gathered
-prepare-requires-clause-gathered c =
+prepare-requires-clause-gathered g c = λ lifetimes lives.
     gathered c.args.store.now.desks.items c.args.store.now.press c.args.done.now.items c.requires c.in_ok-gathered.gathered.items c.in_ok-gathered.ensures
 
 pub prepare-requires-clause-accepted : goal.prepare-requires-clause-accepted
-prepare-requires-clause-accepted c =
+prepare-requires-clause-accepted g c = λ lifetimes lives.
     accepted c.args.store.now.desks.items c.args.store.now.press c.args.done.now.items c.requires c.in_ok-gathered.gathered.items c.in_ok-gathered.ensures
 
 pub prepare-requires-clause-live_signers : goal.prepare-requires-clause-live_signers
-prepare-requires-clause-live_signers c = live_rows c.args.store.now.desks.items c.args.store.now.press c.args.done.now.items c.requires
+prepare-requires-clause-live_signers g c = λ lifetimes lives. live_rows c.args.store.now.desks.items c.args.store.now.press c.args.done.now.items c.requires
 
 pub prepare-requires-clause-name_signers : goal.prepare-requires-clause-name_signers
-prepare-requires-clause-name_signers c =
+prepare-requires-clause-name_signers g c = λ lifetimes lives.
     let desks = c.args.store.now.desks.items in
     let press = c.args.store.now.press in
     let done = c.args.done.now.items in
@@ -43,7 +43,7 @@ prepare-requires-clause-name_signers c =
     names_signed desks press done c.requires c.in_ok-gathered.gathered.items c.in_ok-gathered.ensures anchor there signed
 
 pub returns-in_ok-note-in-Ok-clause-at : goal.returns-in_ok-note-in-Ok-clause-at
-returns-in_ok-note-in-Ok-clause-at c =
+returns-in_ok-note-in-Ok-clause-at g c =
     let desks = c.args.store.now.desks.items in
     let press = c.args.store.now.press in
     let done = c.args.done.now.items in
@@ -60,7 +60,7 @@ returns-in_ok-note-in-Ok-clause-at c =
     mid.press.ring c.in-Ok.prepared made.prepared mid like site sizes made.ready one new c.commit-one.ensures)
 
 pub returns-in_ok-note-in-Ok-clause-site : goal.returns-in_ok-note-in-Ok-clause-site
-returns-in_ok-note-in-Ok-clause-site c =
+returns-in_ok-note-in-Ok-clause-site g c =
     let desks = c.args.store.now.desks.items in
     let press = c.args.store.now.press in
     let done = c.args.done.now.items in
@@ -74,7 +74,7 @@ returns-in_ok-note-in-Ok-clause-site c =
     mid.press.ring c.in-Ok.prepared made.prepared mid like site sizes made.ready c.commit-one.result c.commit-one.new.press c.commit-one.ensures
 
 pub returns-in_ok-note-in-Err-clause-at : goal.returns-in_ok-note-in-Err-clause-at
-returns-in_ok-note-in-Err-clause-at c =
+returns-in_ok-note-in-Err-clause-at g c =
     let desks = c.args.store.now.desks.items in
     let press = c.args.store.now.press in
     let done = c.args.done.now.items in

@@ -7,7 +7,7 @@ use Rattle.test_press.proofs.Distinct.{none-twice}
 use Rattle.test_press.proofs.works.answers.answer.Goals as goal
 
 pub make_anchor-requires-clause-apart : goal.make_anchor-requires-clause-apart
-make_anchor-requires-clause-apart g c =
+make_anchor-requires-clause-apart g c = λ lifetimes lives.
     let site = c.in_ok-site.site in
     let name : List ℕ = name_at c.deref.result.now 0 in
     let is : IsName name = subst (λ (l : List NameRow). IsName (name_at l 0)) (sym c.deref.ensures.value) c.in_ok-names.ensures.name in
