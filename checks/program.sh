@@ -33,7 +33,7 @@ expect() {
     fi
 }
 
-usage='krillc: usage: krillc run|audit [--rsync URI] [--rrdp URI]
+usage='krillc: usage: krillc run|audit|workload --number N [--rsync URI] [--rrdp URI]
 '
 : >input
 expect 0 'krillc 0.1.0
@@ -52,6 +52,15 @@ expect 0 "$(cat help)
 " '' run --help
 expect 0 "$(cat help)
 " '' audit --help
+expect 0 "$(cat help)
+" '' workload --help
+# A workload makes a tree, in a new store alone.
+expect 0 '{"authorities":1,"commands":4,"objects":70,"origins":64,"serial":1}
+{"authorities":1,"commands":5,"objects":70,"origins":64,"serial":2}
+' '' workload --number 1
+expect 3 '' 'krillc: opening refused: NotEmpty desk 0 held 3
+' workload --number=1
+rm -r krill-data
 for status in 0 2 3 4 5 6; do
     grep -q "^    $status  " help || { echo "checks/program: --help doesn't list status $status"; failed=1; }
 done

@@ -7,4 +7,4 @@ top=$(cd "$(dirname "$0")/.." && pwd)
 program=$top/crates/test_press/out/test_press
 [ -x "$program" ] || { echo "checks/rollovers: crates/test_press isn't built, skipped"; exit 0; }
 command -v python3 >/dev/null || { echo "checks/rollovers: python3 is missing, skipped"; exit 0; }
-python3 "$top/checks/rollovers.py" "$program"
+python3 -B "$top/checks/rollovers.py" "$program"

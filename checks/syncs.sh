@@ -197,6 +197,8 @@ placed() {
 }
 for serial in 1 2 3; do
     placed "repo/S/$serial/snapshot.xml" "repo/S/$serial" repo/S repo
+    # A delta is shorter than what stands, since what fits isn't made anew. The session's earlier ones are there.
+    [ "$serial" = 1 ] || placed "repo/S/$serial/delta.xml" "repo/S/$serial" repo/S repo
     for file in ta.cer ta.tal notification.xml; do placed "repo/$file" repo; done
     [ "$serial" = 3 ] && echo "remove repo/S/1/snapshot.xml"
     echo published
@@ -221,10 +223,10 @@ fails_at() {
         exit 1
     }
 }
-# Of each of the three exports there are four renames, and in the last one a removal. The first removal of a run is of what
-# an audit may have left.
-for nth in 1 2 4 8 9 12; do fails_at rename "$nth"; done
+# Of the first of the three exports there are four renames, of each other one, which has a delta, five, and in the last one
+# a removal. The first removal of a run is of what an audit may have left.
+for nth in 1 2 4 6 9 10 11 14; do fails_at rename "$nth"; done
 fails_at unlink 2
 # Each file's sync, and each time that of the repository's folder.
-for nth in 1 2 7 8 17 24; do fails_at fsync "$nth" -P "$here/krill-data/repo" -P "$here/krill-data/repo/.draft"; done
+for nth in 1 2 7 8 11 21 28; do fails_at fsync "$nth" -P "$here/krill-data/repo" -P "$here/krill-data/repo/.draft"; done
 echo "checks/syncs: ok"

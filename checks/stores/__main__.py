@@ -28,14 +28,16 @@ def update(ca, add=(), remove=()):
 
 
 def editions():
-    """The lines of each edition. The last one withdraws what the first one put, and all revoke."""
+    """The lines of each edition. The last one withdraws what the first one put, and all behind it revoke, for each authority:
+    what fits isn't made anew, so that both have to change."""
     yield [{"command": "add", "ca": "isp", "signer": 0},
            {"command": "children add", "ca": "ta", "child": "isp", "resources": {"ipv4": "10.0.0.0/8"}},
            {"command": "parents add", "ca": "isp", "parent": "ta"},
            update("isp", [f"10.0.{third}.0/24 => 64496" for third in (1, 2, 3)]),
+           update("isp", ["10.0.8.0/24 => 64496"]),
            update("ta", ["192.0.2.0/24 => 1", "192.0.3.0/24 => 1"])]
-    yield [update("ta", ["192.0.4.0/24 => 1"])]
-    yield [update("ta", [], ["192.0.2.0/24 => 1"])]
+    yield [update("ta", ["192.0.4.0/24 => 1"]), update("isp", ["10.0.9.0/24 => 64496"])]
+    yield [update("ta", [], ["192.0.2.0/24 => 1"]), update("isp", [], [f"10.0.{third}.0/24 => 64496" for third in (8, 9)])]
 
 
 def run(words, lines=(), **more):

@@ -48,10 +48,12 @@ def of_bytes(press):
     yield bytes_harm("it ends within the last head", lambda it: it[:last + 5], damaged(last))
     yield bytes_harm("it ends before the last gate", lambda it: it[:last], damaged(last))
     yield bytes_harm("the last gate is open", lambda it: it[:-1] + b"\x01", damaged(len(content) - 1))
-    yield bytes_harm("a length above all bytes", lambda it: it[:last + 1] + b"\xff" * 8 + it[last + 9:], damaged(last))
-    yield bytes_harm("a length above the bytes that are left",
-                     lambda it: it[:last + 8] + bytes([it[last + 8] ^ 1 | 1]) + it[last + 9:] if it[last + 8] % 2 == 0
-                     else it[:last + 7] + bytes([it[last + 7] + 1]) + it[last + 8:], damaged(last))
+    length = len(press.editions[-1].bytes())
+    # A byte is left behind the last record, its gate: where that is taken in, no gate stands behind it.
+    for name, other, told in (("above all bytes", 2**64 - 1, last), ("above the bytes that are left", length + 2, last),
+                              ("that takes the last gate in", length + 1, len(content))):
+        yield bytes_harm(f"a length {name}", lambda it, other=other: it[:last + 1] + other.to_bytes(8, "big") + it[last + 9:],
+                         damaged(told))
     yield bytes_harm("its store's record alone is left, cut", lambda it: it[:store - 1], damaged(len(HEADER)))
     yield bytes_harm("18 bytes that are none of it", lambda it: b"\x00" * 18, damaged(0))
 
@@ -287,14 +289,15 @@ def of_set(press):
         yield press_harm(f"set: {len(more)} that nothing lists",
                          lambda press, more=more: [add_change(press.editions[-1], uri, stands[roa]) for uri in more],
                          f"Unreached uri {more[0].decode()}")
-    yield from of_moments(press, anchor, min(uri for uri in stands if uri.endswith(b".mft") and b"/ta/" in uri))
+    yield from of_moments(press, min(uri for uri in stands if uri.endswith(b".mft") and b"/ta/" in uri))
 
 
-def of_moments(press, anchor, manifest):
-    """The last edition's moment is another one: the set is audited at that one."""
+def of_moments(press, manifest):
+    """The last edition's moment is another one: the set is audited at that one. The anchor's certificate is an earlier
+    edition's, its manifest is the last one's."""
     last = press.editions[-1].moment
     for moment, told in ((last + 86400, None), (last + 86401, f"Refused uri {manifest.decode()} rule Time"),
-                         (last - 1, f"Refused uri {anchor.decode()} rule Time")):
+                         (last - 1, f"Refused uri {manifest.decode()} rule Time")):
         yield press_harm(f"set: at {moment - last} seconds",
                          lambda press, moment=moment: move(press.editions[-1], moment), told)
 
