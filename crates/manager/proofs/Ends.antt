@@ -1,9 +1,11 @@
 -- What desks and press come to, once no other thread has them.
+use Rattle.std.specs.Prelude.{Bool, Result}
 use Rattle.std.proofs.Common.{◌≡◌, ℕ, ◌≤◌, List, [], length, get_or, sym, ◌∙◌, subst, arith}
 use Rattle.std.proofs.lemmas.Option.{slice_get_within, get_or_from_slice_get}
 use mathlib.Core.List.{IsPrefix}
 use Rattle.disk_api.specs.declared.disk.Disk.{Ghosts as DiskGhosts}
 use Rattle.outlet_api.specs.declared.outlet.Outlet.{Ghosts as OutletGhosts}
+use Rattle.outlet_api.specs.declared.exports.ExportFault.{ExportFault}
 use Rattle.signer_api.specs.State.{SignerState}
 use Rattle.authority_book.specs.declared.commands.Command.{Command}
 use Rattle.commit_word.specs.Seats.{FollowerSeat}
@@ -15,6 +17,7 @@ use Rattle.manager.specs.Lists.{AreSeen, seat_at}
 use Rattle.manager.specs.Passes.{KnowsMore}
 use Rattle.manager.specs.Locked.{LockedValue}
 use Rattle.manager.specs.Closing.{IsClosed}
+use Rattle.manager.specs.Answers.{IsRepeated}
 use Rattle.manager.specs.Ended.{IsAllMade, AreEnded}
 use Rattle.manager.specs.Ends.{IsHeld, HaveSeen, AreEnds}
 use Rattle.manager.specs.inner.Gathering.{SeeAlike}
@@ -54,10 +57,10 @@ module _ {D : Type 0} (signers : ℕ) (lists : List (List Command)) (seats : Lis
       let within = taken place in
       omega (arith, long, more, within)
 
-pub ends_are : {D O : Type 0} (disk_of : DiskGhosts D) (outlet_of : OutletGhosts O) (named : Named) (locked : LockedValue D O) (shown : List ShownEdition) (desks : List (View D)) (disk : D) (ring : List SignerState) (outlet : O)
+pub ends_are : {D O : Type 0} (disk_of : DiskGhosts D) (outlet_of : OutletGhosts O) (named : Named) (locked : LockedValue D O) (shown : List ShownEdition) (desks : List (View D)) (disk : D) (ring : List SignerState) (outlet : O) (repeated : Result Bool (ExportFault O))
     → IsClosed disk_of outlet_of named locked → IsPrefix shown locked.board.shown → HaveSeen locked.seats desks → disk ≡ locked.press.journal.disk → ring ≡ locked.press.press.ring → outlet ≡ locked.outlet
-    → AreEnds disk_of outlet_of named shown desks disk ring outlet
-ends_are disk_of outlet_of named locked shown desks disk ring outlet closed told begin disk_is ring_is outlet_is =
+    → IsRepeated locked.press.press.last_export locked.press.press.at.serial repeated → AreEnds disk_of outlet_of named shown desks disk ring outlet repeated
+ends_are disk_of outlet_of named locked shown desks disk ring outlet repeated closed told begin disk_is ring_is outlet_is again =
     let is = closed.is.is in
     let hold = held (length named.signers) closed.is.lists locked.seats desks is.seen begin in
     record {
@@ -66,6 +69,7 @@ ends_are disk_of outlet_of named locked shown desks disk ring outlet closed told
       disk_is = disk_is;
       ring_is = ring_is;
       outlet_is = outlet_is;
+      exported = again;
       shown = told;
       seen = begin;
       stands = hold locked.press.press.at.cut is.made.left.taken_in;

@@ -25,3 +25,7 @@ pub mod Publishing
 pub mod Ends
 pub mod Starting
 pub mod Rising
+pub mod Looking
+pub mod Sharing
+pub mod Counting
+pub mod GoingOn

@@ -1,6 +1,6 @@
 -- What a publication answers.
 use Rattle.std.specs.Prelude.{◌≡◌, ◌≤◌, ◌+◌, ◌==◌, ◌||◌, ℕ, Bool, true, false, List, [], ◌∷◌, ◌++◌}
-use Rattle.std.specs.Prelude.{Option, None, Some, IfSome, IsSome, length}
+use Rattle.std.specs.Prelude.{Option, None, Some, IfSome, IsSome, Result, Ok, Err, length}
 use Rattle.disk_api.specs.declared.disk.Disk.{Ghosts as DiskGhosts}
 use Rattle.commit_word.specs.Seats.{FollowerSeat}
 use Rattle.gate_journal.specs.View as journal
@@ -124,3 +124,9 @@ IsExportLeft last serial (refused.Unmade standing fault) =
     IfSome (nothing_behind fault) (λ behind. is_exported last serial ≡ true)
 IsExportLeft last serial (refused.Repeated standing fault) = last ≡ Done serial
 IsExportLeft last serial (refused.Unexported standing fault) = last ≡ Failed
+
+-- In the end the last edition is brought to the outlet, or is there already; or it can't be.
+abbrev pub IsRepeated : {E : Type 0} → LastExport → ℕ → Result Bool E → Type 0
+IsRepeated last serial (Ok true) = last ≡ Done serial
+IsRepeated last serial (Ok false) = is_exported last serial ≡ true
+IsRepeated last serial (Err fault) = last ≡ Failed

@@ -1,8 +1,9 @@
 -- What desks and press come to, once no other thread has them.
-use Rattle.std.specs.Prelude.{◌≡◌, ◌≤◌, ℕ, List, Some, All, length, slice_get}
+use Rattle.std.specs.Prelude.{◌≡◌, ◌≤◌, ℕ, Bool, List, Some, Result, All, length, slice_get}
 use mathlib.Core.List.{IsPrefix}
 use Rattle.disk_api.specs.declared.disk.Disk.{Ghosts as DiskGhosts}
 use Rattle.outlet_api.specs.declared.outlet.Outlet.{Ghosts as OutletGhosts}
+use Rattle.outlet_api.specs.declared.exports.ExportFault.{ExportFault}
 use Rattle.signer_api.specs.State.{SignerState}
 use Rattle.commit_word.specs.Seats.{FollowerSeat}
 use Rattle.desk_core.specs.View.{View}
@@ -12,6 +13,7 @@ use Rattle.manager.specs.Named.{Named}
 use Rattle.manager.specs.Lists.{seat_at}
 use Rattle.manager.specs.Locked.{LockedValue, IsInDoubt}
 use Rattle.manager.specs.Closing.{IsClosed}
+use Rattle.manager.specs.Answers.{IsRepeated}
 
 -- This cut takes in no more commands of a desk than the desk has.
 abbrev pub IsHeld : {D : Type 0} → List (View D) → List ℕ → Type 0
@@ -23,18 +25,20 @@ abbrev pub HaveSeen : {D : Type 0} → List FollowerSeat → List (View D) → T
 HaveSeen {D = D} seats desks = (place : ℕ) (desk : View D) → slice_get desks place ≡ Some desk
     → IsPrefix (seat_at seats place).seen desk.records
 
--- The press stood so behind its lock, and its disk holds what it held then. The lists over which its
--- editions were made are what the desks' lists begin with; the editions that were seen are among those
--- that it showed, which are the one found last and those of this run. So neither the edition that
--- stands nor any other of this run takes in a command that its desk hasn't, and so of one in doubt.
+-- The press stood so behind its lock, and its disk holds what it held then. The lists over which
+-- its editions were made are what the desks' lists begin with; the editions that were seen are
+-- among those that it showed, which are the one found last and those of this run. So neither the
+-- edition that stands nor any other of this run takes in a command that its desk hasn't, and so
+-- of one in doubt. The last edition was brought to the outlet, before or now, or couldn't be.
 pub record AreEnds {D O : Type 0} (disk_of : DiskGhosts D) (outlet_of : OutletGhosts O)
     (named : Named) (viewed : List ShownEdition) (desks : List (View D)) (disk : D)
-    (ring : List SignerState) (outlet : O) : Type 0 where
+    (ring : List SignerState) (outlet : O) (repeated : Result Bool (ExportFault O)) : Type 0 where
   pub locked : LockedValue D O
   pub closed : IsClosed disk_of outlet_of named locked
   pub disk_is : disk ≡ locked.press.journal.disk
   pub ring_is : ring ≡ locked.press.press.ring
   pub outlet_is : outlet ≡ locked.outlet
+  pub exported : IsRepeated locked.press.press.last_export locked.press.press.at.serial repeated
   pub shown : IsPrefix viewed locked.board.shown
   pub seen : HaveSeen locked.seats desks
   pub stands : IsHeld desks locked.press.press.at.cut

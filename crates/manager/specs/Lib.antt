@@ -14,4 +14,7 @@ pub mod Ended
 pub mod Publishing
 pub mod Ends
 pub mod Starting
+pub mod Awaiting
+pub mod Sharing
+pub mod Resumed
 pub mod inner

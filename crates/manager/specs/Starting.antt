@@ -4,6 +4,7 @@ use Rattle.atomic_table.specs.Seated.{TableId}
 use Rattle.commit_word.specs.Seats.{FollowerSeat}
 use Rattle.authority_book.specs.Verdict.{most_authorities}
 use Rattle.desk_core.specs.Counted.{CountedView, follower_seat_of}
+use Rattle.desk_core.specs.View.{View}
 use Rattle.manager.specs.Named.{Named}
 use Rattle.manager.specs.Lists.{seat_at, IsListed}
 use Rattle.manager.specs.Passes.{PassValue}
@@ -41,3 +42,14 @@ pub record IsFirstPass (named : Named) (pass : PassValue) : Type 0 where
       → (seat_at pass.seats desk).recovered ≡ length (get_or named.records desk [])
   pub none : (desk : ℕ) → (seat_at pass.seats desk).mine ≡ []
   pub places : pass.places ≡ first_places
+
+-- These are the desks, each with a word that begins to count at the records that were found there.
+pub record IsCounted {D : Type 0} (desk : View D) (counted : CountedView D) : Type 0 where
+  pub desk_is : counted.desk ≡ desk
+  pub recovered : counted.recovered ≡ length desk.records
+
+abbrev pub AreCounted : {D : Type 0} → List (View D) → List (CountedView D) → Type 0
+AreCounted [] [] = ⊤
+AreCounted [] (one ∷ counted) = ⊥
+AreCounted (desk ∷ desks) [] = ⊥
+AreCounted (desk ∷ desks) (one ∷ counted) = IsCounted desk one × AreCounted desks counted

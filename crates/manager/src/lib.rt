@@ -4,6 +4,7 @@
 //! contracts what was found when the store was opened.
 #![tactic(auto)]
 
+mod awaiting;
 mod followers;
 mod locked_desk;
 mod locked_desks;
@@ -18,12 +19,16 @@ mod passes;
 mod passes_seats;
 mod pressing;
 mod publish_fault;
+mod ready_store;
+mod resumed;
 mod rounds;
 mod shared;
 mod shared_closing;
+mod shared_passes;
 mod shared_starting;
 mod words;
 
+pub use awaiting::Awaited;
 pub use followers::Followers;
 pub use locked_desk::LockedDesk;
 pub use locked_desks::LockedDesks;
@@ -37,6 +42,10 @@ pub use opened_desk::OpenedDesk;
 pub use passes::Pass;
 pub use passes_seats::DeskSeat;
 pub use publish_fault::{PublishFault, Unmade};
+pub use ready_store::{ReadyStore, UnreadyStore, make_store_ready};
+pub use resumed::resumed_presses_are_opened;
 pub use shared::Manager;
+pub use shared_closing::ClosedStore;
+pub use shared_passes::MOST_SESSIONS;
 pub use shared_starting::{OpenedStore, UnstartedStore, start};
 pub use words::Words;

@@ -10,7 +10,7 @@ ghost use Rattle.editions.specs.Edition.{cut_at};
 ghost use Rattle.notice_board.specs.Lists.{last_serial};
 ghost use Rattle.manager.specs.Gathered.{IsSince, AreSince};
 ghost use Rattle.manager.specs.Answers.{IsAnswered, IsShownTo, IsNotPublished, IsUnexported, nothing_behind, is_of, is_exported};
-ghost use Rattle.manager.specs.Answers.{IsBehind, IsUnmadeFor, IsMetBy, IsFaultOf, IsExportLeft};
+ghost use Rattle.manager.specs.Answers.{IsBehind, IsUnmadeFor, IsMetBy, IsFaultOf, IsExportLeft, IsRepeated};
 ghost use Rattle.press_core.specs.PrepareInput.{start_of};
 ghost use Rattle.manager.specs.Locked.{IsLocked};
 ghost use Rattle.manager.specs.Pressing.{exported_as};
@@ -237,6 +237,22 @@ impl<N: Names, D: Disk, S: Signer, O: Outlet> LockedPress<N, D, S, O> {
     {
         more_editions_stay_shown();
         self.press.export_to(alloc, &mut self.outlet)
+    }
+
+    /// Brings the last edition to the outlet, where it isn't there, and answers whether that was so.
+    pub fn repeat_export(&mut self, alloc: Global) -> Result<bool, ExportFault<O>>
+        ensures seats { self.new.seats ≡ self.old.seats }
+        ensures board { self.new.board ≡ self.old.board }
+        ensures press { self.new.press ≡ exported_as self.new.press.press.last_export self.old.press }
+        ensures repeated { IsRepeated self.new.press.press.last_export self.new.press.press.at.serial result }
+    {
+        if self.is_exported() {
+            return Ok(false);
+        }
+        match self.export(alloc) {
+            Ok(()) => Ok(true),
+            Err(fault) => Err(fault),
+        }
     }
 
     /// The parts, once no other thread has the press.

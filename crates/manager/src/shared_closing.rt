@@ -7,14 +7,25 @@ ghost use Rattle.manager.specs.Ends.{AreEnds};
 use crate::{Closed, Manager, Names, Pass};
 use desk_core::Desk;
 use disk_api::Disk;
-use outlet_api::Outlet;
+use outlet_api::{ExportFault, Outlet};
 use signer_api::Signer;
+use signer_ring::Ring;
 use std::alloc::Global;
 use std::sync::Wait;
 
+/// What is left of a store beside its desks: the press's disk, the signers and the outlet; and whether the last edition
+/// had to be brought to the outlet in the end, or why it couldn't be.
+#[derive(Drop)]
+pub struct ClosedStore<D: Disk, S: Signer, O: Outlet> {
+    pub disk: D,
+    pub ring: Ring<S>,
+    pub outlet: O,
+    pub repeated: Result<bool, ExportFault<O>>,
+}
+
 impl<N: Names, D: Disk, S: Signer, O: Outlet> Manager<N, D, S, O> {
     /// Puts the desks into an empty list with room for them, by their numbers, and hands back what the press had.
-    /// The pass is the one that all others were joined into.
+    /// Where the last export failed it is repeated first. The pass is the one that all others were joined into.
     ///
     /// It waits for ever where a pass is missing that made a command.
     pub fn close<R: Wait>(
@@ -23,11 +34,11 @@ impl<N: Names, D: Disk, S: Signer, O: Outlet> Manager<N, D, S, O> {
         alloc: Global,
         pass: Pass<N>,
         into: &mut Vec<Desk<D>>,
-    ) -> Closed<N, D, S, O>
+    ) -> ClosedStore<D, S, O>
         requires empty { into.old.items ≡ [] }
         requires room { most_authorities ≤ vec_capacity into.old }
         ensures ended { AreEnded pass.seats into.new.items }
-        ensures ends { AreEnds D.Disk O.Outlet N.named pass.shown into.new.items result.disk result.ring result.outlet }
+        ensures ends { AreEnds D.Disk O.Outlet N.named pass.shown into.new.items result.disk result.ring result.outlet result.repeated }
     {
         let (desks, press) = self.into_parts();
         let mut press = press;
@@ -35,6 +46,18 @@ impl<N: Names, D: Disk, S: Signer, O: Outlet> Manager<N, D, S, O> {
         desks.learn_all(rt, alloc, &mut press, &mut pass);
         pass.tell(rt, &mut press);
         desks.close(rt, alloc, pass, into);
-        press.close(rt)
+        let repeated = press.repeat_export(alloc);
+        let Closed {
+            disk,
+            ring,
+            outlet,
+            ..
+        } = press.close(rt);
+        ClosedStore {
+            disk,
+            ring,
+            outlet,
+            repeated,
+        }
     }
 }

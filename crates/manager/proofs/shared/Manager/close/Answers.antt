@@ -1,6 +1,7 @@
 use Rattle.std.proofs.Common.{List, sym, ap, subst}
 use mathlib.Core.List.{IsPrefix}
 use Rattle.commit_word.specs.Seats.{FollowerSeat}
+use Rattle.notice_board.specs.Seats.{BoardSeat}
 use Rattle.notice_board.specs.declared.shown.ShownEdition.{ShownEdition}
 use Rattle.manager.specs.Passes.{PassValue}
 use Rattle.manager.specs.Ended.{AreEnded}
@@ -18,14 +19,18 @@ returns-clause-ended g c =
 pub returns-clause-ends : goal.returns-clause-ends
 returns-clause-ends g c =
     let pass = c.learn_all.new.pass in
-    let locked = c.tell.new.press in
-    let kept = c.close-2.ensures in
+    let told = c.tell.new.press in
+    let locked = c.repeat_export-repeated.new.self in
+    let again = c.repeat_export-repeated.ensures in
+    let kept = c.close-disk.ensures in
     let seats = ap (λ (p : PassValue). p.seats) c.tell.ensures.rest in
     let press = sym c.tell.ensures.same in
     let alike = subst (λ (l : LockedValue _ _). SeeAlike l.seats pass.seats) press c.learn_all.ensures.alike in
+    let same = subst (λ (s : List FollowerSeat). SeeAlike s pass.seats) (sym again.seats) alike in
     let ended = subst (λ (s : List FollowerSeat). AreEnded s c.close.new.into.items) seats c.close.ensures in
     let begins = subst (λ (p : PassValue). IsPrefix p.shown c.tell.new.self.shown) c.learn_all.ensures.pass c.tell.ensures.grows in
     let whole = subst (λ (s : List ShownEdition). IsPrefix c.args.pass.shown s) c.tell.ensures.whole begins in
-    let told = subst (λ (l : LockedValue _ _). IsPrefix c.args.pass.shown l.board.shown) press whole in
-    ends_are g.D.Disk g.O.Outlet g.N.Names.named locked c.args.pass.shown c.close.new.into.items _ _ _ kept.closed told
-    (they_begin locked.seats pass.seats c.close.new.into.items alike ended) kept.disk kept.ring kept.outlet
+    let shown = subst (λ (l : LockedValue _ _). IsPrefix c.args.pass.shown l.board.shown) press whole in
+    let viewed = subst (λ (b : BoardSeat). IsPrefix c.args.pass.shown b.shown) (sym again.board) shown in
+    ends_are g.D.Disk g.O.Outlet g.N.Names.named locked c.args.pass.shown c.close.new.into.items _ _ _ _ kept.closed viewed
+    (they_begin locked.seats pass.seats c.close.new.into.items same ended) kept.disk kept.ring kept.outlet again.repeated
