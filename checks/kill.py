@@ -7,16 +7,22 @@ heard. The first turns have one authority, then there are more and more of them,
 latest one that was acknowledged, or its successor where the reply to a publication wasn't heard; `audit` has to tell
 it, and each start audits what stands. After some kills a start has to publish what is there. Then the files of two runs over the same lines are
 compared.
-Usage: kill.py PROGRAM KILLS, KILLS being how many turns there are at least."""
+
+With a SIGNER that program keeps the keys beside the store all the while, of up to 8 authorities, and openssl judges what is
+published at the end: each object of it, and that they yield just the anchor's origins.
+Usage: kill.py PROGRAM KILLS [SIGNER], KILLS being how many turns there are at least."""
 import json, os, random, subprocess, sys, tempfile, time
 
 KRILLC = os.path.abspath(sys.argv[1])
 TURNS, ALONE = int(sys.argv[2]), 10
-MOST_NAMES = 64
+SIGNER = os.path.abspath(sys.argv[3]) if len(sys.argv) > 3 else None
+MOST_NAMES = 8 if SIGNER else 64
+# The longest time after which a start is killed, in seconds. A signer's part of a publication takes some.
+LONGEST = 1.0 if SIGNER else 0.1
 # So many turns lie between two starts that publish.
 PUBLISHED_EACH = 5
 PUBLISH = {"command": "publish"}
-random.seed(7)
+random.seed(int(os.environ.get("SEED", 7)))
 
 
 def text(line):
@@ -95,7 +101,7 @@ def killed_turn(folder, lines):
     if random.randrange(2):
         heard += [program.stdout.readline() for _ in range(random.randrange(12))]
     else:
-        time.sleep(random.random() * 0.1)
+        time.sleep(random.random() * LONGEST)
     program.kill()
     heard += program.stdout.read().splitlines(keepends=True)
     program.wait()
@@ -174,7 +180,7 @@ def publishes_next(folder, serial):
 
 
 def kills(folder):
-    """Gives how many kills there were, and how many editions."""
+    """Gives how many kills there were, how many editions, and the histories at the end."""
     histories, lines, cut, turn, serial = {"ta": []}, Lines(), 0, 0, 0
     # on a machine that is busy a turn gets less done, and it takes more of them until all authorities are there
     while turn < TURNS or len(histories) < MOST_NAMES and turn < 10 * TURNS:
@@ -192,7 +198,46 @@ def kills(folder):
         turn += 1
     if len(histories) != MOST_NAMES or cut < TURNS / 4:
         sys.exit(f"checks/kill: {len(histories)} authorities, and {cut} turns cut short")
-    return turn, cut, serial
+    return turn, cut, serial, histories
+
+
+def start_signer(folder):
+    """Starts the signer beside the store, whose pipes have to stand before krillc starts."""
+    path = os.path.join(folder, "krill-data", "signer-0")
+    os.makedirs(os.path.dirname(path))
+    for end in (".in", ".out"):
+        os.mkfifo(path + end, 0o600)
+    return subprocess.Popen([sys.executable, SIGNER, "--keys", os.path.join(folder, "keys"), "--pool", "4", "--fifos", path])
+
+
+def judge(folder, histories):
+    """Publishes once more, lets openssl judge every object, and gives how many these are. The anchor alone holds
+    something."""
+    sys.dont_write_bytecode = True
+    sys.path.append(os.path.join(os.path.dirname(os.path.abspath(__file__)), "validators"))
+    import by_openssl, parties, repository
+
+    last = update("ta", 0)
+    _, published = ask(folder, [last, PUBLISH])
+    if published.get("reply") != "published":
+        sys.exit(f"checks/kill: the last edition: {published}")
+    exported = repository.read_exported(os.path.join(folder, "krill-data", "repo"))
+    found = by_openssl.look(exported, os.path.join(folder, "judged"), published["moment"])
+    origins = {origin for line in [*histories["ta"], last] for origin in line.get("add", [])}
+    if found.complaints or found.payloads != {*map(parties.payload_of_origin, origins)}:
+        wrong = f"{len(found.payloads)} of {len(origins)} origins and {found.complaints[:3]}"
+        sys.exit(f"checks/kill: openssl has of the last edition {wrong}")
+    return len(exported.objects)
+
+
+def kills_beside_signer(folder):
+    signer = start_signer(folder)
+    try:
+        *counts, histories = kills(folder)
+        return *counts, f", with a signer, and {judge(folder, histories)} objects at the end that openssl takes"
+    finally:
+        signer.kill()
+        signer.wait()
 
 
 def files_of(lines):
@@ -212,13 +257,13 @@ def files_of(lines):
 
 def main():
     with tempfile.TemporaryDirectory(dir=".") as folder:
-        turns, cut, serial = kills(folder)
+        turns, cut, serial, beside = kills_beside_signer(folder) if SIGNER else (*kills(folder)[:3], "")
     lines = [{"command": "add", "ca": "a1", "signer": 0}]
     lines += [update(("ta", "a1")[number % 2], number) for number in range(20)]
     lines += [dict(line, add=[], remove=line["add"]) for line in lines[1:7]]
     if files_of(lines) != files_of(lines):
         sys.exit("checks/kill: two runs over the same lines left different files")
-    print(f"checks/kill: ok, {turns} kills, {cut} of them before all was answered, {serial} editions")
+    print(f"checks/kill: ok, {turns} kills, {cut} of them before all was answered, {serial} editions{beside}")
 
 
 main()

@@ -1,11 +1,11 @@
 #!/bin/sh
 # Threads share a word, and then a notice board, for some seconds each, as many as there are processors: one bumps the
 # word, or shows sheets, and the others look, by each call in turn, until they find the last count or sheet. The
-# races end by themselves. Skipped where the program isn't built (rt run in crates/test_threads builds it).
+# races end by themselves. The program is built where it is missing; skipped where there is no rt for that.
 set -eu
 top=$(cd "$(dirname "$0")/.." && pwd)
-program=$top/crates/test_threads/out/test_threads
-[ -x "$program" ] || { echo "checks/races: crates/test_threads isn't built, skipped"; exit 0; }
+program=$(sh "$top/checks/built" test_threads)
+[ -n "$program" ] || { echo "checks/races: test_threads isn't built, skipped"; exit 0; }
 processors=$(nproc 2>/dev/null || getconf _NPROCESSORS_ONLN)
 readers=$((processors > 1 ? processors - 1 : 1))
 scratch=$(mktemp -d)

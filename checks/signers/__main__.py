@@ -1,8 +1,8 @@
 """Tries signer/krill-signer: what it answers, what openssl says of it, what outlives a kill, and what it refuses; Krill's
 own side of the lines with it, where a second program is named: crates/test_signers over the signer's FIFOs; and krillc
-beside it, where a third one is.
+beside signers, where a third one is.
 
-Krill's side and the signer are killed in turn, ROUNDS times each, at random moments, and started again.
+Krill's side and signers are killed in turn, ROUNDS times each, at random moments, and started again.
 
 Usage: python3 checks/signers ROUNDS SIGNER TEST_SIGNERS KRILLC, in a scratch folder. '-' stands for a program that isn't
 there."""
@@ -11,7 +11,7 @@ import sys
 # The folder stays as it is.
 sys.dont_write_bytecode = True
 
-import alone, calls, daemon
+import alone, calls, daemon, kills, together
 from parts import CALLER, KRILLC, ROUNDS
 
 
@@ -21,9 +21,10 @@ def main():
         calls.try_all()
         said.append(f"Krill's side met it, {ROUNDS} kills of each")
     if KRILLC:
-        seen = daemon.try_all()
-        said.append(f"krillc met it, {ROUNDS} kills of each, {seen}")
-    print(f"checks/signer: ok ({made} keys outlived kills; {'; '.join(said) or 'Krill is not built, skipped'})")
+        said += [f"krillc: {daemon.try_all()}", together.try_all()]
+        said.append(f"krillc and two signers, {ROUNDS} kills of each side: {kills.kill_publications()}")
+    tried = "; ".join([f"{made} keys outlived kills", *said])
+    print(f"checks/signer: ok ({tried})")
 
 
 main()

@@ -9,10 +9,10 @@ OTHER = hashlib.sha256(b"something else").hexdigest()
 KEY_INFO = "30820122300d06092a864886f70d01010105000382010f00"
 KEY = "(3082010a0282010100[89a-f][0-9a-f]{511}0203010001)"
 # The pool of signers that are killed with what they are asked.
-POOL = ("--pool", "4")
+POOL = ("--pool", "2")
 # Every program that was started. None outlives the trials.
 STARTED = []
-random.seed(5)
+random.seed(int(os.environ.get("SEED", 5)))
 
 
 def fail(text):
