@@ -4,6 +4,7 @@ import fcntl
 import json
 import os
 import re
+import shutil
 import subprocess
 import sys
 import tempfile
@@ -124,6 +125,7 @@ def main():
             check(failed, f"{name}: standard error", ran.stderr, error)
         round_trip(failed, run, scratch)
         health(failed, run)
+        first_to_end(failed, run, scratch)
         completes(failed, run)
         busy(failed, run, scratch, krillc)
         waits(failed, run, scratch)
@@ -143,13 +145,17 @@ def round_trip(failed, run, scratch):
         check(failed, f"export and import as {form}", ran.stderr, "0 to add, 0 to remove, 2 stay.\n")
 
 
+def gauges(text):
+    return dict(re.findall(r"^(\w+(?:\{[^}]*\})?) (-?\d+)$", text, re.M))
+
+
 def health(failed, run):
     """The gauges are those of the edition that was published, and are read back as Prometheus does."""
     text = run("status", "--prometheus").stdout
     line = re.compile(r'# (HELP|TYPE) \w+ .+|(\w+)(\{\w+="[^"]*"(,\w+="[^"]*")*\})? (-?\d+)')
     for each in text.splitlines():
         check(failed, "status --prometheus", each, line)
-    values = dict(re.findall(r"^(\w+(?:\{[^}]*\})?) (-?\d+)$", text, re.M))
+    values = gauges(text)
     check(failed, "krill_serial", values.get("krill_serial"), "1")
     check(failed, "krill_authorities", values.get("krill_authorities"), "2")
     age = int(values.get("krill_edition_age_seconds", -1))
@@ -159,6 +165,40 @@ def health(failed, run):
           [f'krill_journal_bytes{{journal="{it}"}}' for it in ("desk-00", "desk-01", "press")])
     check(failed, "the limit of the editions", values.get('krill_journal_limit_bytes{journal="press"}'), str(2**30))
     check(failed, "status --format json", json.loads(run("--format", "json", "status").stdout)["serial"], 1)
+
+
+def first_to_end(failed, run, scratch):
+    """A point that stays ends before the newer one of the anchor: the gauges go by it, and it has the number that it had."""
+    store, aside = os.path.join(scratch, "older"), os.path.join(scratch, "aside")
+    os.mkdir(store)
+
+    def krill(*words):
+        ran = run("--store", store, *words)
+        check(failed, f"an older point: {' '.join(words)}", ran.returncode, 0)
+        return ran.stdout
+
+    def points(*words):
+        return [(it["number"], it["uri"].split("/")[4]) for it in json.loads(krill("--format", "json", "points", *words))]
+
+    for words in (["init"], ["add", "--ca", "isp"], ["children", "add", "--ca", "ta", "--child", "isp", "--ipv4", "10.0.0.0/8"],
+                  ["parents", "add", "--ca", "isp", "--parent", "ta"]):
+        krill(*words)
+    check(failed, "points before the first edition", krill("points"), "")
+    with open(os.path.join(scratch, "settings"), "w", encoding="ascii") as file:
+        file.write("KRILL_CLOCK_BEHIND=3600\n")
+    krill("publish")
+    os.remove(os.path.join(scratch, "settings"))
+    shutil.copytree(os.path.join(store, "krill-data", "repo"), aside)
+    krill("roas", "update", "--ca", "ta", "--add", "192.0.2.0/24 => 5")
+    krill("publish")
+    values = {name: int(value) for name, value in gauges(krill("status", "--prometheus")).items()}
+    left = values["krill_edition_left_seconds"]
+    check(failed, "an older point: the age", 0 <= values["krill_edition_age_seconds"] < 600, True)
+    check(failed, "an older point: what is left", 82800 - 600 < left <= 82800, True)
+    check(failed, "an older point: when it's due", values["krill_edition_due_seconds"], left - 8 * 3600)
+    check(failed, "the points, the first to end at first", points(), [(1, "isp"), (2, "ta")])
+    check(failed, "the points that aren't above", points("--not-above", aside), [(1, "isp")])
+    check(failed, "no edition to compare with", run("--store", store, "points", "--not-above", scratch).returncode, 2)
 
 
 def completes(failed, run):

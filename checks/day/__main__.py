@@ -191,12 +191,14 @@ class Day:
         self.look("and the command is taken")
 
     def restore(self):
-        """A backup, an edition behind it that everybody sees, and a desk that is spoiled."""
-        backup = f"{WORK}/backup"
+        """A backup, editions behind it that everybody sees, and a desk that is spoiled."""
+        backup, aside = f"{WORK}/backup", f"{WORK}/aside"
         self.registry.back_up(backup)
-        self.registry.update("isp", ["10.14.0.0/24 => 64496"])
-        self.registry.must_publish()
-        lost = self.look("an edition behind the backup")
+        lost = ["10.14.0.0/24 => 64496", "10.15.0.0/24 => 64496"]
+        for text in lost:
+            self.registry.update("isp", [text])
+            self.registry.must_publish()
+        last = self.look("editions behind the backup")
         with open(f"{DATA}/desk-01", "r+b") as file:
             # The length of its first record: docs/journal.md.
             file.seek(17)
@@ -206,17 +208,30 @@ class Day:
         for name in ("nginx", "rsyncd", "unpack"):
             self.registry.stop_server(name)
         self.registry.stop_signer()
-        self.registry.restore(backup, f"{WORK}/aside")
+        self.registry.restore(backup, aside)
         self.registry.start_signer()
         found = self.registry.audit()
-        self.expect("the backup is put in its place, and opens", found["serial"] < lost, found)
-        self.registry.krill("roas", "update", "--ca", "isp", "--add", "10.14.0.0/24 => 64496")
-        while looks.serial() <= lost:
-            self.registry.send('{"command":"roas update","ca":"ta"}\n{"command":"publish"}\n')
+        self.expect("the backup is put in its place, and opens", found["serial"] < last, found)
+        self.give_again(lost, last, f"{aside}/repo")
         self.registry.start_servers()
         self.registry.start_unpack()
         time.sleep(2)
-        self.look("restored, the lost command given again, the serial above the lost one")
+        self.look("restored, the lost commands given again, serial and points above the lost ones")
+
+    def give_again(self, lost, last, seen):
+        """As docs/operations.md has it: editions up to the last serial, the lost commands, new keys below the anchor."""
+        krill = self.registry.krill
+        while looks.serial() < last:
+            self.registry.send('{"command":"roas update","ca":"ta"}\n{"command":"publish"}\n')
+        self.registry.update("isp", lost)
+        self.registry.must_publish()
+        said = krill("points", "--not-above", seen)
+        self.expect("the lost commands alone leave isp's manifest where relying parties were", "/isp/" in said, said)
+        for word in ("suspend", "unsuspend"):
+            krill("children", word, "--ca", "ta", "--child", "isp")
+            self.registry.must_publish()
+        said = krill("points", "--not-above", seen)
+        self.expect("with a new key of isp no manifest is at or below one that was seen", said == "", said)
 
     def withdraw(self):
         """The origin goes, and the false announcement comes back as one of which nothing is known."""

@@ -145,7 +145,7 @@ class Registry:
 
     @staticmethod
     def restore(of, aside):
-        run("sh", "-ec", f"mkdir -p {aside}; cd {DATA}; mv press desk-* {aside}; cp -a {of}/krill-data/* .")
+        run("sh", "-ec", f"mkdir -p {aside}; cd {DATA}; mv press desk-* repo {aside}; cp -a {of}/krill-data/* .")
 
     def audit(self):
         """krillc audit, as the store's user, with the service's bases."""

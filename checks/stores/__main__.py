@@ -3,7 +3,7 @@
 The store is made by the program. Its files are then read and changed here, one change at a time, by the pages on the
 journal, on formats and on opening; the refusal that each has to get is computed here too. A store that is refused keeps
 its bytes, and each harm begins from the files as they were made.
-Then a store is copied while the program runs, as docs/operations.md says, and each copy has to open. And stores without
+Then the press's file is filled, and has room for an edition or not. Then a store is copied while the program runs, as docs/operations.md says, and each copy has to open. And stores without
 editions are audited, which leaves them as they are.
 Usage: python3 checks/stores PROGRAM, in a scratch folder."""
 import copy, json, os, random, subprocess, sys
@@ -13,6 +13,7 @@ sys.dont_write_bytecode = True
 
 from audits import try_audits
 from copies import try_copies
+from full import try_full
 from harms import all_harms
 from journal import Press
 
@@ -107,6 +108,9 @@ def main():
         sys.exit("checks/stores: the store as it was made opens otherwise than before")
     if wrong:
         sys.exit(f"checks/stores: {len(wrong)} of {len(harms)} harmed stores open otherwise than they have to")
+    wrong, full = try_full(KRILLC, "full", kept)
+    if wrong:
+        sys.exit(f"checks/stores: {wrong}")
     wrong, told = try_copies(KRILLC, "copies")
     if wrong:
         sys.exit(f"checks/stores: {wrong}")
@@ -115,7 +119,7 @@ def main():
         print(f"checks/stores: {it}")
     if wrong:
         sys.exit(f"checks/stores: {len(wrong)} of {audited} stores without editions are otherwise behind an audit")
-    print(f"checks/stores: ok, {len(harms)} harmed stores; {told}; {audited} stores without editions audited")
+    print(f"checks/stores: ok, {len(harms)} harmed stores; {full}; {told}; {audited} stores without editions audited")
 
 
 main()

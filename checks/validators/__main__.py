@@ -1,6 +1,6 @@
 """Debian's relying parties and openssl over what krillc exports, offline and by RRDP over TLS on loopback.
 
-Usage: python3 checks/validators [WORD..|--limits], as root. A word takes the samples whose names have it; without one
+Usage: python3 checks/validators [--limits] [WORD..], as root. A word takes the samples whose names have it; without one
 all are tried. --limits tells what relying parties do at their limits, and judges nothing. KRILLC=PROGRAM takes another
 program than crates/krillc/out/krillc. Everything goes on in namespaces of its own, without a network. Ends with the
 table of docs/relying-parties.md. Status 0: no object was refused and no payload differs; 1: one was or did; 3:
@@ -180,8 +180,8 @@ def main(words):
     signal.signal(signal.SIGTERM, lambda *_: sys.exit(ENDED_BY_SIGTERM))
     with tempfile.TemporaryDirectory(prefix="validators-") as scratch:
         server = start_server(scratch)
-        if words == [LIMITS]:
-            try_limits(KRILLC, server, scratch)
+        if words[:1] == [LIMITS]:
+            try_limits(KRILLC, server, scratch, words[1:])
             return 0
         chosen = [it for it in SAMPLES if not words or any(word in it.name for word in words)]
         results = try_all(chosen, server, scratch)

@@ -1,17 +1,16 @@
 """What relying parties do at their limits: chains that are too long, an edition whose moment hasn't come yet, the new trust
 anchor of a store that lost its editions, and a store that was restored from an older copy. What they do there is told and
 not judged."""
-import dataclasses, os, shutil, time
+import dataclasses, functools, os, shutil, time
 
 import parties
 from program import Program
 from repository import read_exported
-from samples import PUBLISH, authority, chain, edition, update
+from samples import PUBLISH, authority, chain, edition, on_child, update
 
 LONG_CHAIN = 40
-# Editions that follow each other at once are each of a second more, whatever the clock says: so many seconds are
-# wanted, within so many editions.
-AHEAD, BURST = 8, 40
+# By how many seconds krillc's clock is ahead.
+AHEAD = 600
 
 
 def wait_until(moment):
@@ -20,17 +19,17 @@ def wait_until(moment):
         time.sleep(0.05)
 
 
-def look_at_all(exported, server, folder):
+def look_at_all(exported, server, folder, ways=("offline", "RRDP")):
     """Each relying party's name and way, and what it finds."""
     server.asked = []
     for party in parties.PARTIES:
-        for way in ("offline", "RRDP"):
+        for way in ways:
             look = parties.look_offline if way == "offline" else parties.look_online
             yield f"{party.name} {way}", look(party, exported, os.path.join(folder, f"{party.package}-{way}"))
 
 
 def tell(who, text, found):
-    print(f"  {who}: {text}")
+    print(f"  {who}: {text}", flush=True)
     for line in found.complaints[:3]:
         print(f"    {line}")
 
@@ -55,30 +54,18 @@ def depths(krillc, server, folder):
 
 def clocks(krillc, server, folder):
     """What each finds of an edition whose moment is still to come, with the one before in its folder."""
-    program = Program(krillc, os.path.join(folder, "krill"), 1)
+    program = Program(krillc, os.path.join(folder, "krill"), 1, is_late=True)
     try:
-        first = edition([*authority("ta", "isp", ipv4="10.0.0.0/8"), update("isp", ["10.0.0.0/16 => 1"])], [])
-        reply = [program.ask(line) for line in first.lines][-1]
-        server.folder = program.repository
-        wait_until(reply["moment"])
-        [*look_at_all(read_exported(program.repository), server, folder)]
-        look_ahead(program, server, folder)
+        look(published(program, server, first_edition()), server, folder, 1, "the first edition")
+        program.set_late(-AHEAD)
+        reply = [program.ask(line) for line in next_edition(1)][-1]
+        exported = read_exported(program.repository)
+        for who, found in look_at_all(exported, server, folder):
+            ahead = reply["moment"] - time.time()
+            tell(who, f"{len(found.payloads)} of 2 payloads, {ahead:.0f} seconds before the moment", found)
         program.close()
     finally:
         program.kill()
-
-
-def look_ahead(program, server, folder):
-    """Publishes until the moment is ahead of the clock, and looks at once. On a busy machine it never is."""
-    for number in range(BURST):
-        for line in edition([update("isp", [f"10.{number + 1}.0.0/16 => 1"])], []).lines:
-            reply = program.ask(line)
-        if reply["moment"] - time.time() > AHEAD:
-            break
-    exported = read_exported(program.repository)
-    for who, found in look_at_all(exported, server, folder):
-        ahead = reply["moment"] - time.time()
-        tell(who, f"{len(found.payloads)} of {number + 2} payloads, {ahead:.1f} seconds before the moment", found)
 
 
 def first_edition():
@@ -119,34 +106,70 @@ def losses(krillc, server, folder):
         program.kill()
 
 
-def restores(krillc, server, folder):
-    """What each finds of a store that is restored from a copy of its first edition, after it has seen a third one: in the
-    next editions, up to one with the serial of the one that was seen, and the one behind it."""
+# An update that changes nothing: it makes an edition.
+EMPTY = [update("ta"), PUBLISH]
+# The authority below the anchor loses its keys, and gets new ones.
+ANEW = [[on_child("suspend", "ta", "isp"), PUBLISH], [on_child("unsuspend", "ta", "isp"), PUBLISH]]
+# What is done behind the restore of a copy of serial 1, where serial 3 was handed out: the lines of each edition, and whether it
+# is handed out too. isp's manifest had the number 3 then.
+RESTORED = {
+    "as it comes": [(next_edition(number), True) for number in (11, 12, 13)],
+    "the serial above, isp's manifest below": [(next_edition(11), False), (EMPTY, False), (EMPTY, True)],
+    "the serial above, isp's manifest has the number that was seen": [*((next_edition(it), False) for it in (11, 12)), (EMPTY, True)],
+    "the serial above, isp has a new key": [
+        (EMPTY, False), (EMPTY, False), ([update("ta", ["192.0.2.0/24 => 1"]), *next_edition(11)[:1], *ANEW[0]], False), (ANEW[1], True)],
+}
+
+
+def payloads_of(program):
+    return {parties.payload_of_origin(it) for it in program.published_origins()}
+
+
+def compared(found, wanted, seen):
+    """Which payloads were found: those that stand now, or those that were seen before the restore."""
+    for name, which in (("all that stands", wanted), ("what was seen before the restore", seen)):
+        if found == which:
+            return name
+    return f"{len(found & wanted)} of {len(wanted)} that stand, and {len(found - wanted)} that don't"
+
+
+def restore(krillc, server, folder, steps):
+    """What each finds of a store that is restored from a copy of its first edition, after it has seen a third one."""
     program = Program(krillc, os.path.join(folder, "krill"), 1)
     copy = os.path.join(folder, "copy")
     try:
         published(program, server, first_edition())
         shutil.copytree(program.data, copy, ignore=shutil.ignore_patterns("signer-*", "repo"))
         for number in (1, 2):
-            seen = published(program, server, next_edition(number))
-        look(seen, server, folder, 3, f"serial {seen.serial}")
+            exported = published(program, server, next_edition(number))
+        seen = payloads_of(program)
+        for who, found in look_at_all(exported, server, folder, ["RRDP"]):
+            tell(who, f"serial {exported.serial}: {compared(found.payloads, seen, None)}", found)
         program.close()
         shutil.copytree(copy, program.data, dirs_exist_ok=True)
         program.start()
-        for number in (11, 12, 13):
-            found = published(program, server, next_edition(number))
-            look(found, server, folder, number - 9, f"serial {found.serial} behind a copy of serial 1")
+        for lines, is_handed_out in steps:
+            exported = published(program, server, lines)
+            wanted = payloads_of(program)
+            for who, found in look_at_all(exported, server, folder, ["RRDP"] if is_handed_out else []):
+                tell(who, f"serial {exported.serial} behind the restore: {compared(found.payloads, wanted, seen)}", found)
         program.close()
     finally:
         program.kill()
 
 
-def try_limits(krillc, server, folder):
-    print(f"a chain of {LONG_CHAIN} authorities")
-    depths(krillc, server, os.path.join(folder, "depths"))
-    print("an edition whose moment is still to come")
-    clocks(krillc, server, os.path.join(folder, "clocks"))
-    print("a store that has lost its editions, by the locator from before")
-    losses(krillc, server, os.path.join(folder, "losses"))
-    print("a store that was restored from an older copy")
-    restores(krillc, server, os.path.join(folder, "restores"))
+def plays():
+    """Each play's name, and what it does."""
+    yield f"a chain of {LONG_CHAIN} authorities", depths
+    yield "an edition whose moment is still to come", clocks
+    yield "a store that has lost its editions, by the locator from before", losses
+    for name, steps in RESTORED.items():
+        yield f"a store that was restored from an older copy: {name}", functools.partial(restore, steps=steps)
+
+
+def try_limits(krillc, server, folder, chosen):
+    """Those whose names have one of the words, or all."""
+    for number, (name, play) in enumerate(plays()):
+        if not chosen or any(word in name for word in chosen):
+            print(name, flush=True)
+            play(krillc, server, os.path.join(folder, str(number)))

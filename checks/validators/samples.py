@@ -219,5 +219,5 @@ def one_after_another(count):
 SAMPLES = [
     spoiled_roa(), *EXAMPLES, no_origins(), families_and_maxima(), odd_resources(), long_names(), two_signers(),
     same_origin_twice(), chain(8), many_children(40), shrinking_grants(), deletion(), rolled_keys(),
-    one_after_another(5), many_origins(1024),
+    one_after_another(20), many_origins(1024),
 ]

@@ -1,9 +1,10 @@
 """What each command sends, and how its reply is shown."""
 import json
+import os
 import sys
 import time
 
-from . import completing, explain, health, origins, tables
+from . import completing, explain, health, origins, points, tables
 from .store import DONE, REFUSED, REHEARSAL, StoreFault
 
 
@@ -221,6 +222,22 @@ def status(store, asked):
         print(json.dumps(found.as_json()))
     else:
         print(found.text(), end="")
+    return DONE
+
+
+def list_points(store, asked):
+    """Prints the exported publication points, those that end first at first. It needs the files alone."""
+    store.require()
+    found = sorted(points.exported(os.path.join(store.data, "repo")).points, key=lambda it: (it.ends, it.uri))
+    if asked.not_above is not None:
+        seen = {it.uri: it.number for it in points.exported(asked.not_above).points}
+        if not seen:
+            raise Unusable(f"{asked.not_above}: no edition stands there")
+        found = [it for it in found if it.number <= seen.get(it.uri, 0)]
+    if asked.format == "json":
+        print(json.dumps([vars(it) for it in found]))
+    elif found:
+        print(tables.points(found), end="")
     return DONE
 
 

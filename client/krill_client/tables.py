@@ -77,6 +77,10 @@ def audited(found):
     return f"Edition {found['serial']} of {moment_text(found['moment'])} is sound: {', '.join(counted(*it) for it in counts)}.\n"
 
 
+def points(found):
+    return table(["NUMBER", "ENDS", "MANIFEST"], [[it.number, moment_text(it.ends), it.uri] for it in found])
+
+
 def accepted(reply):
     return f"Accepted: command {reply['count']} of {reply['authority']}.\n"
 

@@ -52,7 +52,8 @@ def parser(found=None):
     leaf(words, "audit", commands.audit, "audit the last edition as relying parties do, and export it again")
     leaf(words, "serial", commands.serial, "print the serial of the last edition")
     leaf(words, "watch", commands.watch, "show authorities, origins and the edition as they change", *watch_options())
-    leaf(words, "status", commands.status, "tell the edition's age, and how full the journals are", prometheus)
+    leaf(words, "status", commands.status, "tell the edition's age, when it is due and ends, and how full the journals are", prometheus)
+    leaf(words, "points", commands.list_points, "list the exported manifests, with their numbers and when they end", not_above)
     leaf(words, "completion", commands.completion, "print the completion of these words for bash")
     return top
 
@@ -127,6 +128,10 @@ def watch_options():
 
 def prometheus(made):
     made.add_argument("--prometheus", action="store_true", help="as gauges for a node exporter's text file")
+
+
+def not_above(made):
+    made.add_argument("--not-above", metavar="REPO", help="only those with no greater number than in REPO, an export from before")
 
 
 def main(words=None):
