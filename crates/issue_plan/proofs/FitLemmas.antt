@@ -23,7 +23,7 @@ use Rattle.issue_plan.specs.declared.anew.Standing.{Standing}
 use Rattle.issue_plan.specs.declared.live.LiveKey.{LiveKey}
 use Rattle.issue_plan.specs.Keys.{id_of, is_live}
 use Rattle.issue_plan.specs.Wanted.{PlanInput, Certificate, Roa, Point}
-use Rattle.issue_plan.specs.Serves.{is_point, serves_certificate, serves_roa, serves_point}
+use Rattle.issue_plan.specs.Serves.{is_for, is_point, serves_certificate, serves_roa, serves_point}
 use Rattle.issue_plan.specs.Fits as fits
 use Rattle.issue_plan.specs.Fits.{live_row, row_at, is_place, certificate_place_by, roa_place_by, all_certificates, all_roas, stays_at, same_files, stands_first, settled, place_of_certificate, place_of_roa, has_one_point}
 use Rattle.issue_plan.specs.inner.Live.{live_key, live_at}
@@ -31,6 +31,8 @@ use Rattle.issue_plan.specs.inner.Positions.{AreMarks, unmarked}
 use Rattle.issue_plan.specs.inner.Changed.{issuers_of_gone, live_id, has_changed, AreChanged}
 use Rattle.issue_plan.specs.inner.Anew as anew
 use Rattle.issue_plan.specs.inner.Anew.{IsOver, kept_certificate, kept_roa}
+use Rattle.issue_plan.specs.inner.Beside.{beside_roas}
+use Rattle.issue_plan.proofs.BesideLemmas.{first-beside, point-beside}
 use Rattle.issue_plan.proofs.PositionLemmas.{kept-serves, row-position, hits, hits-any, hits-kept, unmarked-filter}
 
 -- ---- keys and places
@@ -97,8 +99,10 @@ module _ (plan_input : PlanInput) (s : Standing) (over : IsOver plan_input s) wh
   is-settled : (certs : List CertWork) → certs ≡ all_certificates plan_input → (row : KeyRow)
       → anew.is_settled s certs (live_key row) ≡ fits.is_settled plan_input row
   is-settled certs are row =
-      ap₂ (λ (issued : List IssuedRow) (place : Option (List ℕ)).
-      (row.desk == 0) || option_map_or (stands_first issued (Live (id_of row))) place false) over.issued
+      ap₂ (λ (first : Option IssuedRow) (place : Option (List ℕ)).
+      (row.desk == 0) || option_map_or (λ uri. option_map_or (λ (r : IssuedRow). bytes_eq r.uri uri) first false) place false)
+      (ap (find (λ (r : IssuedRow). is_for (Live (id_of row)) r.what)) over.beside
+      ∙ first-beside (Live (id_of row)) plan_input.issued)
       (ap (λ (l : List CertWork). option_and_then (anew.certificate_place s s.live.now)
       (find (λ (cert : CertWork). is_live (id_of row) cert.subject) l)) are
       ∙ home-at (find (λ (cert : CertWork). is_live (id_of row) cert.subject) (all_certificates plan_input)))
@@ -126,7 +130,7 @@ module _ (plan_input : PlanInput) (s : Standing) (over : IsOver plan_input s)
 
   pub certificate-fits : (cert : CertWork) → is_some (kept_certificate s keys cert) ≡ fits.fits_certificate plan_input cert
   certificate-fits cert =
-      rw (over.issued, over.moment, certificate-at cert)
+      rw (over.issued, over.beside, over.moment, certificate-at cert, first-beside cert.subject plan_input.issued)
       (kept-serves plan_input.issued (serves-first cert) (place_of_certificate plan_input cert))
 
   pub roa-fits : (roa : RoaWork) → is_some (kept_roa s keys roa) ≡ fits.fits_roa plan_input roa
@@ -140,7 +144,7 @@ module _ (plan_input : PlanInput) (s : Standing) (over : IsOver plan_input s)
         ≡ (fits.fits_certificate plan_input cert
         && is_place (place_of_certificate plan_input cert) (get_or plan_input.issued i d).uri)
     certificate-hits i d inside cert =
-        rw (over.issued, over.moment, certificate-at cert)
+        rw (over.issued, over.beside, over.moment, certificate-at cert, first-beside cert.subject plan_input.issued)
         (hits-kept plan_input.issued (serves-first cert)
         (place_of_certificate plan_input cert) i d rises inside)
 
@@ -319,7 +323,16 @@ module _ (plan_input : PlanInput) (s : Standing) (over : IsOver plan_input s)
           ≡ option_map_or (fits.fits_point plan_input) key false
       by None = refl
       by (Some key) =
-          rw (told key, not-not (same_files plan_input key), over.names, over.site, over.issued, over.moment)
+          rw (
+            told key,
+            not-not (same_files plan_input key),
+            over.names,
+            over.site,
+            over.issued,
+            over.beside,
+            over.moment,
+            point-beside (id_of key) (fits.crl_place plan_input key) (fits.manifest_place plan_input key) plan_input.issued,
+          )
           (ap₂ (λ (a b : Bool). not (key.desk == 0) && same_files plan_input key
           && (has_one_point plan_input.issued (id_of key) (fits.crl_place plan_input key)
           (fits.manifest_place plan_input key) && a && b))

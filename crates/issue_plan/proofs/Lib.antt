@@ -1,3 +1,4 @@
+pub mod BesideLemmas
 pub mod DropLemmas
 pub mod FitLemmas
 pub mod KeyLemmas

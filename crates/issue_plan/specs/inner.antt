@@ -1,5 +1,6 @@
 -- Scaffolding: words that only private contracts, invariants and proofs need.
 pub mod Anew
+pub mod Beside
 pub mod Changed
 pub mod Live
 pub mod Positions

@@ -1,6 +1,6 @@
 //! What of the wanted objects has to be made, since nothing that stands fits it.
 
-ghost use Rattle.std.specs.Prelude.{◌≡◌, ◌++◌, ◌&&◌, filter, not, is_none, IfOk, OnOk};
+ghost use Rattle.std.specs.Prelude.{◌≡◌, ◌++◌, ◌&&◌, map, filter, not, is_none, IfOk, OnOk};
 ghost use Rattle.std.specs.List.{filter_map};
 ghost use Rattle.pub_set.specs.Objects.{Rise};
 ghost use Rattle.issue_plan.specs.Fits.{stands_first, is_in_place, has_one_point};
@@ -28,6 +28,8 @@ pub struct Standing<'a> {
     pub names: &'a [NameRow],
     /// The objects, by rising URI.
     pub issued: &'a [IssuedRow],
+    /// Those of them that are no ROAs.
+    pub beside: &'a [&'a IssuedRow],
     pub site: &'a Site,
     /// In seconds since 1970.
     pub moment: u64,
@@ -64,10 +66,10 @@ pub fn certificate_place(
 // Whether the object serves for the certificate, and is the first one of its key.
 fn stays_as_certificate(standing: &Standing<'_>, cert: &CertWork, row: &IssuedRow) -> bool
     ensures { result ≡ (serves_certificate standing.now.moment cert.now row.now
-        && stands_first standing.now.issued.now cert.now.subject row.now.uri) }
+        && stands_first (spec.beside_of standing.now) cert.now.subject row.now.uri) }
 {
     serves_certificate(standing.moment, cert, row)
-        && stands_first(standing.issued, &cert.subject, &row.uri)
+        && stands_first(standing.beside, &cert.subject, &row.uri)
 }
 
 // The position of what fits the certificate.
@@ -210,13 +212,16 @@ fn is_in_place(key: &KeyId, crl: &Uri, manifest: &Uri, row: &IssuedRow) -> bool
         || row.uri.as_str() == manifest.as_str()
 }
 
-// Whether the key has no CRL or manifest elsewhere.
-fn has_one_point(issued: &[IssuedRow], key: &KeyId, crl: &Uri, manifest: &Uri) -> bool
-    ensures { result ≡ has_one_point issued.now key.now crl.now manifest.now }
+// Whether the key has no CRL or manifest elsewhere among these rows.
+fn has_one_point(rows: &[&IssuedRow], key: &KeyId, crl: &Uri, manifest: &Uri) -> bool
+    ensures { result ≡ has_one_point (map (λ row. row.now) rows.now) key.now crl.now manifest.now }
 {
-    issued
-        .iter()
-        .all(|row| is_in_place(key, crl, manifest, row))
+    for row in rows {
+        if !is_in_place(key, crl, manifest, row) {
+            return false;
+        }
+    }
+    true
 }
 
 // Whether the key's CRL and manifest stand where they are wanted, and nowhere else.
@@ -228,7 +233,7 @@ fn files_stand(alloc: Global, standing: &Standing<'_>, key: &LiveKey) -> Result<
     let crl = places::crl_place(alloc, standing.site, standing.names, key.desk, &key.id)?;
     let manifest = places::manifest_place(alloc, standing.site, standing.names, key.desk, &key.id)?;
     Ok(
-        has_one_point(standing.issued, &key.id, &crl, &manifest)
+        has_one_point(standing.beside, &key.id, &crl, &manifest)
             && point_stands(standing, &name, &crl)
             && point_stands(standing, &name, &manifest),
     )

@@ -3,6 +3,7 @@
 #![tactic(auto)]
 
 mod anew;
+mod beside;
 mod changed;
 mod due;
 mod firsts;

@@ -14,6 +14,7 @@ ghost use Rattle.issue_plan.specs.inner.Anew.{IsOver};
 ghost use Rattle.issue_plan.specs.inner.Works.{IsAnew};
 
 use crate::anew::{Standing, certificates_anew, points_anew, roas_anew};
+use crate::beside::beside_roas;
 use crate::changed::changed_keys;
 use crate::keys::{NextKey, id_of, is_live, next_keys};
 use crate::live::{LiveKey, live_keys};
@@ -26,7 +27,9 @@ use authority_book::Config;
 use entitle::{Owed, Tree, names_of};
 use items::Items;
 use key_ids::{KeyId, Site};
-use key_roll::{CertWork, Issued, KeyName, KeyRow, NewKey, PointWork, RoaWork, RoleWork, Work};
+use key_roll::{
+    CertWork, Issued, IssuedRow, KeyName, KeyRow, NewKey, PointWork, RoaWork, RoleWork, Work,
+};
 use std::alloc::{AllocError, Global};
 
 fn new_key_of(key: &NextKey) -> Option<NewKey>
@@ -172,10 +175,13 @@ pub fn plan(
     let names = names_of(configs);
     let keys = next_keys(alloc, rows, names, configs, tree, moment)?;
     let live = live_keys(alloc, rows)?;
+    let beside = beside_roas(alloc, issued.rows.as_slice())?;
+    let beside: &[&IssuedRow] = &beside;
     let standing = Standing {
         live: &live,
         names,
         issued: issued.rows.as_slice(),
+        beside,
         site,
         moment,
     };

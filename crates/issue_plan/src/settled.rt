@@ -49,7 +49,7 @@ fn is_settled(
         return Ok(true);
     }
     match home_of(alloc, standing, certs, key)? {
-        Some(home) => Ok(stands_first(standing.issued, &KeyName::Live { id: key.id }, &home)),
+        Some(home) => Ok(stands_first(standing.beside, &KeyName::Live { id: key.id }, &home)),
         None => Ok(false),
     }
 }

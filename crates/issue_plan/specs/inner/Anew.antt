@@ -4,6 +4,7 @@ use Rattle.std.specs.Prelude.{Option, option_map, option_and_then}
 use Rattle.std.specs.Option.{option_map_or}
 use Rattle.key_ids.specs.declared.identifier.KeyId.{KeyId}
 use Rattle.entitle.specs.Certified.{names_of}
+use Rattle.key_roll.specs.declared.issued.IssuedRow.{IssuedRow}
 use Rattle.key_roll.specs.declared.work.CertWork.{CertWork}
 use Rattle.key_roll.specs.declared.work.RoaWork.{RoaWork}
 use Rattle.key_roll.specs.declared.work.PointWork.{PointWork}
@@ -15,15 +16,20 @@ use Rattle.issue_plan.specs.Keys.{is_live}
 use Rattle.issue_plan.specs.Wanted.{PlanInput}
 use Rattle.issue_plan.specs.Fits.{certificate_place_by, roa_place_by, crl_place_by, manifest_place_by, stands_first, has_one_point}
 use Rattle.issue_plan.specs.Serves.{serves_certificate, serves_roa, serves_point}
+use Rattle.issue_plan.specs.inner.Beside.{beside_roas}
 use Rattle.issue_plan.specs.inner.Changed.{has_changed}
 use Rattle.issue_plan.specs.inner.Live.{live_key, live_at}
 use Rattle.issue_plan.specs.inner.Positions.{kept_at, found_in}
+
+abbrev pub beside_of : Standing → List IssuedRow
+beside_of s = map (λ row. row.now) s.beside.now
 
 -- What the code looks at is what the edition is judged by.
 pub record IsOver (plan_input : PlanInput) (s : Standing) : Type 0 where
   pub live : s.live.now ≡ map live_key plan_input.basis.rows
   pub names : s.names.now ≡ names_of plan_input.basis.configs
   pub issued : s.issued.now ≡ plan_input.issued
+  pub beside : beside_of s ≡ beside_roas plan_input.issued
   pub site : s.site.now ≡ plan_input.site
   pub moment : s.moment ≡ plan_input.basis.moment
 
@@ -46,13 +52,13 @@ home_of s certs key =
 abbrev pub is_settled : Standing → List CertWork → LiveKey → Bool
 is_settled s certs key =
     (key.desk == 0)
-    || option_map_or (stands_first s.issued.now (Live key.id)) (home_of s certs key) false
+    || option_map_or (stands_first (beside_of s) (Live key.id)) (home_of s certs key) false
 
 -- The position of what fits, where these keys are settled.
 abbrev pub kept_certificate : Standing → List LiveKey → CertWork → Option ℕ
 kept_certificate s issuers cert =
     kept_at s.issued.now
-    (λ row. serves_certificate s.moment cert row && stands_first s.issued.now cert.subject row.uri)
+    (λ row. serves_certificate s.moment cert row && stands_first (beside_of s) cert.subject row.uri)
     (certificate_place s issuers cert)
 
 abbrev pub kept_roa : Standing → List LiveKey → RoaWork → Option ℕ
@@ -66,7 +72,7 @@ point_stands s key place =
 -- Whether both stand at these places, and the key has none elsewhere.
 abbrev pub stands_at : Standing → KeyId → List ℕ → List ℕ → Bool
 stands_at s key crl manifest =
-    has_one_point s.issued.now key crl manifest
+    has_one_point (beside_of s) key crl manifest
     && point_stands s (Live key) crl && point_stands s (Live key) manifest
 
 abbrev pub files_stand : Standing → LiveKey → Bool

@@ -1,10 +1,11 @@
-use Rattle.std.proofs.Common.{◌≡◌, refl, ap, ap₂, ◌∙◌}
+use Rattle.std.proofs.Common.{◌≡◌, map, refl, ap, ap₂, ◌∙◌}
 use Rattle.std.specs.List.{filter_map}
 use Rattle.entitle.specs.Certified.{settings_of}
 use Rattle.issue_plan.specs.Keys.{Basis, next_keys}
 use Rattle.issue_plan.specs.Wanted.{PlanInput, Point, wanted_certificates, wanted_roas, wanted_points}
 use Rattle.issue_plan.specs.Fits.{unfit, all_certificates, all_roas}
 use Rattle.issue_plan.specs.Uris.{wanted_uris, withdrawn}
+use Rattle.issue_plan.specs.inner.Beside.{beside_roas}
 use Rattle.issue_plan.specs.Work.{new_key_of, role_of, dropped}
 use Rattle.issue_plan.proofs.plans.plan.Goals as goal
 
@@ -35,7 +36,8 @@ returns c =
     let is = c.in_ok-anew.ensures plan_input (record {
       live = c.deref.ensures.value ∙ c.in_ok-live.ensures;
       names = c.names_of-names.ensures.names;
-      issued = c.as_slice.ensures;
+      issued = c.as_slice-2.ensures;
+      beside = ap (map (λ row. row.now)) c.deref-beside.ensures.value ∙ (c.in_ok-beside.ensures ∙ ap beside_roas c.as_slice.ensures);
       site = refl;
       moment = refl;
     }) certs roas in
@@ -54,7 +56,7 @@ returns c =
         withdrawn = c.new-6.ensures ∙ (c.in_ok-withdrawn.ensures
             ∙ ap₂ withdrawn
             (c.deref-10.ensures.value ∙ (c.in_ok-wanted.ensures ∙ ap (λ l. places l owed) (c.deref-7.ensures.value ∙ made)))
-            c.as_slice.ensures);
+            c.as_slice-2.ensures);
         dropped = c.new-7.ensures ∙ (c.in_ok-dropped.ensures
             ∙ ap (λ l. dropped l basis.rows) (c.deref-11.ensures.value ∙ made));
       },
