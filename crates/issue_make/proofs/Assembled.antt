@@ -18,8 +18,8 @@ use Rattle.issue_make.specs.declared.made.Made.{Made}
 use Rattle.issue_make.specs.inner.Naming.{CanName}
 use Rattle.issue_make.specs.CanMake.{CanMake}
 use Rattle.issue_make.specs.inner.Ready.{AreReady}
-use Rattle.issue_make.specs.inner.Finished.{signing_of, IsFinished}
-use Rattle.issue_make.specs.Made.{calls_of, IsMade}
+use Rattle.issue_make.specs.inner.Finished.{IsFinished}
+use Rattle.issue_make.specs.Made.{calls_of, to_manifests, IsMade}
 use Rattle.issue_make.proofs.Parts.{grouped}
 use Rattle.issue_make.proofs.Stops.{calls-on}
 
@@ -45,16 +45,16 @@ is-made s live rows n old between new made are f =
     let c = f.trace in
     let fresh : drop n rows ≡ c.keys.fresh = sym (ap (λ (keys : Keys). keys.fresh) f.over) in
     let all : rows ≡ all_keys c.keys = sym (take-append-drop n rows) ∙ sym (ap all_keys f.over) in
-    let calls : calls_of s c ≡ map making c.keys.fresh ++ signing_of s c =
+    let calls : calls_of s c ≡ map making c.keys.fresh ++ to_manifests s c =
     grouped (map making c.keys.fresh) (first_calls s c.keys (all_of s c) c.entries c.objects) (second_calls s c.keys (all_of s c) c.objects)
     (content_calls s c.files c.listed) (last_calls s c.keys (all_of s c) c.listed) in record {
       trace = c;
       is_trace = f.is_trace;
-      signers = f.signers ∙ (ap (λ (ring : List SignerState). after_calls ring (signing_of s c))
+      signers = f.signers ∙ (ap (λ (ring : List SignerState). after_calls ring (to_manifests s c))
           (are.signers ∙ ap (λ (l : List KeyRow). after_calls old (map making l)) fresh)
-          ∙ (calls-on old (map making c.keys.fresh) (signing_of s c) ∙ ap (after_calls old) (sym calls)));
+          ∙ (calls-on old (map making c.keys.fresh) (to_manifests s c) ∙ ap (after_calls old) (sym calls)));
       vouched = subst (All (IsVouched new)) (sym calls)
-          (All-append (IsVouched new) (map making c.keys.fresh) (signing_of s c) (makings-vouched new c.keys.fresh) f.vouched);
+          (All-append (IsVouched new) (map making c.keys.fresh) (to_manifests s c) (makings-vouched new c.keys.fresh) f.vouched);
       rising = f.outcome.rising;
       changes = f.outcome.changes;
       spelled = f.spelled;

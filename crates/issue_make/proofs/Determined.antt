@@ -21,12 +21,11 @@ use Rattle.issue_drafts.specs.Files.{AreMerged, kept_files, made_files}
 use Rattle.issue_sign.specs.Objects.{Signed, Files}
 use Rattle.issue_sign.specs.Calls.{first_calls, second_calls, content_calls, last_calls}
 use Rattle.issue_make.specs.Trace.{IssuingTrace, IsIssuingTrace, all_of, puts_of, made_of, hashed, row_after, is_before, signatures_of}
-use Rattle.issue_make.specs.Made.{calls_of, IsMade}
+use Rattle.issue_make.specs.Made.{calls_of, IsMade, to_manifests}
 use Rattle.issue_make.specs.CanMake.{CanMake}
 use Rattle.issue_make.specs.Answers.{answer_of, answers_to}
 use Rattle.issue_make.specs.ObjectPlan.{puts}
 use Rattle.issue_make.specs.declared.made.Made.{Made}
-use Rattle.issue_make.specs.inner.Finished.{signing_of}
 use Rattle.issue_make.specs.inner.Keys.{row_with}
 use Rattle.issue_make.specs.inner.Outcomes.{IsOutcome}
 use Rattle.issue_make.proofs.Alike.{BeginAlike, same-long, split}
@@ -46,7 +45,7 @@ use Rattle.issue_make.proofs.Sums.{sum-images}
 
 -- ---- the keys
 
-makes-of : (s : IssueInput) (trace : IssuingTrace) → calls_of s trace ≡ map making trace.keys.fresh ++ signing_of s trace
+makes-of : (s : IssueInput) (trace : IssuingTrace) → calls_of s trace ≡ map making trace.keys.fresh ++ to_manifests s trace
 makes-of s trace =
     grouped (map making trace.keys.fresh) (first_calls s trace.keys (all_of s trace) trace.entries trace.objects)
     (second_calls s trace.keys (all_of s trace) trace.objects) (content_calls s trace.files trace.listed)
@@ -59,7 +58,7 @@ pub keys-same : (s : IssueInput) (live : List KeyRow) (trace other : IssuingTrac
     → IsIssuingTrace s live trace → IsIssuingTrace s live other → BeginAlike (calls_of s trace) (calls_of s other)
     → trace.keys ≡ other.keys
 keys-same s live trace other is are alike =
-    let both = alike (map making trace.keys.fresh) (signing_of s trace) (map making other.keys.fresh) (signing_of s other)
+    let both = alike (map making trace.keys.fresh) (to_manifests s trace) (map making other.keys.fresh) (to_manifests s other)
     (makes-of s trace) (makes-of s other)
     (makers-same s.work.new_keys trace.keys.fresh other.keys.fresh is.keys.fresh are.keys.fresh) in
     keys-of trace.keys other.keys (is.keys.kept ∙ sym are.keys.kept)
@@ -126,7 +125,7 @@ phases-are s trace other objects listed alike =
     let two : map signer_of b ≡ map signer_of f = seconds-on s trace.keys all trace.objects other.objects objects in
     let three : map signer_of c ≡ map signer_of g = contents-on s trace.files other.files trace.listed other.listed listed in
     let four : map signer_of d ≡ map signer_of h = lasts-on s trace.keys all trace.listed other.listed listed in
-    let both = alike (map making trace.keys.fresh) (signing_of s trace) (map making trace.keys.fresh) (signing_of s w)
+    let both = alike (map making trace.keys.fresh) (to_manifests s trace) (map making trace.keys.fresh) (to_manifests s w)
     (makes-of s trace) (makes-of s w) refl in
     let long : length a ≡ length e = same-long signer_of a e one in
     let pair : length (a ++ b) ≡ length (e ++ f) = joined-long a e b f long (same-long signer_of b f two) in

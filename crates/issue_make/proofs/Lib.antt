@@ -15,6 +15,7 @@ pub mod MakeStops
 pub mod Names
 pub mod OneOrder
 pub mod Parts
+pub mod PlanStops
 pub mod Planned
 pub mod SameKeys
 pub mod SameLists
@@ -22,6 +23,7 @@ pub mod SameObjects
 pub mod SameOutcome
 pub mod Signable
 pub mod Signed
+pub mod SignedTo
 pub mod Stages
 pub mod Stops
 pub mod Sums

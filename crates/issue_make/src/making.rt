@@ -1,13 +1,13 @@
 //! The making of an edition's objects (RFC 6487 section 4, RFC 5280 section 5, RFC 6488 section 2).
 
-ghost use Rattle.std.specs.Prelude.{List, length, IfOk, IfErr};
+ghost use Rattle.std.specs.Prelude.{List, drop, length, IfOk, IfErr};
 ghost use Rattle.signer_ring.specs.Ring.{Keeps};
 ghost use Rattle.key_roll.specs.declared.rows.KeyRow.{KeyRow};
 ghost use Rattle.issue_drafts.specs.WorkKeys.{keys_at};
 ghost use Rattle.issue_drafts.specs.IssueInput.{input_of};
 ghost use Rattle.issue_make.specs.CanMake.{input_with, CanMake};
 ghost use Rattle.issue_make.specs.inner.Ready.{AreReady, AreSomehowReady};
-ghost use Rattle.issue_make.specs.inner.Signing.{IsSigningStop};
+ghost use Rattle.issue_make.specs.inner.Signing.{IsObjectsStop};
 ghost use Rattle.issue_make.specs.inner.Finished.{IsFinished};
 ghost use Rattle.issue_make.specs.Made.{IsMade, IsStop};
 
@@ -42,7 +42,11 @@ fn make_objects<S: Signer + Send, R: Threads + Sync>(
         keys.now.first_fresh (length ring.old)
         → IsFinished (input_of input.now) live keys.now.rows.items
         (keys_at keys.now.rows.items keys.now.first_fresh) ring.old ring.new made) }
-    ensures stopped { IfErr result (IsSigningStop ring.old ring.new) }
+    ensures stopped { IfErr result (λ fault. (live : List KeyRow)
+        → AreReady (input_of input.now) live keys.now.rows.items
+        keys.now.first_fresh (length ring.old)
+        → IsObjectsStop (input_of input.now) live
+        (drop keys.now.first_fresh keys.now.rows.items) ring.old ring.new fault) }
     ensures kept { Keeps ring.old ring.new }
 {
     vouched_stays();

@@ -53,10 +53,10 @@ pub fn sign_objects<S: Signer + Send, R: Threads + Sync>(
         → IsObjectPlan (input_of input.now) keys rows plan.now → plan.now.revoked.items ≡ map entries rows
         → AreSigned (input_of input.now) keys rows entries plan.now ring.old ring.new objects) }
 
-    // A signer failed, or memory ran out, behind calls that sign.
+    // A signer failed, or memory ran out, behind the first of each signer's own calls, phase by phase.
     ensures stopped { IfErr result (λ fault. (keys : Keys) (rows : List KeyRow) (entries : Entries)
         → IsObjectPlan (input_of input.now) keys rows plan.now → plan.now.revoked.items ≡ map entries rows
-        → IsSigningStop ring.old ring.new fault) }
+        → IsSigningStop (input_of input.now) keys entries plan.now ring.old ring.new fault) }
 
     // What the signers vouched for they vouch for on every answer.
     ensures kept { Keeps ring.old ring.new }

@@ -49,7 +49,10 @@ map-some g [] = refl
 map-some g (x ∷ xs) = ap (λ (l : List Call). g x ∷ l) (map-some g xs)
 
 pub manifests-way : (s : IssueInput) (b : SignInputValue) → IsWay (of_manifests s b) (content_of s b) (last_of s b)
-manifests-way s b made = ap (λ (l : List Call). map (content_of s b) made ++ l) (map-some (last_for s b) made)
+manifests-way s b = record {
+  calls = λ made. ap (λ (l : List Call). map (content_of s b) made ++ l) (map-some (last_for s b) made);
+  firsts = λ made. refl;
+}
 
 -- ---- the contents
 

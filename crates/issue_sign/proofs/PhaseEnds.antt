@@ -31,7 +31,7 @@ use Rattle.issue_sign.specs.Made.{answers_of, signed, of_drafts, of_manifests, A
 use Rattle.issue_sign.specs.inner.Steps.{asks, is_content, is_begun, is_route, job_of, calls_of, half_answers, content_answers, answers_with, told, IsOutcome, IsKept, IsFirstOf, IsStepOf, IsHalf, IsSecondOf, IsTextOf, IsContentHalf, IsLastOf, Pairs, Triples, AreCalled, AreHalves, AreContents, IsStepsShort, IsStepsStop}
 use Rattle.issue_sign.proofs.Answered.{answered-rest, calls-told, told-long}
 use Rattle.issue_sign.proofs.Lists.{pairs-nil, pairs-push, pairs-mapped, pairs-through, pairs-weaker, pairs-all, pairs-of-all, triples-mapped, triples-through}
-use Rattle.issue_sign.proofs.Ways.{Stays, IsWay, IsFor, IsFirstStep, IsSecondStep, known_of, called-as, firsts-same, first-stop, second-stop, firsts-begun, unmade, all-made}
+use Rattle.issue_sign.proofs.Ways.{Stays, IsWay, IsFor, IsFirstStep, IsSecondStep, known_of, called-as, firsts-same, first-stop, second-stop, firsts-short, unmade, all-made}
 use Rattle.issue_sign.proofs.Drafted.{first_of, second_of, first-step, begun-of, half-of, second-same, second-call, second-made, kept-outcome}
 use Rattle.issue_sign.proofs.Manifested.{content_of, last_of, manifests-way, texts-of, text-step, content-half, last-same, last-call, last-made}
 
@@ -104,6 +104,9 @@ called-steps m steps given halves old new are said called =
 
 -- ---- drafts: the first signatures
 
+drafts-way : (s : IssueInput) (b : SignInputValue) → IsWay (of_drafts s b) (first_of s b) (second_of s b)
+drafts-way s b = record { calls = λ made. refl; firsts = λ made. refl }
+
 pub firsts-signers : (n : ℕ) (drafts : List code.Draft) (steps : List Step) → All (λ (d : code.Draft). d.issuer.row.now.signer < n) drafts
     → Pairs IsStepOf drafts steps → All (λ (st : Step). st.issuer.now.signer < n) steps
 firsts-signers n drafts steps all pairs =
@@ -127,7 +130,7 @@ pub firsts-stopped : (s : IssueInput) (b : SignInputValue) (drafts : List code.D
     → length steps ≡ length drafts → Pairs IsStepOf drafts steps → Pairs (λ d st. IsFirstOf s b (draft_of d) (kind_of d.kind) st.pending) drafts steps
     → IsStepsStop s.work.moment steps old new fault → IsStop (of_drafts s b) (map draft_of drafts) old new fault
 firsts-stopped s b drafts steps old new fault long are firsts stop =
-    first-stop (of_drafts s b) (first_of s b) (second_of s b) s.work.moment (map draft_of drafts) steps old new fault (λ made. refl)
+    first-stop (of_drafts s b) (first_of s b) (second_of s b) s.work.moment (map draft_of drafts) steps old new fault (drafts-way s b)
     (long ∙ sym (length-map drafts draft_of)) (first-steps s b drafts steps are firsts) stop
 
 pub firsts-halves : (s : IssueInput) (b : SignInputValue) (drafts : List code.Draft) (steps : List Step) (halves : List Half) (old new : List SignerState)
@@ -183,19 +186,15 @@ pub seconds-stopped : (s : IssueInput) (b : SignInputValue) (drafts : List code.
     → IsStepsStop s.work.moment steps now new fault → IsStop (of_drafts s b) (map draft_of drafts) old new fault
 seconds-stopped s b drafts halves steps old now new fault same long are issuers seconds stop =
     second-stop (of_drafts s b) (first_of s b) (second_of s b) s.work.moment (map draft_of drafts) (map half_answers halves) steps old now new fault
-    (λ made. refl) (long ∙ sym (length-map drafts draft_of)) (length-map halves half_answers ∙ (same ∙ sym long))
+    (drafts-way s b) (long ∙ sym (length-map drafts draft_of)) (length-map halves half_answers ∙ (same ∙ sym long))
     (second-steps s b drafts halves steps are.pairs issuers seconds) are.calls.signers stop
 
 -- Want of memory before the second ones.
 pub halves-short : (s : IssueInput) (b : SignInputValue) (drafts : List code.Draft) (halves : List Half) (old now : List SignerState)
     → length halves ≡ length drafts → AreHalves s b drafts halves old now → IsStop (of_drafts s b) (map draft_of drafts) old now Memory
-halves-short s b drafts halves old now same are = record {
-  calls = map (first_of s b) (signed (map draft_of drafts) (map half_answers halves));
-  others = λ n. jobs.calls_on n (filter_map (second_of s b) (signed (map draft_of drafts) (map half_answers halves)));
-  begun = firsts-begun (of_drafts s b) (first_of s b) (second_of s b) (map draft_of drafts) (map half_answers halves) (λ made. refl)
-      (length-map halves half_answers ∙ (same ∙ sym (length-map drafts draft_of)));
-  signers = are.calls.signers;
-}
+halves-short s b drafts halves old now same are =
+    firsts-short (of_drafts s b) (first_of s b) (second_of s b) (map draft_of drafts) (map half_answers halves) old now (drafts-way s b)
+    (length-map halves half_answers ∙ (same ∙ sym (length-map drafts draft_of))) are.calls.signers
 
 made-outcome : (m : ℕ) (steps : List Step) (halves : List Half) (objects : List Object) → map (λ (o : Object). Made o) objects ≡ halves
     → Pairs (λ st h. IsOutcome m st.pending h) steps halves → Pairs (λ st o. IsOutcome m st.pending (Made o)) steps objects
@@ -275,7 +274,7 @@ seconds-made stays s b drafts halves steps after objects old now new same long c
     let m = s.work.moment in
     let made = made-outcome m steps after objects whole outcomes in
     all-made stays s b (of_drafts s b) (first_of s b) (second_of s b) m (map draft_of drafts) (map half_answers halves) steps objects old now new
-    (λ x. refl) (long ∙ sym (length-map drafts draft_of)) (length-map halves half_answers ∙ (same ∙ sym long))
+    (drafts-way s b) (long ∙ sym (length-map drafts draft_of)) (length-map halves half_answers ∙ (same ∙ sym long))
     (count-made objects after (length steps) whole count) (second-steps s b drafts halves steps are.pairs issuers seconds)
     (kept-made m steps objects made)
     (triples-through draft_of (λ d h. IsHalf s b (draft_of d) (kind_of d.kind) h) (λ d h st. IsSecondOf s b (draft_of d) (kind_of d.kind) h st.pending)
@@ -381,13 +380,9 @@ lasts-stopped s b drafts halves steps old now new fault same long are issuers la
 -- Want of memory before the certificates.
 pub contents-short : (s : IssueInput) (b : SignInputValue) (drafts : List ManifestDraft) (halves : List Half) (old now : List SignerState)
     → length halves ≡ length drafts → AreContents s b drafts halves old now → IsStop (of_manifests s b) (map manifest_of drafts) old now Memory
-contents-short s b drafts halves old now same are = record {
-  calls = map (content_of s b) (signed (map manifest_of drafts) (map half_answers halves));
-  others = λ n. jobs.calls_on n (filter_map (last_of s b) (signed (map manifest_of drafts) (map half_answers halves)));
-  begun = firsts-begun (of_manifests s b) (content_of s b) (last_of s b) (map manifest_of drafts) (map half_answers halves) (manifests-way s b)
-      (length-map halves half_answers ∙ (same ∙ sym (length-map drafts manifest_of)));
-  signers = are.calls.signers;
-}
+contents-short s b drafts halves old now same are =
+    firsts-short (of_manifests s b) (content_of s b) (last_of s b) (map manifest_of drafts) (map half_answers halves) old now (manifests-way s b)
+    (length-map halves half_answers ∙ (same ∙ sym (length-map drafts manifest_of))) are.calls.signers
 
 pub lasts-short : (s : IssueInput) (b : SignInputValue) (drafts : List ManifestDraft) (halves : List Half) (steps : List Step) (after : List Half)
     (old now new : List SignerState) → length halves ≡ length drafts → length steps ≡ length drafts → length after ≡ length steps

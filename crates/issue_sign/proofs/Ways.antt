@@ -1,8 +1,8 @@
 -- The calls for objects, all first ones and then all second ones.
-use Rattle.std.proofs.Common.{◌≡◌, ℕ, suc, ◌<◌, List, [], ◌∷◌, ◌++◌, length, map, refl, sym, ap, subst, ◌∙◌, arith, eqb}
+use Rattle.std.proofs.Common.{◌≡◌, ℕ, ◌+◌, inl, inr, List, [], ◌∷◌, ◌++◌, length, map, refl, sym, ap, subst, ◌∙◌, arith, eqb}
 use Rattle.std.specs.Prelude.{Option, Some, None, All}
 use Rattle.std.specs.List.{cons_option, filter_map}
-use Rattle.std.proofs.lemmas.List.{append_assoc, length-map}
+use Rattle.std.proofs.lemmas.List.{append_assoc, length-append, length-map}
 use Rattle.std.proofs.lemmas.List.Elements.{All-nil, All-cons, All-append, All-weaker, filter-append}
 use Rattle.sha2.specs.Sha256.{sha256}
 use Rattle.signer_api.specs.State.{SignerState}
@@ -17,7 +17,7 @@ use Rattle.issue_sign.specs.declared.steps.Step.{Step}
 use Rattle.issue_sign.specs.Objects.{Answers, Signed}
 use Rattle.issue_sign.specs.SignInput.{SignInputValue}
 use Rattle.issue_sign.specs.Spelled.{IsSpelled}
-use Rattle.issue_sign.specs.Made.{answers_of, signed, Way, AreMade, AreBegun, IsStop, IsFault, IsShort}
+use Rattle.issue_sign.specs.Made.{answers_of, signed, Way, AreMade, AreBegun, AreWithin, IsStop}
 use Rattle.issue_sign.specs.inner.Steps.{call_of, calls_of, IsKept, IsObjectOf, Pairs, Triples, AreCalled, AreStepsBegun, IsStepsStop}
 use Rattle.issue_sign.proofs.Lists.{with_answers, drafts-of, signed-nil}
 
@@ -51,8 +51,9 @@ on-both n xs ys = filter-append (λ (call : Call). eqb (signer_of call) n) xs ys
 -- ---- steps for objects
 
 -- A way of signing whose calls are first ones, and then others.
-abbrev pub IsWay : Way → (Signed → Call) → (Signed → Option Call) → Type 0
-IsWay way f second = (made : List Signed) → way.calls made ≡ map f made ++ filter_map second made
+pub record IsWay (way : Way) (f : Signed → Call) (second : Signed → Option Call) : Type 0 where
+  pub calls : (made : List Signed) → way.calls made ≡ map f made ++ filter_map second made
+  pub firsts : (made : List Signed) → way.firsts made ≡ map f made
 
 -- The step's call is the first one of the draft.
 abbrev pub IsFirstStep : ℕ → (Signed → Call) → Draft → Step → Type 0
@@ -119,14 +120,26 @@ first-begun way f second m ds steps calls others is long pairs begun =
           ∙ (ap (λ (l : List Call). l ++ calls_on n seconds) (begun.whole n)
           ∙ (ap (λ (l : List Call). calls_on n l ++ calls_on n seconds) (firsts-same m f ds steps begun.given begun.each pairs)
           ∙ (sym (on-both n (map f made) seconds)
-          ∙ sym (ap (calls_on n) (is made)))));
+          ∙ sym (ap (calls_on n) (is.calls made)))));
     }
+
+-- These are among the first ones.
+first-within : (way : Way) (f : Signed → Call) (second : Signed → Option Call) (m : ℕ) (ds : List Draft) (steps : List Step) (calls : List Call)
+    (others : ℕ → List Call) → IsWay way f second → Pairs (IsFirstStep m f) ds steps → (begun : AreStepsBegun m steps calls others) → (n : ℕ)
+    → length (calls_on n calls) + length (others n) ≡ length (calls_on n (way.firsts (signed ds begun.given)))
+first-within way f second m ds steps calls others is pairs begun n =
+    sym (length-append (calls_on n calls) (others n))
+    ∙ (ap length (begun.whole n)
+    ∙ (ap (λ (l : List Call). length (calls_on n l)) (firsts-same m f ds steps begun.given begun.each pairs)
+    ∙ sym (ap (λ (l : List Call). length (calls_on n l)) (is.firsts (signed ds begun.given)))))
 
 pub first-stop : (way : Way) (f : Signed → Call) (second : Signed → Option Call) (m : ℕ) (ds : List Draft) (steps : List Step)
     (old new : List SignerState) (fault : MakeFault) → IsWay way f second → length steps ≡ length ds → Pairs (IsFirstStep m f) ds steps
     → IsStepsStop m steps old new fault → IsStop way ds old new fault
+unfolding first-begun
 first-stop way f second m ds steps old new (SignerFault n) is long pairs stop =
     let made = signed ds stop.begun.given in
+    let sums = first-within way f second m ds steps stop.calls stop.others is pairs stop.begun in
     record {
       calls = stop.calls;
       others = λ k. stop.others k ++ calls_on k (filter_map second made);
@@ -134,15 +147,22 @@ first-stop way f second m ds steps old new (SignerFault n) is long pairs stop =
       next = stop.next;
       behind = stop.behind ++ calls_on n (filter_map second made);
       more = ap (λ (l : List Call). l ++ calls_on n (filter_map second made)) stop.more;
+      phase = inl (record {
+        within = λ k. let sum = sums k in omega (arith, sum);
+        short = let sum = sums n in let more = ap length stop.more in omega (arith, sum, more);
+      });
       fault = stop.fault;
     }
 first-stop way f second m ds steps old new (KeyClash id) is long pairs stop = stop
-first-stop way f second m ds steps old new Memory is long pairs stop = record {
-  calls = stop.calls;
-  others = λ k. stop.others k ++ calls_on k (filter_map second (signed ds stop.begun.given));
-  begun = first-begun way f second m ds steps stop.calls stop.others is long pairs stop.begun;
-  signers = stop.signers;
-}
+first-stop way f second m ds steps old new Memory is long pairs stop =
+    let sums = first-within way f second m ds steps stop.calls stop.others is pairs stop.begun in
+    record {
+      calls = stop.calls;
+      others = λ k. stop.others k ++ calls_on k (filter_map second (signed ds stop.begun.given));
+      begun = first-begun way f second m ds steps stop.calls stop.others is long pairs stop.begun;
+      phase = inl (λ k. let sum = sums k in omega (arith, sum));
+      signers = stop.signers;
+    }
 
 second-begun : (way : Way) (f : Signed → Call) (second : Signed → Option Call) (m : ℕ) (ds : List Draft) (hs : List Answers) (steps : List Step)
     (calls : List Call) (others : ℕ → List Call) → IsWay way f second → length steps ≡ length ds → length hs ≡ length steps
@@ -161,13 +181,25 @@ second-begun way f second m ds hs steps calls others is long same all begun =
           ∙ (sym (on-both n firsts (calls_of m steps begun.given))
           ∙ (ap (λ (l : List Call). calls_on n (l ++ calls_of m steps begun.given)) (sym both.firsts)
           ∙ (ap (λ (l : List Call). calls_on n (map f made ++ l)) (sym both.seconds)
-          ∙ sym (ap (calls_on n) (is made)))))));
+          ∙ sym (ap (calls_on n) (is.calls made)))))));
     }
+
+-- All first ones are among them.
+second-behind : (way : Way) (f : Signed → Call) (second : Signed → Option Call) (m : ℕ) (ds : List Draft) (hs : List Answers) (steps : List Step)
+    (calls : List Call) (others : ℕ → List Call) → IsWay way f second → length hs ≡ length steps → Triples (IsSecondStep m f second) ds hs steps
+    → (begun : AreStepsBegun m steps calls others) → AreWithin (way.firsts (signed ds begun.given)) (map f (signed ds hs) ++ calls)
+second-behind way f second m ds hs steps calls others is same all begun n =
+    let firsts = map f (signed ds hs) in
+    let both = seconds-same m f second ds hs steps begun.given begun.each same begun.kept all in
+    let first = ap (λ (l : List Call). length (calls_on n l)) (is.firsts (signed ds begun.given) ∙ both.firsts) in
+    let sum = ap length (on-both n firsts calls) ∙ length-append (calls_on n firsts) (calls_on n calls) in
+    omega (arith, first, sum)
 
 pub second-stop : (way : Way) (f : Signed → Call) (second : Signed → Option Call) (m : ℕ) (ds : List Draft) (hs : List Answers) (steps : List Step)
     (old now new : List SignerState) (fault : MakeFault) → IsWay way f second → length steps ≡ length ds → length hs ≡ length steps
     → Triples (IsSecondStep m f second) ds hs steps → now ≡ after_calls old (map f (signed ds hs)) → IsStepsStop m steps now new fault
     → IsStop way ds old new fault
+unfolding second-begun
 second-stop way f second m ds hs steps old now new (SignerFault n) is long same all was stop = record {
   calls = map f (signed ds hs) ++ stop.calls;
   others = stop.others;
@@ -175,6 +207,7 @@ second-stop way f second m ds hs steps old now new (SignerFault n) is long same 
   next = stop.next;
   behind = stop.behind;
   more = stop.more;
+  phase = inr (second-behind way f second m ds hs steps stop.calls stop.others is same all stop.begun);
   fault = subst (λ (r : List SignerState). CountFaults n r new)
       (ap (λ (r : List SignerState). after_calls r stop.calls) was ∙ sym (after-append old (map f (signed ds hs)) stop.calls)) stop.fault;
 }
@@ -183,6 +216,7 @@ second-stop way f second m ds hs steps old now new Memory is long same all was s
   calls = map f (signed ds hs) ++ stop.calls;
   others = stop.others;
   begun = second-begun way f second m ds hs steps stop.calls stop.others is long same all stop.begun;
+  phase = inr (second-behind way f second m ds hs steps stop.calls stop.others is same all stop.begun);
   signers = stop.signers ∙ (ap (λ (r : List SignerState). after_calls r stop.calls) was ∙ sym (after-append old (map f (signed ds hs)) stop.calls));
 }
 
@@ -195,16 +229,29 @@ unmade way ds old = record {
   calls = [];
   others = λ n. calls_on n (way.calls (signed ds (lacking ds)));
   begun = record { made = signed ds (lacking ds); each = drafts-of ds (lacking ds) (length-map ds _); whole = λ n. refl };
+  phase = inl (λ n. omega arith);
   signers = refl;
 }
 
 -- All first calls, and none of the second ones.
-pub firsts-begun : (way : Way) (f : Signed → Call) (second : Signed → Option Call) (ds : List Draft) (hs : List Answers) → IsWay way f second
+firsts-begun : (way : Way) (f : Signed → Call) (second : Signed → Option Call) (ds : List Draft) (hs : List Answers) → IsWay way f second
     → length hs ≡ length ds → AreBegun way ds (map f (signed ds hs)) (λ n. calls_on n (filter_map second (signed ds hs)))
 firsts-begun way f second ds hs is long = record {
   made = signed ds hs;
   each = drafts-of ds hs long;
-  whole = λ n. sym (on-both n (map f (signed ds hs)) (filter_map second (signed ds hs))) ∙ sym (ap (calls_on n) (is (signed ds hs)));
+  whole = λ n. sym (on-both n (map f (signed ds hs)) (filter_map second (signed ds hs))) ∙ sym (ap (calls_on n) (is.calls (signed ds hs)));
+}
+
+-- Want of memory behind them.
+pub firsts-short : (way : Way) (f : Signed → Call) (second : Signed → Option Call) (ds : List Draft) (hs : List Answers) (old now : List SignerState)
+    → IsWay way f second → length hs ≡ length ds → now ≡ after_calls old (map f (signed ds hs)) → IsStop way ds old now Memory
+unfolding firsts-begun
+firsts-short way f second ds hs old now is long was = record {
+  calls = map f (signed ds hs);
+  others = λ n. calls_on n (filter_map second (signed ds hs));
+  begun = firsts-begun way f second ds hs is long;
+  phase = inr (λ n. let same = ap (λ (l : List Call). length (calls_on n l)) (is.firsts (signed ds hs)) in omega (arith, same));
+  signers = was;
 }
 
 -- ---- all of them
@@ -251,7 +298,7 @@ all-made stays s b way f second m ds hs steps objects old now new is long same c
     let both = seconds-same m f second ds hs steps given each same kept all in
     let calls : map f (signed ds hs) ++ calls_of m steps given ≡ way.calls made =
     ap (λ (l : List Call). l ++ calls_of m steps given) (sym both.firsts)
-    ∙ (ap (λ (l : List Call). map f made ++ l) (sym both.seconds) ∙ sym (is made)) in
+    ∙ (ap (λ (l : List Call). map f made ++ l) (sym both.seconds) ∙ sym (is.calls made)) in
     let whole = called-as old new (map f (signed ds hs) ++ calls_of m steps given) (way.calls made) calls
     (called-more stays old now new (map f (signed ds hs)) (calls_of m steps given) was called) in
     let every = lists way (known_of s b) ds objects pairs in

@@ -1,5 +1,5 @@
 -- What the signing of an edition's objects answers.
-use Rattle.std.specs.Prelude.{◌≡◌, ℕ, List, [], ◌∷◌, ◌++◌, map, All}
+use Rattle.std.specs.Prelude.{◌≡◌, ◌<◌, ◌≤◌, ◌⊎◌, ℕ, List, [], ◌∷◌, ◌++◌, length, map, All}
 use Rattle.std.specs.Option.{option_map_or}
 use Rattle.sha2.specs.Sha256.{sha256}
 use Rattle.signer_api.specs.State.{SignerState}
@@ -32,20 +32,23 @@ signed (d ∷ drafts) (a ∷ answers) =
 
 -- ---- two ways of signing: that of manifests, and that of the others
 
--- The calls for objects, and the bytes of each.
+-- The calls for objects, those of them that come first, and the bytes of each.
 pub record Way : Type 0 where
   pub calls : List Signed → List Call
+  pub firsts : List Signed → List Call
   pub bytes : Signed → List ℕ
 
 abbrev pub of_drafts : IssueInput → SignInputValue → Way
 of_drafts s b = record {
   calls = λ made. first_calls s b.keys b.all b.entries made ++ second_calls s b.keys b.all made;
+  firsts = first_calls s b.keys b.all b.entries;
   bytes = bytes_of s b.keys b.all b.entries;
 }
 
 abbrev pub of_manifests : IssueInput → SignInputValue → Way
 of_manifests s b = record {
   calls = λ made. content_calls s b.files made ++ last_calls s b.keys b.all made;
+  firsts = content_calls s b.files;
   bytes = manifest_bytes s b.keys b.all b.files;
 }
 
@@ -73,8 +76,18 @@ pub record AreBegun
   pub each : map (λ x. x.draft) made ≡ drafts
   pub whole : (n : ℕ) → calls_on n calls ++ others n ≡ calls_on n (way.calls made)
 
+-- Each signer has no more of the former than of the latter.
+abbrev pub AreWithin : List Call → List Call → Type 0
+AreWithin fewer more = (n : ℕ) → length (calls_on n fewer) ≤ length (calls_on n more)
+
+-- Nobody made another than those calls, and the signer of that number hasn't made all of its own.
+pub record FailsWithin (made calls : List Call) (number : ℕ) : Type 0 where
+  pub within : AreWithin made calls
+  pub short : length (calls_on number made) < length (calls_on number calls)
+
 -- Of the signers that counted a fault at the call that came next, that one is the least. Each
--- behind it may have counted one, too.
+-- behind it may have counted one, too. Its call is a first one, and nobody made another than these;
+-- or all first ones are made.
 pub record IsFault
     (way : Way) (drafts : List Draft) (old new : List SignerState) (number : ℕ) : Type 0 where
   pub calls : List Call
@@ -83,14 +96,17 @@ pub record IsFault
   pub next : Call
   pub behind : List Call
   pub more : others number ≡ next ∷ behind
+  pub phase : FailsWithin calls (way.firsts begun.made) number
+      ⊎ AreWithin (way.firsts begun.made) calls
   pub fault : CountFaults number (after_calls old calls) new
 
--- Memory ran out behind such calls.
+-- Memory ran out behind such calls: behind first ones alone, or behind all of them.
 pub record IsShort
     (way : Way) (drafts : List Draft) (old new : List SignerState) : Type 0 where
   pub calls : List Call
   pub others : ℕ → List Call
   pub begun : AreBegun way drafts calls others
+  pub phase : AreWithin calls (way.firsts begun.made) ⊎ AreWithin (way.firsts begun.made) calls
   pub signers : new ≡ after_calls old calls
 
 abbrev pub IsStop :

@@ -240,8 +240,8 @@ fn finish_all<S: Signer + Send, R: Threads + Sync>(
 /// Signs manifests, which list these files. Their certificates take the next serials of their keys.
 ///
 /// Their contents are signed, and then their certificates: by each signer its own, in the manifests' order, and by all
-/// of them at the same time. The keys that sign contents come from the signers of the issuing keys. `next` has the next serial for each key of the edition, and `files` a list
-/// for each manifest.
+/// of them at the same time. The keys that sign contents come from the signers of the issuing keys. `next` has the
+/// next serial for each key of the edition, and `files` a list for each manifest.
 pub fn sign_manifests<S: Signer + Send, R: Threads + Sync>(
     rt: &R,
     alloc: Global,
@@ -266,7 +266,8 @@ pub fn sign_manifests<S: Signer + Send, R: Threads + Sync>(
         (map manifest_of manifests.now) ring.old ring.new objects.items
         (signed (map manifest_of manifests.now) (map answers_of objects.items))) }
 
-    // A signer failed, or memory ran out, behind the first of each signer's own calls.
+    // A signer failed, or memory ran out, behind the first of each signer's own calls; and behind none of the second
+    // ones unless all first ones were made.
     ensures stopped { IfErr result (λ fault. (b : SignInputValue)
         → IsSignInput sign_input.now b → AreManifests b manifests.now next.now files.items
         → IsStop (of_manifests (input_of sign_input.now.input.now) b) (map manifest_of manifests.now)

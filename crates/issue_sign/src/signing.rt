@@ -44,7 +44,8 @@ pub fn sign_drafts<S: Signer + Send, R: Threads + Sync>(
         (map draft_of drafts.now) ring.old ring.new objects.items
         (signed (map draft_of drafts.now) (map answers_of objects.items))) }
 
-    // A signer failed, or memory ran out, behind the first of each signer's own calls.
+    // A signer failed, or memory ran out, behind the first of each signer's own calls; and behind none of the second
+    // ones unless all first ones were made.
     ensures stopped { IfErr result (λ fault. (b : SignInputValue)
         → IsSignInput sign_input.now b → AreDrafts b drafts.now serials.now
         → IsStop (of_drafts (input_of sign_input.now.input.now) b) (map draft_of drafts.now)

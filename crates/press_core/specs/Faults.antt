@@ -33,7 +33,7 @@ pub record IsNothing (start : PrepareInput) (serial : ℕ) : Type 0 where
   pub called : IsCalled start sets false
 
 -- A fault of the signer was counted after the first of the keys that the plan makes, or after all of
--- them and calls that sign.
+-- them and the first of each signer's own calls for its objects.
 pub record IsSignersFault (start : PrepareInput) (ring : List SignerState) (signer : ℕ)
     : Type 0 where
   pub work : Work
@@ -47,8 +47,8 @@ pub record IsKeysClash (start : PrepareInput) (ring : List SignerState) (id : Li
   pub planned : IsPlanned start work
   pub clash : IsClash work.new_keys start.at.rows start.ring ring id
 
--- Memory ran out behind calls for the plan: while keys were made, behind calls that sign, or once all
--- was made.
+-- Memory ran out behind calls for the plan: while keys were made, while its objects were signed, or
+-- once all was made.
 pub record IsShort (start : PrepareInput) (ring : List SignerState) : Type 0 where
   pub work : Work
   pub planned : IsPlanned start work

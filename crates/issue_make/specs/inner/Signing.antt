@@ -1,5 +1,6 @@
 -- The objects of a plan, signed.
-use Rattle.std.specs.Prelude.{◌≡◌, ◌<◌, ◌^◌, ℕ, true, List, ◌++◌, map, length, All}
+use Rattle.std.specs.Prelude.{◌≡◌, ◌<◌, ◌^◌, ◌⊎◌, ℕ, true, List, [], ◌++◌, map, length, All}
+use Rattle.std.specs.Prelude.{Option, None, Some}
 use Rattle.std.specs.List.{HoldsAt, zip}
 use Rattle.cert_obj.specs.Values.{is_uri}
 use Rattle.pub_set.specs.Objects.{Rise}
@@ -20,10 +21,11 @@ use Rattle.issue_drafts.specs.declared.draft.DraftKind.{DraftKind}
 use Rattle.issue_drafts.specs.declared.draft.DraftKind.TheVariants.{Authority, Route, Crl}
 use Rattle.issue_drafts.specs.Files.{AreMerged, AreListable, kept_files, made_files}
 use Rattle.issue_drafts.specs.Touching.{AreTouched}
-use Rattle.issue_sign.specs.Objects.{Entries, Files}
+use Rattle.issue_sign.specs.Objects.{Entries, Files, Signed}
 use Rattle.issue_sign.specs.SignInput.{SignInputValue}
-use Rattle.issue_sign.specs.Made.{AreMade, answers_of, signed, of_drafts, of_manifests}
-use Rattle.issue_make.specs.Made.{IsSigning}
+use Rattle.issue_sign.specs.Made.{AreMade, AreWithin, answers_of, signed, of_drafts, of_manifests}
+use Rattle.issue_make.specs.Trace.{IssuingTrace, AreListed}
+use Rattle.issue_make.specs.Made.{to_objects, AreSignedTo, IsSigned}
 use Rattle.issue_make.specs.ObjectPlan.{puts, IsObjectPlan}
 use Rattle.issue_make.specs.declared.plans.ObjectPlan.{ObjectPlan}
 use Rattle.issue_make.specs.declared.objects.Objects.{Objects}
@@ -92,16 +94,60 @@ pub record AreSigned
       old between objects.drafted.items
       (signed (map draft_of plan.drafts.items) (map answers_of objects.drafted.items))
   pub listed : AreMade s (sign_input_of s keys rows entries files)
-      (of_manifests s (sign_input_of s keys rows entries files)) (map manifest_of plan.manifests.items)
+      (of_manifests s (sign_input_of s keys rows entries files))
+      (map manifest_of plan.manifests.items)
       between new objects.listed.items
       (signed (map manifest_of plan.manifests.items) (map answers_of objects.listed.items))
 
 -- ---- why it stopped
 
--- Behind calls that sign a signer counted a fault, or memory ran out.
-abbrev pub IsSigningStop : List SignerState → List SignerState → MakeFault → Type 0
-IsSigningStop old new (SignerFault signer) =
-    (calls : List Call) × All IsSigning calls × CountFaults signer (after_calls old calls) new
-IsSigningStop old new (KeyClash id) = ⊥
-IsSigningStop old new Memory =
-    (calls : List Call) × All IsSigning calls × (new ≡ after_calls old calls)
+-- A trace over those keys and entries.
+abbrev pub trace_over :
+    Keys → Entries → Files → List Signed → List Signed → IssuingTrace
+trace_over keys entries files objects listed = record {
+  keys = keys;
+  objects = objects;
+  listed = listed;
+  entries = entries;
+  files = files;
+}
+
+-- The objects of a plan are signed as far as these calls. What its manifests list is left open as
+-- long as nothing of them is signed.
+pub record IsPlanSigned
+    (s : IssueInput) (keys : Keys) (entries : Entries) (plan : ObjectPlan) (failed : Option ℕ)
+    (calls : List Call)
+    : Type 0 where
+  pub files : Files
+  pub objects : List Signed
+  pub listed : List Signed
+  pub drafts : map (λ x. x.draft) objects ≡ map draft_of plan.drafts.items
+  pub manifests : map (λ x. x.draft) listed ≡ map manifest_of plan.manifests.items
+  pub lists :
+      AreWithin calls (to_objects s (trace_over keys entries files objects listed))
+      ⊎ AreListed s (trace_over keys entries files objects listed)
+  pub signed : AreSignedTo s (trace_over keys entries files objects listed) failed calls
+
+-- Behind such calls a signer counted a fault, or memory ran out.
+abbrev pub IsSigningStop :
+    IssueInput → Keys → Entries → ObjectPlan → List SignerState → List SignerState → MakeFault
+    → Type 0
+IsSigningStop s keys entries plan old new (SignerFault signer) =
+    (calls : List Call) × IsPlanSigned s keys entries plan (Some signer) calls
+    × CountFaults signer (after_calls old calls) new
+IsSigningStop s keys entries plan old new (KeyClash id) = ⊥
+IsSigningStop s keys entries plan old new Memory =
+    (calls : List Call) × IsPlanSigned s keys entries plan None calls
+    × (new ≡ after_calls old calls)
+
+-- The same of an edition over these new keys; memory may run out before anything is signed.
+abbrev pub IsObjectsStop :
+    IssueInput → List KeyRow → List KeyRow → List SignerState → List SignerState → MakeFault
+    → Type 0
+IsObjectsStop s live fresh old new (SignerFault signer) =
+    (calls : List Call) × IsSigned s live fresh (Some signer) calls
+    × CountFaults signer (after_calls old calls) new
+IsObjectsStop s live fresh old new (KeyClash id) = ⊥
+IsObjectsStop s live fresh old new Memory =
+    (calls : List Call) × ((calls ≡ []) ⊎ IsSigned s live fresh None calls)
+    × (new ≡ after_calls old calls)

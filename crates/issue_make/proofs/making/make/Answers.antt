@@ -1,5 +1,5 @@
 use Rattle.std.proofs.Common.{◌≡◌, ℕ, true, List, All, get_or, drop, length, sym, subst}
-use Rattle.std.specs.Result.{IfOk}
+use Rattle.std.specs.Result.{IfOk, IfErr}
 use Rattle.std.proofs.lemmas.Result.{IfOk-weaker, IfErr-weaker, err_from_is_err_and}
 use Rattle.names.specs.Name.{IsName}
 use Rattle.origins.specs.declared.Origin.{Origin}
@@ -11,7 +11,7 @@ use Rattle.issue_values.specs.Publishers.{roa_uri}
 use Rattle.issue_drafts.specs.IssueInput.{IssueInput}
 use Rattle.issue_make.specs.inner.Naming.{CanName}
 use Rattle.issue_make.specs.CanMake.{input_with, CanMake}
-use Rattle.issue_make.specs.Made.{IsMade}
+use Rattle.issue_make.specs.Made.{IsMade, IsStop}
 use Rattle.issue_make.proofs.Assembled.{is-made, are-ready}
 use Rattle.issue_make.proofs.MakeStops.{stop-keys, stop-signing}
 use Rattle.issue_make.proofs.making.make.Goals as goal
@@ -80,9 +80,21 @@ returns-clause-made g c =
 pub returns-clause-stopped : goal.returns-clause-stopped
 returns-clause-stopped g c =
     let a = c.args in
+    let s : IssueInput = record { work = a.work.now; names = a.names.now; issued = c.as_slice-issued.result.now; site = a.site.now } in
     let keys = c.in_ok-keys.keys in
-    IfErr-weaker c.make_objects.result _ _
+    let k = c.in_ok-keys.ensures in
+    let n = c.can_be_named.ensures in
+    let work : CanMake s a.rows.now (length a.ring.now) =
+    subst (λ (l : List IssuedRow). CanMake (record { work = a.work.now; names = a.names.now; issued = l; site = a.site.now })
+    a.rows.now (length a.ring.now)) (sym c.as_slice-issued.ensures) c.requires in
+    subst (λ (l : List IssuedRow). IfErr c.make_objects.result
+    (IsStop (record { work = a.work.now; names = a.names.now; issued = l; site = a.site.now }) a.rows.now a.ring.now c.make_objects.new.ring))
+    c.as_slice-issued.ensures
+    (IfErr-weaker c.make_objects.result _ _
     (λ fault h.
-    stop-signing (input_with a.work.now a.names.now a.issued.now a.site.now) a.rows.now a.ring.now c.edition_keys.new.ring c.make_objects.new.ring
-    (drop keys.first_fresh keys.rows.items) fault c.in_ok-keys.ensures.made h)
-    c.make_objects.ensures.stopped
+    stop-signing s a.rows.now a.ring.now c.edition_keys.new.ring c.make_objects.new.ring (drop keys.first_fresh keys.rows.items) fault k.made
+    (h a.rows.now
+    (are-ready s a.rows.now keys.rows.items keys.first_fresh a.ring.now c.edition_keys.new.ring work
+    c.edition_keys.ensures.signers k.inside k.kept k.made
+    (can-name a.site.now a.names.now n.anchor n.certificate n.roa c.requires.plain))))
+    c.make_objects.ensures.stopped)

@@ -1,15 +1,17 @@
-use Rattle.std.proofs.Common.{◌≤◌, List, [], map, drop, length, refl, sym, subst, arith}
+use Rattle.std.proofs.Common.{◌≤◌, inl, List, [], map, drop, length, refl, sym, subst}
 use Rattle.std.specs.List.Sorted.{IsNonDecreasing}
 use Rattle.std.proofs.lemmas.Result.{err_from_is_err_and}
 use Rattle.key_roll.specs.declared.rows.KeyRow.{KeyRow}
+use Rattle.issue_keys.specs.declared.fault.MakeFault.TheVariants.{Memory}
 use Rattle.issue_drafts.specs.WorkKeys.{keys_at}
 use Rattle.issue_drafts.specs.IssueInput.{input_of}
 use Rattle.issue_make.specs.inner.Finished.{IsFinished}
+use Rattle.issue_make.specs.inner.Signing.{IsObjectsStop}
 use Rattle.issue_make.proofs.Conditions.{desks-of}
 use Rattle.issue_make.proofs.Found.{can-plan-at, ready-at}
 use Rattle.issue_make.proofs.Signable.{can-be-signed}
 use Rattle.issue_make.proofs.ComesOut.{can-come-out}
-use Rattle.issue_make.proofs.Traced.{is-finished, stop-made}
+use Rattle.issue_make.proofs.Traced.{is-finished, plan-stop, stop-made}
 use Rattle.issue_make.proofs.making.make_objects.Goals as goal
 
 pub new-requires-clause-inside : goal.new-requires-clause-inside
@@ -72,36 +74,44 @@ returns-clause-made g c = λ live are.
 pub returns-in_err-finder-clause-stopped : goal.returns-in_err-finder-clause-stopped
 returns-in_err-finder-clause-stopped g c =
     let was = err_from_is_err_and c.from_residual.result c.from_residual.ensures.1 in
-    rw (was.1, was.2) ([], λ k d lt. absurd (omega arith), refl)
+    rw (was.1, was.2) (λ live are. ([], inl refl, refl))
 
 pub returns-in_err-plan-clause-stopped : goal.returns-in_err-plan-clause-stopped
 returns-in_err-plan-clause-stopped g c =
     let was = err_from_is_err_and c.from_residual-in_err-plan.result c.from_residual-in_err-plan.ensures.1 in
-    rw (was.1, was.2) ([], λ k d lt. absurd (omega arith), refl)
+    rw (was.1, was.2) (λ live are. ([], inl refl, refl))
 
 pub returns-in_err-objects-clause-stopped : goal.returns-in_err-objects-clause-stopped
 returns-in_err-objects-clause-stopped g c =
+    let was = err_from_is_err_and c.from_residual-in_err-objects.result c.from_residual-in_err-objects.ensures.1 in
+    rw (was.1, was.2)
+    (λ live are.
     let s = input_of c.args.input.now in
     let keys = c.args.keys.now in
     let rows = c.as_slice-rows.result.now in
-    let ready = ready-at s c.requires.live keys.rows.items rows keys.first_fresh (length c.args.ring.now) c.in_ok-finder.finder c.in_ok-plan.plan
-    c.requires.ready c.as_slice-rows.ensures.value c.in_ok-finder.ensures c.in_ok-plan.ensures in
+    let ready = ready-at s live keys.rows.items rows keys.first_fresh (length c.args.ring.now) c.in_ok-finder.finder c.in_ok-plan.plan
+    are c.as_slice-rows.ensures.value c.in_ok-finder.ensures c.in_ok-plan.ensures in
     let p = ready.is_plan in
-    let was = err_from_is_err_and c.from_residual-in_err-objects.result c.from_residual-in_err-objects.ensures.1 in
-    rw (was.1, was.2)
-    (c.in_err-objects.ensures.stopped (keys_at rows keys.first_fresh) rows p.entries.of p p.entries.is)
+    subst (λ (l : List KeyRow). IsObjectsStop s live (drop keys.first_fresh l) c.args.ring.now c.sign_objects.new.ring c.in_err-objects.field-0.0)
+    c.as_slice-rows.ensures.value
+    (plan-stop s live rows keys.first_fresh (length c.args.ring.now) c.in_ok-plan.plan ready c.args.ring.now c.sign_objects.new.ring
+    c.in_err-objects.field-0.0
+    (c.in_err-objects.ensures.stopped (keys_at rows keys.first_fresh) rows p.entries.of p p.entries.is)))
 
 pub returns-in_err-made-clause-stopped : goal.returns-in_err-made-clause-stopped
 returns-in_err-made-clause-stopped g c =
+    let was = err_from_is_err_and c.from_residual-in_err-made.result c.from_residual-in_err-made.ensures.1 in
+    rw (was.1, was.2)
+    (λ live are.
     let s = input_of c.args.input.now in
     let keys = c.args.keys.now in
     let rows = c.as_slice-rows.result.now in
     let plan = c.in_ok-plan.plan in
     let signers = length c.args.ring.now in
-    let ready = ready-at s c.requires.live keys.rows.items rows keys.first_fresh signers c.in_ok-finder.finder plan c.requires.ready
+    let ready = ready-at s live keys.rows.items rows keys.first_fresh signers c.in_ok-finder.finder plan are
     c.as_slice-rows.ensures.value c.in_ok-finder.ensures c.in_ok-plan.ensures in
     let p = ready.is_plan in
-    let was = err_from_is_err_and c.from_residual-in_err-made.result c.from_residual-in_err-made.ensures.1 in
-    rw (was.1, was.2)
-    (stop-made s c.requires.live rows keys.first_fresh signers plan ready c.args.ring.now c.sign_objects.new.ring c.in_ok-objects.objects
-    (c.in_ok-objects.ensures.made (keys_at rows keys.first_fresh) rows p.entries.of p p.entries.is))
+    subst (λ (l : List KeyRow). IsObjectsStop s live (drop keys.first_fresh l) c.args.ring.now c.sign_objects.new.ring Memory)
+    c.as_slice-rows.ensures.value
+    (stop-made s live rows keys.first_fresh signers plan ready c.args.ring.now c.sign_objects.new.ring c.in_ok-objects.objects
+    (c.in_ok-objects.ensures.made (keys_at rows keys.first_fresh) rows p.entries.of p p.entries.is)))

@@ -1,4 +1,4 @@
-use Rattle.std.proofs.Common.{List, [], ◌++◌, length, map, refl, sym, ap, subst, ◌∙◌, arith}
+use Rattle.std.proofs.Common.{List, [], ◌++◌, length, map, sym, ap, subst, ◌∙◌}
 use Rattle.std.specs.List.{All}
 use Rattle.std.proofs.lemmas.List.{length-map}
 use Rattle.std.proofs.lemmas.Result.{err_from_is_err_and}
@@ -12,7 +12,7 @@ use Rattle.issue_sign.specs.Made.{signed, answers_of, of_drafts, of_manifests, A
 use Rattle.issue_sign.specs.declared.object.Object.{Object}
 use Rattle.issue_make.specs.ObjectPlan.{puts}
 use Rattle.issue_make.specs.inner.Signing.{sign_input_of}
-use Rattle.issue_make.proofs.Stops.{drafts-sign, manifests-sign, stop-behind, short-behind}
+use Rattle.issue_make.proofs.PlanStops.{drafts-stop, drafts-short, manifests-stop}
 use Rattle.issue_make.proofs.Signed.{is-basis, are-drafts, are-manifests, as-many, as-many-made, lists-of}
 use Rattle.issue_make.proofs.objects.sign_objects.Goals as goal
 
@@ -23,8 +23,8 @@ returns-in_err-drafted-clause-stopped g c =
     (λ keys rows entries plan is.
     let s = input_of c.args.input.now in
     let b = sign_input_of s keys rows entries (λ key. []) in
-    stop-behind (of_drafts s b) (map draft_of c.deref-3.result.now) [] c.args.ring.now c.args.ring.now c.sign_drafts.new.ring c.in_err-drafted.field-0.0
-    (drafts-sign s b) (λ k d lt. absurd (omega arith)) refl
+    drafts-stop s keys rows entries c.args.plan.now c.deref-3.result.now c.args.ring.now c.sign_drafts.new.ring c.in_err-drafted.field-0.0
+    c.deref-3.ensures.value
     (c.in_err-drafted.ensures.stopped b
     (is-basis _ keys rows entries (λ key. []) c.args.plan.now c.deref.ensures.value c.deref-2.ensures.value plan is)
     (are-drafts s keys rows entries (λ key. []) c.args.plan.now c.deref-3.result.now c.deref-4.result.now c.deref-3.ensures.value c.deref-4.ensures.value plan)))
@@ -36,11 +36,11 @@ returns-in_err-hashes-clause-stopped g c =
     (λ keys rows entries plan is.
     let s = input_of c.args.input.now in
     let b = sign_input_of s keys rows entries (λ key. []) in
-    short-behind (of_drafts s b) (signed (map draft_of c.deref-3.result.now) (map answers_of c.in_ok-drafted.drafted.items))
-    c.args.ring.now c.sign_drafts.new.ring (drafts-sign s b)
+    drafts-short s keys rows entries c.args.plan.now c.deref-3.result.now c.args.ring.now c.sign_drafts.new.ring c.in_ok-drafted.drafted.items
+    (signed (map draft_of c.deref-3.result.now) (map answers_of c.in_ok-drafted.drafted.items)) c.deref-3.ensures.value
     (c.in_ok-drafted.ensures.made b
     (is-basis _ keys rows entries (λ key. []) c.args.plan.now c.deref.ensures.value c.deref-2.ensures.value plan is)
-    (are-drafts s keys rows entries (λ key. []) c.args.plan.now c.deref-3.result.now c.deref-4.result.now c.deref-3.ensures.value c.deref-4.ensures.value plan)).signers)
+    (are-drafts s keys rows entries (λ key. []) c.args.plan.now c.deref-3.result.now c.deref-4.result.now c.deref-3.ensures.value c.deref-4.ensures.value plan)))
 
 pub files-requires-clause-each : goal.files-requires-clause-each
 files-requires-clause-each g c =
@@ -80,11 +80,11 @@ returns-in_err-files-clause-stopped g c =
     (λ keys rows entries plan is.
     let s = input_of c.args.input.now in
     let b = sign_input_of s keys rows entries (λ key. []) in
-    short-behind (of_drafts s b) (signed (map draft_of c.deref-3.result.now) (map answers_of c.in_ok-drafted.drafted.items))
-    c.args.ring.now c.sign_drafts.new.ring (drafts-sign s b)
+    drafts-short s keys rows entries c.args.plan.now c.deref-3.result.now c.args.ring.now c.sign_drafts.new.ring c.in_ok-drafted.drafted.items
+    (signed (map draft_of c.deref-3.result.now) (map answers_of c.in_ok-drafted.drafted.items)) c.deref-3.ensures.value
     (c.in_ok-drafted.ensures.made b
     (is-basis _ keys rows entries (λ key. []) c.args.plan.now c.deref.ensures.value c.deref-2.ensures.value plan is)
-    (are-drafts s keys rows entries (λ key. []) c.args.plan.now c.deref-3.result.now c.deref-4.result.now c.deref-3.ensures.value c.deref-4.ensures.value plan)).signers)
+    (are-drafts s keys rows entries (λ key. []) c.args.plan.now c.deref-3.result.now c.deref-4.result.now c.deref-3.ensures.value c.deref-4.ensures.value plan)))
 
 pub sign_manifests-requires-clause-each : goal.sign_manifests-requires-clause-each
 sign_manifests-requires-clause-each g c = λ lifetimes lives.
@@ -103,12 +103,17 @@ returns-in_err-listed-clause-stopped g c =
     let table = c.in_ok-files.ensures.lists (puts s keys) plan.touched in
     let b = sign_input_of s keys rows entries table.of in
     let made = signed (map draft_of c.deref-3.result.now) (map answers_of c.in_ok-drafted.drafted.items) in
-    stop-behind (of_manifests s b) (map manifest_of c.deref-9.result.now) ((of_drafts s b).calls made)
-    c.args.ring.now c.sign_drafts.new.ring c.sign_manifests.new.ring c.in_err-listed.field-0.0
-    (manifests-sign s b) (drafts-sign s b made)
+    let objects = c.in_ok-drafted.drafted.items in
+    manifests-stop s keys rows entries table.of c.args.plan.now c.deref-3.result.now c.deref-9.result.now
+    c.args.ring.now c.sign_drafts.new.ring c.sign_manifests.new.ring objects made c.in_err-listed.field-0.0
+    c.deref-3.ensures.value c.deref-9.ensures.value
     (c.in_ok-drafted.ensures.made b
     (is-basis _ keys rows entries table.of c.args.plan.now c.deref.ensures.value c.deref-2.ensures.value plan is)
-    (are-drafts s keys rows entries table.of c.args.plan.now c.deref-3.result.now c.deref-4.result.now c.deref-3.ensures.value c.deref-4.ensures.value plan)).signers
+    (are-drafts s keys rows entries table.of c.args.plan.now c.deref-3.result.now c.deref-4.result.now c.deref-3.ensures.value c.deref-4.ensures.value plan))
+    (lists-of s (puts s keys) c.deref-3.result.now c.deref-6.result.now c.deref-9.result.now c.deref-8.result.now
+    (map (λ (o : Object). o.hash) objects) c.deref-7.result.now _ (c.deref-6.ensures.value ∙ sym c.deref-3.ensures.value)
+    (c.deref-8.ensures.value ∙ sym c.deref-9.ensures.value)
+    (c.deref-7.ensures.value ∙ (c.in_ok-hashes.ensures ∙ ap (map (λ (o : Object). o.hash)) c.deref-5.ensures.value)) table)
     (c.in_err-listed.ensures.stopped b
     (is-basis _ keys rows entries table.of c.args.plan.now c.deref.ensures.value c.deref-2.ensures.value plan is)
     (are-manifests s keys rows entries c.args.plan.now _ c.deref-9.result.now c.deref-8.result.now c.deref-10.result.now c.in_ok-files.files.items
