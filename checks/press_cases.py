@@ -202,6 +202,8 @@ def run(starts, lines, clocks, fails):
             clock = clocks.pop(0) if len(clocks) > 1 else clocks[0]
             told, failed = publish(exporter, clock, failed)
             replies.append(told)
+        elif words["command"] == "await":
+            replies.append(awaited(exporter.press.serial, words["serial"]))
         elif words["command"] in COMMANDS:
             try:
                 exporter.press.take(line)
@@ -213,6 +215,11 @@ def run(starts, lines, clocks, fails):
             raise Unknown
     status = "4 device failed" if failed and not exporter.export() else "0"
     return exporter, replies, status
+
+
+def awaited(seen, asked):
+    """The reply where the last edition has the one serial and the other is waited for."""
+    return reply(reply="reached", serial=seen) if seen >= asked else reply(code=30, detail=str(seen), refused="NotYet")
 
 
 def publish(exporter, clock, failed):
@@ -248,8 +255,9 @@ def compare(program, part, answer_of, top):
     folder = os.path.join(top, "crates", program)
     pairs = zip(lines_of(f"{folder}/stdin", part), lines_of(f"{folder}/stdout", part), strict=True)
     for fields, want in pairs:
-        # Of refusals the model knows that nothing is to be published, that the clock is out of range, that an export failed.
-        if set(re.findall(r'"code":(\d+)', "".join(want))) - {"24", "25", "29"}:
+        # Of refusals the model knows that nothing is to be published, that the clock is out of range, that an export failed,
+        # that an edition wasn't reached.
+        if set(re.findall(r'"code":(\d+)', "".join(want))) - {"24", "25", "29", "30"}:
             continue
         try:
             have = answer_of(fields)

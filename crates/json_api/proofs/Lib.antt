@@ -9,3 +9,4 @@ pub mod Others
 pub mod Answered
 pub mod Commas
 pub mod Once
+pub mod Told

@@ -1,8 +1,8 @@
 -- Fields are known by their names and by their places.
-use Rattle.std.proofs.Common.{◌≡◌, ℕ, ◌<◌, List, [], ◌∷◌, Bool, true, false, Option, Some, bytes_eq, get_or, map, refl, sym, ap, ◌∙◌, arith, if◌then◌else◌}
+use Rattle.std.proofs.Common.{◌≡◌, ℕ, ◌<◌, List, [], ◌∷◌, Bool, true, false, Option, Some, bytes_eq, get_or, refl, sym, ap, ◌∙◌, arith, if◌then◌else◌}
 use Rattle.std.proofs.lemmas.Slice.Eq.{bytes_eq-Decides}
 use Rattle.json_api.specs.declared.fields.Field.{Field}
-use Rattle.json_api.specs.declared.fields.Field.TheVariants.{Add, Ca, Child, Command, Parent, Remove, Resources, Signer}
+use Rattle.json_api.specs.declared.fields.Field.TheVariants.{Add, Ca, Child, Command, Looks, Parent, Remove, Resources, Serial, Signer}
 use Rattle.json_api.specs.Names.{name_of, place_of, fields, first_named, field_named}
 
 module _ {A : Type 0} (text_of : A → List ℕ) where
@@ -22,35 +22,40 @@ field_named-name_of Add = refl
 field_named-name_of Ca = refl
 field_named-name_of Child = refl
 field_named-name_of Command = refl
+field_named-name_of Looks = refl
 field_named-name_of Parent = refl
 field_named-name_of Remove = refl
 field_named-name_of Resources = refl
+field_named-name_of Serial = refl
 field_named-name_of Signer = refl
 
-pub place_within : (f : Field) → place_of f < 8
+pub place_within : (f : Field) → place_of f < 10
 place_within Add = omega arith
 place_within Ca = omega arith
 place_within Child = omega arith
 place_within Command = omega arith
+place_within Looks = omega arith
 place_within Parent = omega arith
 place_within Remove = omega arith
 place_within Resources = omega arith
+place_within Serial = omega arith
 place_within Signer = omega arith
 
-name_at : ℕ → List ℕ
-name_at i = get_or (map name_of fields) i []
+pub field_at-place : (other f : Field) → get_or fields (place_of f) other ≡ f
+field_at-place other Add = refl
+field_at-place other Ca = refl
+field_at-place other Child = refl
+field_at-place other Command = refl
+field_at-place other Looks = refl
+field_at-place other Parent = refl
+field_at-place other Remove = refl
+field_at-place other Resources = refl
+field_at-place other Serial = refl
+field_at-place other Signer = refl
 
-name_at-place : (f : Field) → name_at (place_of f) ≡ name_of f
-unfolding name_at
-name_at-place Add = refl
-name_at-place Ca = refl
-name_at-place Child = refl
-name_at-place Command = refl
-name_at-place Parent = refl
-name_at-place Remove = refl
-name_at-place Resources = refl
-name_at-place Signer = refl
+-- one place, one field, and one name
+pub same_field : (f g : Field) → place_of f ≡ place_of g → f ≡ g
+same_field f g e = sym (field_at-place f f) ∙ ap (λ (i : ℕ). get_or fields i f) e ∙ field_at-place f g
 
--- one place, one name
 pub same_place : (f g : Field) → place_of f ≡ place_of g → name_of f ≡ name_of g
-same_place f g e = sym (name_at-place f) ∙ ap name_at e ∙ name_at-place g
+same_place f g e = ap name_of (same_field f g e)

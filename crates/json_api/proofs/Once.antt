@@ -1,5 +1,5 @@
 -- No line is read in two ways.
-use Rattle.std.proofs.Common.{◌≡◌, ℕ, ◌<◌, ◌^◌, List, [], ◌∷◌, Option, Some, None, IsSomeAnd, inl, inr, refl, sym, ap, subst, ◌∙◌}
+use Rattle.std.proofs.Common.{◌≡◌, ℕ, ◌<◌, ◌≤◌, ◌^◌, List, [], ◌∷◌, Option, Some, None, IsSomeAnd, inl, inr, refl, sym, ap, subst, ◌∙◌}
 use Rattle.std.specs.Prelude.{Result, codes, option_and_then}
 use Rattle.serde_json.specs.Data.{Data, Items, no_items, item}
 use Rattle.serde_json.specs.Find.{get, as_str, as_array, as_number, as_u64}
@@ -22,9 +22,9 @@ use Rattle.json_api.specs.declared.line.LineFault.{LineFault}
 use Rattle.json_api.specs.declared.slots.Slot.{Slot}
 use Rattle.json_api.specs.declared.slots.Slot.TheVariants as slot
 use Rattle.json_api.specs.Names.{name_of, kind_of}
-use Rattle.json_api.specs.Rows.{Slots, as_row, as_name, as_number as number_in, as_resources, as_origins}
+use Rattle.json_api.specs.Rows.{Slots, as_row, as_name, as_number as number_in, as_serial, as_looks, as_resources, as_origins}
 use Rattle.json_api.specs.Table.{row_named, line_of}
-use Rattle.json_api.specs.Line.{AreOriginTexts, IsSetText, AreResources, Says, Tells, AreSlots, ReadsValue, ReadsLine}
+use Rattle.json_api.specs.Line.{most_looks, AreOriginTexts, IsSetText, AreResources, Says, Tells, AreSlots, ReadsValue, ReadsLine}
 use Rattle.res_sets.specs.laws.SetLaws.{same_resources}
 
 -- what is known of the texts of sets and of origins
@@ -88,6 +88,8 @@ row_slot slot.Bad x e = absurd (cc)
 row_slot (slot.Row of) x e = cc
 row_slot (slot.Name name) x e = absurd (cc)
 row_slot (slot.Number n) x e = absurd (cc)
+row_slot (slot.Serial n) x e = absurd (cc)
+row_slot (slot.Looks n) x e = absurd (cc)
 row_slot (slot.Resources held) x e = absurd (cc)
 row_slot (slot.Origins origins) x e = absurd (cc)
 
@@ -97,6 +99,8 @@ name_slot slot.Bad x e = absurd (cc)
 name_slot (slot.Row of) x e = absurd (cc)
 name_slot (slot.Name name) x e = cc
 name_slot (slot.Number n) x e = absurd (cc)
+name_slot (slot.Serial n) x e = absurd (cc)
+name_slot (slot.Looks n) x e = absurd (cc)
 name_slot (slot.Resources held) x e = absurd (cc)
 name_slot (slot.Origins origins) x e = absurd (cc)
 
@@ -106,8 +110,32 @@ number_slot slot.Bad x e = absurd (cc)
 number_slot (slot.Row of) x e = absurd (cc)
 number_slot (slot.Name name) x e = absurd (cc)
 number_slot (slot.Number n) x e = cc
+number_slot (slot.Serial n) x e = absurd (cc)
+number_slot (slot.Looks n) x e = absurd (cc)
 number_slot (slot.Resources held) x e = absurd (cc)
 number_slot (slot.Origins origins) x e = absurd (cc)
+
+serial_slot : (s : Slot) (x : ℕ) → as_serial s ≡ Some x → s ≡ slot.Serial x
+serial_slot slot.Absent x e = absurd (cc)
+serial_slot slot.Bad x e = absurd (cc)
+serial_slot (slot.Row of) x e = absurd (cc)
+serial_slot (slot.Name name) x e = absurd (cc)
+serial_slot (slot.Number n) x e = absurd (cc)
+serial_slot (slot.Serial n) x e = cc
+serial_slot (slot.Looks n) x e = absurd (cc)
+serial_slot (slot.Resources held) x e = absurd (cc)
+serial_slot (slot.Origins origins) x e = absurd (cc)
+
+looks_slot : (s : Slot) (x : ℕ) → as_looks s ≡ Some x → s ≡ slot.Looks x
+looks_slot slot.Absent x e = absurd (cc)
+looks_slot slot.Bad x e = absurd (cc)
+looks_slot (slot.Row of) x e = absurd (cc)
+looks_slot (slot.Name name) x e = absurd (cc)
+looks_slot (slot.Number n) x e = absurd (cc)
+looks_slot (slot.Serial n) x e = absurd (cc)
+looks_slot (slot.Looks n) x e = cc
+looks_slot (slot.Resources held) x e = absurd (cc)
+looks_slot (slot.Origins origins) x e = absurd (cc)
 
 resources_slot : (s : Slot) (x : Resources) → as_resources s ≡ Some x → s ≡ slot.Resources x
 resources_slot slot.Absent x e = absurd (cc)
@@ -115,6 +143,8 @@ resources_slot slot.Bad x e = absurd (cc)
 resources_slot (slot.Row of) x e = absurd (cc)
 resources_slot (slot.Name name) x e = absurd (cc)
 resources_slot (slot.Number n) x e = absurd (cc)
+resources_slot (slot.Serial n) x e = absurd (cc)
+resources_slot (slot.Looks n) x e = absurd (cc)
 resources_slot (slot.Resources held) x e = cc
 resources_slot (slot.Origins origins) x e = absurd (cc)
 
@@ -124,6 +154,8 @@ origins_slot slot.Bad x e = absurd (cc)
 origins_slot (slot.Row of) x e = absurd (cc)
 origins_slot (slot.Name name) x e = absurd (cc)
 origins_slot (slot.Number n) x e = absurd (cc)
+origins_slot (slot.Serial n) x e = absurd (cc)
+origins_slot (slot.Looks n) x e = absurd (cc)
 origins_slot (slot.Resources held) x e = absurd (cc)
 origins_slot (slot.Origins origins) x e = cc
 
@@ -148,6 +180,12 @@ says_once once kind.Name value a b x y = slot_once as_name (λ name. slot.Name n
     (λ m n p q. some_once (as_str value) m n p.0 q.0) a b x y
 says_once once kind.Number value a b x y = slot_once number_in (λ n. slot.Number n) number_slot
     (λ n. (option_and_then as_u64 (as_number value) ≡ Some n) × (n < 2 ^ 32))
+    (λ m n p q. some_once (option_and_then as_u64 (as_number value)) m n p.0 q.0) a b x y
+says_once once kind.Serial value a b x y = slot_once as_serial (λ n. slot.Serial n) serial_slot
+    (λ n. option_and_then as_u64 (as_number value) ≡ Some n)
+    (λ m n p q. some_once (option_and_then as_u64 (as_number value)) m n p q) a b x y
+says_once once kind.Looks value a b x y = slot_once as_looks (λ n. slot.Looks n) looks_slot
+    (λ n. (option_and_then as_u64 (as_number value) ≡ Some n) × (1 ≤ n) × (n ≤ most_looks))
     (λ m n p q. some_once (option_and_then as_u64 (as_number value)) m n p.0 q.0) a b x y
 says_once once kind.Resources value a b x y = slot_once as_resources (λ held. slot.Resources held) resources_slot
     (AreResources value) (resources_once once value) a b x y

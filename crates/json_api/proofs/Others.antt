@@ -9,7 +9,7 @@ use Rattle.std.proofs.lemmas.Cmp.{nat_list_cmp_total, tied_itself}
 use Rattle.serde_json.specs.Data.{Data, object, Members, no_members, member}
 use Rattle.serde_json.specs.Find.{get_member}
 use Rattle.json_api.specs.declared.fields.Field.{Field}
-use Rattle.json_api.specs.declared.fields.Field.TheVariants.{Add, Ca, Child, Command, Parent, Remove, Resources, Signer}
+use Rattle.json_api.specs.declared.fields.Field.TheVariants.{Add, Ca, Child, Command, Looks, Parent, Remove, Resources, Serial, Signer}
 use Rattle.json_api.specs.declared.fields.Kind.{Kind}
 use Rattle.json_api.specs.declared.fields.Kind.TheVariants as kind
 use Rattle.json_api.specs.declared.fields.Row.{Row}
@@ -38,11 +38,13 @@ module _ (p : Field → Bool) (h : list_all p fields ≡ true) where
       let b = both (p Ca) _ a.1 in
       let c = both (p Child) _ b.1 in
       let d = both (p Command) _ c.1 in
-      let e = both (p Parent) _ d.1 in
+      let looks = both (p Looks) _ d.1 in
+      let e = both (p Parent) _ looks.1 in
       let g = both (p Remove) _ e.1 in
       let i = both (p Resources) _ g.1 in
-      let j = both (p Signer) _ i.1 in
-      elim f as (λ f. p f ≡ true) [ Add ↦ a.0 | Ca ↦ b.0 | Child ↦ c.0 | Command ↦ d.0 | Parent ↦ e.0 | Remove ↦ g.0 | Resources ↦ i.0 | Signer ↦ j.0 ]
+      let serial = both (p Serial) _ i.1 in
+      let j = both (p Signer) _ serial.1 in
+      elim f as (λ f. p f ≡ true) [ Add ↦ a.0 | Ca ↦ b.0 | Child ↦ c.0 | Command ↦ d.0 | Looks ↦ looks.0 | Parent ↦ e.0 | Remove ↦ g.0 | Resources ↦ i.0 | Serial ↦ serial.0 | Signer ↦ j.0 ]
 
 -- ---- a member that is there
 
@@ -76,6 +78,8 @@ says_nothing : (of : Kind) (d : Data) → Says of d slot.Absent → ⊥
 says_nothing kind.Row d h = h
 says_nothing kind.Name d h = h
 says_nothing kind.Number d h = h
+says_nothing kind.Serial d h = h
+says_nothing kind.Looks d h = h
 says_nothing kind.Resources d h = h
 says_nothing kind.Origins d h = h
 
@@ -86,6 +90,8 @@ there of d slot.Bad h = refl
 there of d (slot.Row r) h = refl
 there of d (slot.Name n) h = refl
 there of d (slot.Number n) h = refl
+there of d (slot.Serial n) h = refl
+there of d (slot.Looks n) h = refl
 there of d (slot.Resources r) h = refl
 there of d (slot.Origins os) h = refl
 

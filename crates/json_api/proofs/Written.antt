@@ -25,7 +25,7 @@ pub print-string : (t : List ℕ) → print (Token.string t ∷ []) ≡ quoted t
 unfolding print_from
 print-string t = append-nil (quoted t)
 
--- the pieces of the replies to a publication and to `serial`, one after another
+-- the pieces of the reply to a publication, one after another
 pub pieces-published : (old moment objects origins serial : List ℕ)
     → old ++ codes "{\"moment\":" ++ moment ++ codes ",\"objects\":" ++ objects ++ codes ",\"origins\":" ++ origins
     ++ codes ",\"reply\":\"published\",\"serial\":" ++ serial ++ codes "}"
@@ -33,7 +33,7 @@ pub pieces-published : (old moment objects origins serial : List ℕ)
     ++ codes ",\"reply\":\"published\",\"serial\":" ++ serial ++ codes "}")
 pieces-published old moment objects origins serial = simp append_assoc
 
-pub pieces-serial : (old serial : List ℕ)
-    → old ++ codes "{\"reply\":\"serial\",\"serial\":" ++ serial ++ codes "}"
-    ≡ old ++ (codes "{\"reply\":\"serial\",\"serial\":" ++ serial ++ codes "}")
-pieces-serial old serial = simp append_assoc
+-- those of a reply whose one number comes last
+pub pieces-last : (old front number : List ℕ)
+    → old ++ front ++ number ++ codes "}" ≡ old ++ (front ++ number ++ codes "}")
+pieces-last old front number = simp append_assoc

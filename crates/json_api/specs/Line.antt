@@ -22,7 +22,7 @@ use Rattle.json_api.specs.declared.line.Line.{Line}
 use Rattle.json_api.specs.declared.line.LineFault.{LineFault}
 use Rattle.json_api.specs.declared.line.LineFault.TheVariants.{BadLine}
 use Rattle.json_api.specs.Names.{name_of, kind_of}
-use Rattle.json_api.specs.Rows.{Slots, as_row, as_name, as_number as number_in, as_resources, as_origins}
+use Rattle.json_api.specs.Rows.{Slots, as_row, as_name, as_number as number_in, as_serial, as_looks, as_resources, as_origins}
 use Rattle.json_api.specs.Table.{row_named, line_of}
 
 -- The value is a text that spells the origin.
@@ -56,11 +56,20 @@ pub record AreResources (value : Data) (held : Resources) : Type 0 where
   pub v6 : IsSetText V6 (get (codes "ipv6") value) held.v6
   pub no_other : IsSomeAnd (as_object value) (λ members. all_names is_set_name members ≡ true)
 
+-- How often is looked at most.
+abbrev pub most_looks : ℕ
+most_looks = 1000000000
+
 -- The value is in the kind's grammar, and the slot has what it says.
 abbrev pub Says : Kind → Data → Slot → Type 0
 Says kind.Row value slot = IsSomeAnd (as_row slot) (λ row. option_and_then row_named (as_str value) ≡ Some row)
 Says kind.Name value slot = IsSomeAnd (as_name slot) (λ name. (as_str value ≡ Some name) × IsName name)
 Says kind.Number value slot = IsSomeAnd (number_in slot) (λ n. (option_and_then as_u64 (as_number value) ≡ Some n) × (n < 2 ^ 32))
+Says kind.Serial value slot =
+    IsSomeAnd (as_serial slot) (λ n. option_and_then as_u64 (as_number value) ≡ Some n)
+Says kind.Looks value slot =
+    IsSomeAnd (as_looks slot)
+    (λ n. (option_and_then as_u64 (as_number value) ≡ Some n) × (1 ≤ n) × (n ≤ most_looks))
 Says kind.Resources value slot = IsSomeAnd (as_resources slot) (AreResources value)
 Says kind.Origins value slot = IsSomeAnd (as_origins slot) (λ origins. IsSomeAnd (as_array value) (λ items. AreOriginTexts items origins))
 

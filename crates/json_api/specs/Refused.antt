@@ -10,7 +10,7 @@ use Rattle.json_api.specs.declared.line.LineFault.TheVariants as fault
 use Rattle.json_api.specs.declared.refusals.Detail.{Detail}
 use Rattle.json_api.specs.declared.refusals.Detail.TheVariants.{Empty, Number, Numbers, Name, Key}
 use Rattle.json_api.specs.declared.refusals.Refused.{Refused}
-use Rattle.json_api.specs.declared.refusals.Refused.TheVariants.{NoSuchAuthority, Shut, JournalFull, DiskFault, Nothing, ClockRange, SerialEnd, SignerFault, KeyClash, OutletFault, BadLine, UnknownCommand, Memory}
+use Rattle.json_api.specs.declared.refusals.Refused.TheVariants.{NoSuchAuthority, Shut, JournalFull, DiskFault, Nothing, ClockRange, SerialEnd, SignerFault, KeyClash, OutletFault, NotYet, BadLine, UnknownCommand, Memory}
 use Rattle.json_api.specs.Reply.{refusal_spelling}
 
 -- A full journal's refusal has the bytes that it takes and those of the record; that of a failed device
@@ -26,6 +26,7 @@ refused_spelling (SerialEnd value) = refusal_spelling 26 (decimal value) (codes 
 refused_spelling (SignerFault signer) = refusal_spelling 27 (decimal signer) (codes "SignerFault")
 refused_spelling (KeyClash id) = refusal_spelling 28 (encode_lower id.bytes) (codes "KeyClash")
 refused_spelling (OutletFault serial) = refusal_spelling 29 (decimal serial) (codes "OutletFault")
+refused_spelling (NotYet seen) = refusal_spelling 30 (decimal seen) (codes "NotYet")
 refused_spelling BadLine = refusal_spelling 31 [] (codes "BadLine")
 refused_spelling UnknownCommand = refusal_spelling 32 [] (codes "UnknownCommand")
 refused_spelling Memory = refusal_spelling 40 [] (codes "Memory")

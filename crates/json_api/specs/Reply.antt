@@ -18,6 +18,10 @@ published_spelling published =
 abbrev pub serial_spelling : ℕ → List ℕ
 serial_spelling serial = codes "{\"reply\":\"serial\",\"serial\":" ++ decimal serial ++ codes "}"
 
+-- The serial that was seen, which was waited for or is behind it.
+abbrev pub reached_spelling : ℕ → List ℕ
+reached_spelling serial = codes "{\"reply\":\"reached\",\"serial\":" ++ decimal serial ++ codes "}"
+
 -- A refusal: its number, what it is about, its name.
 abbrev pub refusal_spelling : ℕ → List ℕ → List ℕ → List ℕ
 refusal_spelling code detail refused =

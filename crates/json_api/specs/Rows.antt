@@ -27,6 +27,14 @@ abbrev pub as_number : Slot → Option ℕ
 as_number (slot.Number n) = Some n
 as_number other = None
 
+abbrev pub as_serial : Slot → Option ℕ
+as_serial (slot.Serial serial) = Some serial
+as_serial other = None
+
+abbrev pub as_looks : Slot → Option ℕ
+as_looks (slot.Looks looks) = Some looks
+as_looks other = None
+
 abbrev pub as_resources : Slot → Option Resources
 as_resources (slot.Resources held) = Some held
 as_resources other = None
@@ -40,6 +48,8 @@ abbrev pub Value : Kind → Type 0
 Value kind.Row = Row
 Value kind.Name = List ℕ
 Value kind.Number = ℕ
+Value kind.Serial = ℕ
+Value kind.Looks = ℕ
 Value kind.Resources = Resources
 Value kind.Origins = List Origin
 
@@ -47,6 +57,8 @@ abbrev pub held_as : (of : Kind) → Slot → Option (Value of)
 held_as kind.Row s = as_row s
 held_as kind.Name s = as_name s
 held_as kind.Number s = as_number s
+held_as kind.Serial s = as_serial s
+held_as kind.Looks s = as_looks s
 held_as kind.Resources s = as_resources s
 held_as kind.Origins s = as_origins s
 

@@ -5,7 +5,7 @@ use Rattle.serde_json.specs.Find.{as_object}
 use Rattle.authority_book.specs.declared.commands.Command.TheVariants as commands
 use Rattle.json_api.specs.declared.fields.Field.{Field}
 use Rattle.json_api.specs.declared.fields.Field.TheVariants as field
-use Rattle.json_api.specs.declared.fields.Field.TheVariants.{Ca, Child, Parent, Remove, Signer}
+use Rattle.json_api.specs.declared.fields.Field.TheVariants.{Ca, Child, Looks, Parent, Remove, Signer}
 use Rattle.json_api.specs.declared.fields.Row.{Row}
 use Rattle.json_api.specs.declared.fields.Row.TheVariants as row
 use Rattle.json_api.specs.declared.line.Line.{Line}
@@ -47,6 +47,8 @@ table row.Publish = entry (codes "publish") []
     line.Publish
 table row.Serial = entry (codes "serial") []
     line.Serial
+table row.Await = entry (codes "await") (required field.Serial ∷ optional Looks 1000000 ∷ [])
+    (λ serial looks. line.Await serial looks)
 table row.List = entry (codes "list") []
     line.List
 table row.Show = entry (codes "show") (required Ca ∷ [])
@@ -59,8 +61,9 @@ table row.HistoryCommands = entry (codes "history commands") (required Ca ∷ []
 -- all rows
 abbrev pub rows : List Row
 rows =
-    row.Add ∷ row.Delete ∷ row.ParentsAdd ∷ row.ChildrenAdd ∷ row.ChildrenUpdate ∷ row.ChildrenRemove ∷ row.ChildrenSuspend
-    ∷ row.ChildrenUnsuspend ∷ row.RoasUpdate ∷ row.KeyrollInit ∷ row.KeyrollActivate ∷ row.Publish ∷ row.Serial ∷ row.List
+    row.Add ∷ row.Delete ∷ row.ParentsAdd ∷ row.ChildrenAdd ∷ row.ChildrenUpdate
+    ∷ row.ChildrenRemove ∷ row.ChildrenSuspend ∷ row.ChildrenUnsuspend ∷ row.RoasUpdate
+    ∷ row.KeyrollInit ∷ row.KeyrollActivate ∷ row.Publish ∷ row.Serial ∷ row.Await ∷ row.List
     ∷ row.Show ∷ row.RoasList ∷ row.HistoryCommands ∷ []
 
 -- ---- what the table says of a row

@@ -11,9 +11,11 @@ pub enum Field {
     Ca,
     Child,
     Command,
+    Looks,
     Parent,
     Remove,
     Resources,
+    Serial,
     Signer,
 }
 
@@ -26,6 +28,10 @@ pub enum Kind {
     Name,
     /// A whole number below 2^32.
     Number,
+    /// A whole number below 2^64.
+    Serial,
+    /// How often is looked: 1 to 1,000,000,000 times.
+    Looks,
     /// An object of the texts of three sets.
     Resources,
     /// A list of origins' texts.
@@ -48,20 +54,23 @@ pub enum Row {
     KeyrollActivate,
     Publish,
     Serial,
+    Await,
     List,
     Show,
     RoasList,
     HistoryCommands,
 }
 
-pub(crate) const FIELDS: [Field; 8] = [
+pub(crate) const FIELDS: [Field; 10] = [
     Field::Add,
     Field::Ca,
     Field::Child,
     Field::Command,
+    Field::Looks,
     Field::Parent,
     Field::Remove,
     Field::Resources,
+    Field::Serial,
     Field::Signer,
 ];
 
@@ -75,9 +84,11 @@ impl Field {
             Field::Ca => "ca",
             Field::Child => "child",
             Field::Command => "command",
+            Field::Looks => "looks",
             Field::Parent => "parent",
             Field::Remove => "remove",
             Field::Resources => "resources",
+            Field::Serial => "serial",
             Field::Signer => "signer",
         }
     }
@@ -91,9 +102,11 @@ impl Field {
             "ca" => Some(Field::Ca),
             "child" => Some(Field::Child),
             "command" => Some(Field::Command),
+            "looks" => Some(Field::Looks),
             "parent" => Some(Field::Parent),
             "remove" => Some(Field::Remove),
             "resources" => Some(Field::Resources),
+            "serial" => Some(Field::Serial),
             "signer" => Some(Field::Signer),
             _ => None,
         }
@@ -107,10 +120,12 @@ impl Field {
             Field::Ca => 1,
             Field::Child => 2,
             Field::Command => 3,
-            Field::Parent => 4,
-            Field::Remove => 5,
-            Field::Resources => 6,
-            Field::Signer => 7,
+            Field::Looks => 4,
+            Field::Parent => 5,
+            Field::Remove => 6,
+            Field::Resources => 7,
+            Field::Serial => 8,
+            Field::Signer => 9,
         }
     }
 
@@ -121,7 +136,9 @@ impl Field {
             Field::Add | Field::Remove => Kind::Origins,
             Field::Ca | Field::Child | Field::Parent => Kind::Name,
             Field::Command => Kind::Row,
+            Field::Looks => Kind::Looks,
             Field::Resources => Kind::Resources,
+            Field::Serial => Kind::Serial,
             Field::Signer => Kind::Number,
         }
     }
@@ -146,6 +163,7 @@ impl Row {
             "keyroll activate" => Some(Row::KeyrollActivate),
             "publish" => Some(Row::Publish),
             "serial" => Some(Row::Serial),
+            "await" => Some(Row::Await),
             "list" => Some(Row::List),
             "show" => Some(Row::Show),
             "roas list" => Some(Row::RoasList),
@@ -172,6 +190,7 @@ impl Row {
             Row::KeyrollActivate => "keyroll activate",
             Row::Publish => "publish",
             Row::Serial => "serial",
+            Row::Await => "await",
             Row::List => "list",
             Row::Show => "show",
             Row::RoasList => "roas list",

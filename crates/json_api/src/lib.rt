@@ -17,5 +17,5 @@ pub use history::history_text;
 pub use laws::reads_lines_once;
 pub use line::{Line, LineFault, LineReader, MemberName, read_line};
 pub use refusals::{MEMORY_REPLY, Refused, fault_into, memory_reply, refused_into, verdict_into};
-pub use reply::{PublishedReply, accepted_into, published_into, serial_into};
+pub use reply::{PublishedReply, accepted_into, published_into, reached_into, serial_into};
 pub use texts::{ListLine, RoaLine, RoaWord, Shown, StageWord, list_text, roas_text, show_text};

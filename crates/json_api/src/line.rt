@@ -33,6 +33,8 @@ pub enum Line {
     Publish,
     /// The serial of the last publication is asked for.
     Serial,
+    /// The edition of that serial or a later one is waited for, by so many looks at most.
+    Await { serial: u64, looks: u64 },
     /// All authorities are asked for.
     List,
     /// An authority's state is asked for.

@@ -46,6 +46,8 @@ pub enum Refused {
     KeyClash { id: KeyId },
     /// The outlet failed: the edition with that serial stands, and isn't exported.
     OutletFault { serial: u64 },
+    /// The edition that was waited for wasn't seen: the last one that was has that serial.
+    NotYet { seen: u64 },
     BadLine,
     UnknownCommand,
     Memory,
@@ -89,6 +91,7 @@ pub fn refused_into(out: &mut Vec<u8>, refused: &Refused)
         Refused::OutletFault { serial } => {
             refusal_into(out, 29, Detail::Number(serial), "OutletFault")
         }
+        Refused::NotYet { seen } => refusal_into(out, 30, Detail::Number(seen), "NotYet"),
         Refused::BadLine => refusal_into(out, 31, Detail::Empty, "BadLine"),
         Refused::UnknownCommand => refusal_into(out, 32, Detail::Empty, "UnknownCommand"),
         Refused::Memory => refusal_into(out, 40, Detail::Empty, "Memory"),

@@ -2,7 +2,7 @@
 //! 4).
 
 ghost use Rattle.std.specs.Prelude.{◌≡◌, ◌+◌, ◌≤◌, ◌++◌, decimal, length, vec_len, vec_capacity, IfOk, OnOk};
-ghost use Rattle.json_api.specs.Reply.{accepted_spelling, published_spelling, serial_spelling, refusal_spelling};
+ghost use Rattle.json_api.specs.Reply.{accepted_spelling, published_spelling, serial_spelling, reached_spelling, refusal_spelling};
 ghost use Rattle.json_api.specs.inner.Tokens.{text_member, number_member, refusal_tokens};
 
 use json::Writer;
@@ -113,6 +113,18 @@ pub fn serial_into(out: &mut Vec<u8>, serial: u64)
     ensures capacity { vec_capacity out.old ≤ vec_capacity out.new }
 {
     append(out, b"{\"reply\":\"serial\",\"serial\":");
+    append_number(out, serial);
+    append(out, b"}");
+}
+
+/// Appends the reply to `await`, in the room that is there: the serial that was seen.
+pub fn reached_into(out: &mut Vec<u8>, serial: u64)
+    requires { vec_len out.old + 200 ≤ vec_capacity out.old }
+    ensures text { out.new.items ≡ out.old.items ++ reached_spelling serial }
+    ensures short { vec_len out.new ≤ vec_len out.old + 200 }
+    ensures capacity { vec_capacity out.old ≤ vec_capacity out.new }
+{
+    append(out, b"{\"reply\":\"reached\",\"serial\":");
     append_number(out, serial);
     append(out, b"}");
 }

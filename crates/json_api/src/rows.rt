@@ -13,6 +13,9 @@ use authority_book::Command;
 use names::{ANCHOR, Name};
 use std::alloc::Global;
 
+/// How often is looked where a line doesn't say it.
+const LOOKS: u64 = 1_000_000;
+
 impl Row {
     /// The line of that row, where no other member is left: an arm a row, which takes the row's fields
     /// out of the slots in their order. The first that can't be taken is the fault.
@@ -69,6 +72,11 @@ impl Row {
             Row::KeyrollActivate => command(slots.name(Field::Ca)?, Command::ActivateRoll),
             Row::Publish => Line::Publish,
             Row::Serial => Line::Serial,
+            Row::Await => {
+                let serial = slots.serial(Field::Serial)?;
+                let looks = slots.looks_or(Field::Looks, LOOKS)?;
+                Line::Await { serial, looks }
+            }
             Row::List => Line::List,
             Row::Show => Line::Show {
                 name: slots.name(Field::Ca)?,

@@ -25,6 +25,8 @@ pub enum Slot {
     Row(Row),
     Name(Name),
     Number(u32),
+    Serial(u64),
+    Looks(u64),
     Resources(Resources),
     Origins(OriginList),
 }
@@ -32,7 +34,7 @@ pub enum Slot {
 /// A slot for each field.
 #[derive(Drop)]
 pub(crate) struct Slots {
-    items: [Slot; 8],
+    items: [Slot; 10],
 }
 
 impl Model for Slots {
@@ -43,23 +45,18 @@ impl Model for Slots {
 
     ghost view = { λ slots. slots.items };
 
-    ghost invariant = { λ slots. length slots.items ≡ 8 };
+    ghost invariant = { λ slots. length slots.items ≡ 10 };
 }
 
 impl Slots {
-    /// The slots in the order of the fields.
-    pub(crate) fn new(items: [Slot; 8]) -> Slots
-        ensures { result ≡ items }
-    {
-        Slots { items }
-    }
-
     /// The slots of no member.
     pub(crate) fn absent() -> Slots
         ensures { (f : Field) → slot_at result f ≡ Slot.Absent }
     {
         Slots {
             items: [
+                Slot::Absent,
+                Slot::Absent,
                 Slot::Absent,
                 Slot::Absent,
                 Slot::Absent,
@@ -83,7 +80,7 @@ impl Slots {
 
     // Leaves the slot of no member at that place.
     fn vacate(&mut self, place: usize)
-        requires { place < 8 }
+        requires { place < 10 }
         ensures here { get_or self.new place Slot.Absent ≡ Slot.Absent }
         ensures others { (p : ℕ) → get_or self.old p Slot.Absent ≡ Slot.Absent
             → get_or self.new p Slot.Absent ≡ Slot.Absent }
@@ -144,6 +141,30 @@ impl Slots {
         match self.take(field) {
             Slot::Absent => Ok(default),
             Slot::Number(n) => Ok(n),
+            _ => Err(bad_field(field)),
+        }
+    }
+
+    /// Takes the serial that the field has.
+    pub(crate) fn serial(&mut self, field: Field) -> Result<u64, LineFault>
+        ensures value { result ≡ of_field field (held_or Kind.Serial None (slot_at self.old field)) }
+        ensures left { self.new ≡ slice_set self.old (place_of field) Slot.Absent }
+    {
+        match self.take(field) {
+            Slot::Serial(serial) => Ok(serial),
+            _ => Err(bad_field(field)),
+        }
+    }
+
+    /// Takes how often is looked, or the default where the field is left out.
+    pub(crate) fn looks_or(&mut self, field: Field, otherwise: u64) -> Result<u64, LineFault>
+        ensures value { result
+            ≡ of_field field (held_or Kind.Looks (Some otherwise) (slot_at self.old field)) }
+        ensures left { self.new ≡ slice_set self.old (place_of field) Slot.Absent }
+    {
+        match self.take(field) {
+            Slot::Absent => Ok(otherwise),
+            Slot::Looks(looks) => Ok(looks),
             _ => Err(bad_field(field)),
         }
     }

@@ -95,7 +95,7 @@ fn take_slot(alloc: Global, reader: &mut Reader<'_>, kind: Kind) -> Result<Optio
         Kind::Row => Ok(take_row(reader)),
         Kind::Name => Ok(take_name(reader)),
         Kind::Origins => take_origins(alloc, reader),
-        Kind::Number | Kind::Resources => Ok(None),
+        Kind::Number | Kind::Serial | Kind::Looks | Kind::Resources => Ok(None),
     }
 }
 

@@ -14,7 +14,7 @@ ghost use Rattle.json_api.specs.Names.{name_of, kind_of};
 ghost use Rattle.json_api.specs.inner.Slots.{slot_at, first_left};
 ghost use Rattle.json_api.specs.Line.{Tells, AreSlots, AreResources, IsSetText, is_set_name, all_names, IsOriginText, AreOriginTexts};
 
-use crate::fields::{Field, Kind, Row};
+use crate::fields::{FIELDS, Field, Kind, Row};
 use crate::line::MemberName;
 use crate::slots::{Slot, Slots};
 use authority_book::OriginList;
@@ -28,16 +28,11 @@ use std::alloc::{AllocError, Global};
 pub(crate) fn slots_of(alloc: Global, line: &Value) -> Result<Slots, AllocError>
     ensures { IfOk result (λ slots. AreSlots (view line.now) (slot_at slots)) }
 {
-    Ok(Slots::new([
-        slot_of(alloc, line, Field::Add)?,
-        slot_of(alloc, line, Field::Ca)?,
-        slot_of(alloc, line, Field::Child)?,
-        slot_of(alloc, line, Field::Command)?,
-        slot_of(alloc, line, Field::Parent)?,
-        slot_of(alloc, line, Field::Remove)?,
-        slot_of(alloc, line, Field::Resources)?,
-        slot_of(alloc, line, Field::Signer)?,
-    ]))
+    let mut slots = Slots::absent();
+    for field in &FIELDS {
+        slots.set(*field, slot_of(alloc, line, *field)?);
+    }
+    Ok(slots)
 }
 
 fn slot_of(alloc: Global, line: &Value, field: Field) -> Result<Slot, AllocError>
@@ -56,6 +51,8 @@ fn told(alloc: Global, value: &Value, kind: Kind) -> Result<Slot, AllocError>
         Kind::Row => Ok(row_told(value)),
         Kind::Name => Ok(name_told(value)),
         Kind::Number => Ok(number_told(value)),
+        Kind::Serial => Ok(serial_told(value)),
+        Kind::Looks => Ok(looks_told(value)),
         Kind::Resources => resources_told(alloc, value),
         Kind::Origins => origins_told(alloc, value),
     }
@@ -94,6 +91,27 @@ fn number_told(value: &Value) -> Slot
     match u32::try_from(number) {
         Ok(small) => Slot::Number(small),
         Err(_) => Slot::Bad,
+    }
+}
+
+fn serial_told(value: &Value) -> Slot
+    ensures { Tells Kind.Serial (Some (view value.now)) result }
+{
+    match value.as_u64() {
+        Some(serial) => Slot::Serial(serial),
+        None => Slot::Bad,
+    }
+}
+
+// How often is looked at most.
+const MOST_LOOKS: u64 = 1_000_000_000;
+
+fn looks_told(value: &Value) -> Slot
+    ensures { Tells Kind.Looks (Some (view value.now)) result }
+{
+    match value.as_u64() {
+        Some(looks) if looks >= 1 && looks <= MOST_LOOKS => Slot::Looks(looks),
+        _ => Slot::Bad,
     }
 }
 

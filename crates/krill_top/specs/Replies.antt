@@ -1,5 +1,5 @@
 -- What a session is answered, line by line, over the desks and what is published of them.
-use Rattle.std.specs.Prelude.{◌≡◌, ◌⊎◌, ℕ, ◌≤◌, ◌||◌, ◌==◌, Bool, true, false, List, [], ◌∷◌, ◌++◌, length, IsTrue, Result, Ok, Err, Vec}
+use Rattle.std.specs.Prelude.{◌≡◌, ◌⊎◌, ℕ, ◌≤◌, ◌||◌, ◌==◌, Bool, true, false, List, [], ◌∷◌, ◌++◌, length, IsTrue, Result, Ok, Err, Vec, nat_le, if◌then◌else◌}
 use Rattle.std.specs.declared.alloc.Global.{Global}
 use Rattle.std.specs.List.{list_all}
 use Rattle.authority_book.specs.declared.commands.Command.{Command}
@@ -13,7 +13,7 @@ use Rattle.json_api.specs.declared.reply.PublishedReply.{PublishedReply}
 use Rattle.json_api.specs.Refused.{refused_spelling, verdict_spelling, fault_spelling}
 use Rattle.line_loop.specs.declared.TheConstants.{LINE_LIMIT}
 use Rattle.json_api.specs.Line.{ReadsLine}
-use Rattle.json_api.specs.Reply.{accepted_spelling, published_spelling, serial_spelling}
+use Rattle.json_api.specs.Reply.{accepted_spelling, published_spelling, serial_spelling, reached_spelling}
 use Rattle.editions.specs.Edition.{state_after}
 use Rattle.editions.specs.declared.published_state.PublishedNumbers.{PublishedNumbers}
 use Rattle.press_core.specs.declared.fault.PressFault.TheVariants as press
@@ -135,6 +135,15 @@ pub record PublishText (before : TimedInstanceState) (text : List ℕ)
 abbrev pub serial_text : InstanceState → List ℕ
 serial_text state = serial_spelling (state_after state.editions).serial
 
+-- Whether the last edition, with this serial, is the one that is waited for or a later one.
+abbrev pub awaited_text : ℕ → ℕ → List ℕ
+awaited_text asked serial =
+    if nat_le asked serial then reached_spelling serial
+    else refused_spelling (refused.NotYet serial)
+
+abbrev pub await_text : ℕ → InstanceState → List ℕ
+await_text asked state = awaited_text asked (state_after state.editions).serial
+
 -- What a line says gets this text.
 abbrev pub SaidText : Line → TimedInstanceState → List ℕ → Bool → TimedInstanceState
     → Type 0
@@ -142,6 +151,8 @@ SaidText (line.Command name command) before text changed after = CommandText nam
 SaidText line.Publish before text changed after = PublishText before text changed after
 SaidText line.Serial before text changed after = IsTold
     (serial_text before.state) before text changed after
+SaidText (line.Await serial looks) before text changed after = IsTold
+    (await_text serial before.state) before text changed after
 SaidText line.List before text changed after = IsTold
     (list_reply before.state.desk_states) before text changed after
 SaidText (line.Show name) before text changed after = IsToldSo

@@ -7,7 +7,7 @@ ghost use Rattle.json_api.specs.Refused.{verdict_spelling, fault_spelling, refus
 ghost use Rattle.krill_top.specs.Replies as spec;
 ghost use Rattle.krill_top.specs.Exports.{stop_of};
 ghost use Rattle.krill_top.specs.Publishing.{outcome_of, unmade_of, unprepared_by};
-ghost use Rattle.krill_top.specs.Replies.{is_blank_byte, IsBlank, memory_text, bad_line_text, published_in_reply, publish_text, unexported_as, serial_text, IsTold, CommandText, PublishText, SaidText, IsToldOr, IsVerdictText, IsFaultText, IsTextIn};
+ghost use Rattle.krill_top.specs.Replies.{is_blank_byte, IsBlank, memory_text, bad_line_text, published_in_reply, publish_text, unexported_as, serial_text, awaited_text, await_text, IsTold, CommandText, PublishText, SaidText, IsToldOr, IsVerdictText, IsFaultText, IsTextIn};
 ghost use Rattle.krill_top.specs.Statuses.{wanting_fault, outlet_fault};
 ghost use Rattle.krill_top.specs.Working.{Gives, PublishesOrNot, IsPublishedOrTold};
 ghost use Rattle.krill_top.specs.inner.Instances.{MovesTimed, MayText, MayReply};
@@ -24,7 +24,7 @@ use disk_api::Disk;
 use editions::PublishedNumbers;
 use json_api::{
     Line, LineFault, LineReader, PublishedReply, Refused, accepted_into, fault_into,
-    published_into, refused_into, serial_into, verdict_into,
+    published_into, reached_into, refused_into, serial_into, verdict_into,
 };
 use line_loop::{Clock, LINE_LIMIT, LineHandler};
 use names::Name;
@@ -141,6 +141,18 @@ impl<D: Disk, G: Signer, O: Outlet, C: Clock> Handler<D, G, O, C> {
         append_serial(out, self.instance.serial());
         Ok(false)
     }
+
+    // Answers whether the last edition is the one that is waited for, or a later one. Nobody else publishes,
+    // so one look tells.
+    fn answer_await(&self, asked: u64, out: &mut Vec<u8>) -> Result<bool, AllocError>
+        ensures ok { IfOk result (λ changed. (text : List ℕ) × (out.new.items ≡ out.old.items ++ text ++ 10 ∷ [])
+            × MovesTimed D.Disk O.Outlet (λ b a. IsTold (await_text asked b.state) b text changed a) (timed C.Clock self.now) (timed C.Clock self.now)) }
+        ensures err { OnErr result (out.new.items ≡ out.old.items) }
+    {
+        out.reserve(REPLY_ROOM)?;
+        append_awaited(out, asked, self.instance.serial());
+        Ok(false)
+    }
 }
 
 impl<D: Disk, G: Signer + Send, O: Outlet, C: Clock> Handler<D, G, O, C> {
@@ -212,6 +224,7 @@ impl<D: Disk, G: Signer + Send, O: Outlet, C: Clock> Handler<D, G, O, C> {
             Line::Command { name, command } => self.answer_command(alloc, &name, command, out),
             Line::Publish => self.answer_publish(rt, alloc, out),
             Line::Serial => self.answer_serial(out),
+            Line::Await { serial, .. } => self.answer_await(serial, out),
             Line::List => append_told(out, self.instance.list(alloc)),
             Line::Show { name } => append_told(out, self.instance.show(alloc, &name)),
             Line::Roas { name } => append_told(out, self.instance.roas(alloc, &name)),
@@ -352,6 +365,19 @@ fn append_serial(out: &mut Vec<u8>, serial: u64)
 {
     serial_into(out, serial);
     append(out, b"\n");
+}
+
+// Appends the reply to `await` where the last edition has that serial, in the room that is there.
+fn append_awaited(out: &mut Vec<u8>, asked: u64, serial: u64)
+    requires { vec_len out.old + REPLY_ROOM ≤ vec_capacity out.old }
+    ensures { out.new.items ≡ out.old.items ++ awaited_text asked serial ++ 10 ∷ [] }
+{
+    if asked <= serial {
+        reached_into(out, serial);
+        append(out, b"\n");
+    } else {
+        append_refused(out, &Refused::NotYet { seen: serial });
+    }
 }
 
 // Appends the line that says why a command isn't accepted, in the room that is there, and answers whether

@@ -49,6 +49,7 @@ fn said(alloc: Global, line: &Line) -> Result<String> {
         }
         Line::Publish => text.push_str("publish")?,
         Line::Serial => text.push_str("serial")?,
+        Line::Await { serial, looks } => write!(text, "await {serial} {looks}")?,
         Line::List => text.push_str("list")?,
         Line::Show { name } => write!(text, "show {}", name.as_str())?,
         Line::Roas { name } => write!(text, "roas {}", name.as_str())?,

@@ -4,7 +4,7 @@ use crate::api::replies::{refused, text_of};
 use crate::api::shown;
 use anyhow::Result;
 use hex::FromHex;
-use json_api::{PublishedReply, Refused, published_into, serial_into};
+use json_api::{PublishedReply, Refused, published_into, reached_into, serial_into};
 use key_ids::KeyId;
 use std::alloc::Global;
 use test_support::first_field;
@@ -13,6 +13,7 @@ pub fn answer(alloc: Global, call: &str, arguments: &str) -> Result<String> {
     let reason = match call {
         "published" => return published(alloc, arguments),
         "serial" => return serial(alloc, arguments),
+        "reached" => return reached(alloc, arguments),
         "nothing" => Refused::Nothing {
             serial: arguments.parse::<u64>()?,
         },
@@ -30,6 +31,9 @@ pub fn answer(alloc: Global, call: &str, arguments: &str) -> Result<String> {
         },
         "outlet fault" => Refused::OutletFault {
             serial: arguments.parse::<u64>()?,
+        },
+        "not yet" => Refused::NotYet {
+            seen: arguments.parse::<u64>()?,
         },
         _ => return shown::answer(alloc, call, arguments),
     };
@@ -55,6 +59,12 @@ fn published(alloc: Global, arguments: &str) -> Result<String> {
 fn serial(alloc: Global, serial: &str) -> Result<String> {
     let mut out = Vec::with_capacity(alloc, 200)?;
     serial_into(&mut out, serial.parse::<u64>()?);
+    text_of(out)
+}
+
+fn reached(alloc: Global, serial: &str) -> Result<String> {
+    let mut out = Vec::with_capacity(alloc, 200)?;
+    reached_into(&mut out, serial.parse::<u64>()?);
     text_of(out)
 }
 

@@ -1,8 +1,8 @@
-use Rattle.std.proofs.Common.{decimal}
-use Rattle.json_api.proofs.Written.{pieces-serial}
+use Rattle.std.proofs.Common.{codes, decimal}
+use Rattle.json_api.proofs.Written.{pieces-last}
 use Rattle.json_api.proofs.reply.serial_into.Goals as goal
 
 pub returns-clause-text : goal.returns-clause-text
 returns-clause-text c =
-    let e = pieces-serial c.args.out.now.items (decimal c.args.serial) in
+    let e = pieces-last c.args.out.now.items (codes "{\"reply\":\"serial\",\"serial\":") (decimal c.args.serial) in
     cc

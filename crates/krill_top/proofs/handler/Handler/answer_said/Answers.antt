@@ -2,7 +2,7 @@ use Rattle.std.proofs.Common.{◌≡◌, refl}
 use Rattle.json_api.specs.declared.line.Line.TheVariants as line
 use Rattle.krill_top.specs.Reads.{list_reply, history_reply}
 use Rattle.krill_top.specs.Sheets.{IsShowText, IsRoasText}
-use Rattle.krill_top.specs.Replies.{IsTold, CommandText, PublishText, serial_text}
+use Rattle.krill_top.specs.Replies.{IsTold, CommandText, PublishText, serial_text, await_text}
 use Rattle.krill_top.specs.inner.Handlers.{timed}
 use Rattle.krill_top.proofs.Answering.{if_ok_so, read_said, kind_said, surely}
 use Rattle.krill_top.proofs.handler.Handler.answer_said.Goals as goal
@@ -33,6 +33,16 @@ returns-in-Serial-clause-ok g c = if_ok_so c.answer_serial.result _ _ c.answer_s
       kind_said g.D.Disk g.O.Outlet (λ b text changed a. IsTold (serial_text b.state) b text changed a) c.args.said line.Serial _ _ t.0 changed changed
           c.in-Serial.is refl (λ before after is. is)
           (surely g.D.Disk g.O.Outlet (λ b text changed a. IsTold (serial_text b.state) b text changed a) _ _ t.0 changed t.2),
+    ))
+
+pub returns-in-Await-clause-ok : goal.returns-in-Await-clause-ok
+returns-in-Await-clause-ok g c = if_ok_so c.answer_await.result _ _ c.answer_await.ensures.ok
+    (λ changed t. (
+      t.0,
+      t.1,
+      kind_said g.D.Disk g.O.Outlet (λ b text changed a. IsTold (await_text c.in-Await.serial b.state) b text changed a) c.args.said _ _ _ t.0 changed changed
+          c.in-Await.is refl (λ before after is. is)
+          (surely g.D.Disk g.O.Outlet (λ b text changed a. IsTold (await_text c.in-Await.serial b.state) b text changed a) _ _ t.0 changed t.2),
     ))
 
 pub returns-in-List-clause-ok : goal.returns-in-List-clause-ok
