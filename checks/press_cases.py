@@ -8,6 +8,7 @@ import json
 import os
 import re
 import sys
+import strange_stores
 from press_model import KEY_ALGORITHM, Press, bits, seq
 
 # The session that the random bytes of test_run's cases give.
@@ -237,6 +238,14 @@ def publish(exporter, clock, failed):
     return reply(moment=press.moment, objects=len(press.set), origins=origins, reply="published", serial=press.serial), False
 
 
+def strange_answer(fields):
+    """What is told of a store with an object that no press makes, whose steps are the model's too."""
+    if fields[0] not in strange_stores.KINDS:
+        raise Unknown
+    steps, told = strange_stores.case(fields[0], SESSION)
+    return told if steps == fields else ["other steps than the model's"]
+
+
 # ---- all cases
 
 def lines_of(path, part):
@@ -272,8 +281,10 @@ def compare(program, part, answer_of, top):
 
 def main():
     top = sys.argv[1]
-    counts = [compare("test_press", "publications", press_answer, top), compare("test_run", None, run_answer, top)]
-    print(f"press cases: {counts[0]} of test_press and {counts[1]} of test_run are as a model of the rules has them")
+    counts = [compare("test_press", "publications", press_answer, top), compare("test_run", None, run_answer, top),
+              compare("test_run", None, strange_answer, top)]
+    print(f"press cases: {counts[0]} of test_press and {counts[1]} of test_run are as a model of the rules has them, and "
+          f"{counts[2]} stores with objects that no press makes")
 
 
 if __name__ == "__main__":

@@ -42,3 +42,4 @@ pub mod Trees
 pub mod Assembled
 pub mod Drafted
 pub mod Profile
+pub mod AtHome

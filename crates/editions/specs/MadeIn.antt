@@ -6,11 +6,12 @@ use Rattle.der.specs.Grammar.{AreBytes}
 use Rattle.origins.specs.declared.Origin.{Origin}
 use Rattle.res_sets.specs.declared.holdings.Resources.{Resources}
 use Rattle.key_ids.specs.Uris.{Bases, folder_of, manifest_uri}
+use Rattle.authority_book.specs.declared.rows.NameRow.{NameRow}
 use Rattle.key_roll.specs.declared.rows.KeyRow.{KeyRow}
 use Rattle.cert_obj.specs.Values.{SignedCert, sets_of}
 use Rattle.crl_obj.specs.Values.{SignedCrl}
 use Rattle.pub_set.specs.Changes.{Contents}
-use Rattle.rp_rules.specs.Objects.{SignedManifest, SignedRoa}
+use Rattle.rp_rules.specs.Objects.{SignedManifest, SignedRoa, certificate_in}
 use Rattle.rp_rules.specs.Authorities.{Authority}
 use Rattle.rp_rules.specs.Certificates.{WalkContext, VouchesMore, lies_in, is_valid_at}
 use Rattle.rp_rules.specs.Points.{is_current, is_list}
@@ -20,7 +21,7 @@ use Rattle.issue_values.specs.Publishers.{Publishing}
 use Rattle.issue_values.specs.Certificates.{certificate_life, point_life, prefix_sets}
 use Rattle.issue_values.specs.Bodies.{roa_of}
 use Rattle.issue_keys.specs.Keys.{id_of}
-use Rattle.issue_drafts.specs.Publishers.{is_key, publishing_of}
+use Rattle.issue_drafts.specs.Publishers.{is_key, name_at, publishing_of}
 use Rattle.issue_drafts.specs.Drafts.{Draft, Kind}
 use Rattle.issue_drafts.specs.Drafts.Kind.{Certificate, Roa, Crl, Manifest}
 use Rattle.editions.specs.Edition.{Edition, state_after, set_after}
@@ -161,3 +162,10 @@ LastsAs s issuer made d Manifest bytes = LastsAsManifest s issuer made bytes
 abbrev pub AreClear : Bases → List KeyRow → Contents → Type 0
 AreClear site rows set = (id uri : List ℕ) → AreBytes id → All (λ key. id_of key ≢ id) rows
     → IsSome (set uri) → IsElsewhere site id uri
+
+-- Each certificate is that of a live key, and names the folder of the key's authority.
+abbrev pub AreAtHome : Bases → List NameRow → List KeyRow → Contents → Type 0
+AreAtHome site names rows set = (uri bytes : List ℕ) (certificate : SignedCert)
+    → set uri ≡ Some bytes → certificate_in bytes ≡ Some certificate
+    → (key : KeyRow) × Contains rows key × (key.key.bytes ≡ certificate.cert.key)
+    × (certificate.cert.uris.folder ≡ folder_of site (name_at names key.desk))

@@ -9,11 +9,13 @@ use Rattle.key_roll.specs.declared.issued.What.{What}
 use Rattle.key_roll.specs.declared.issued.What.TheVariants.{Authority, Route, Point}
 use Rattle.cert_obj.specs.Values.{CertValue, SignedCert, sets_of}
 use Rattle.crl_obj.specs.Values.{SignedCrl}
+use Rattle.payloads.specs.ManifestFormats.{next_update_of}
 use Rattle.pub_set.specs.Objects.{Rise}
 use Rattle.pub_set.specs.Changes.{Contents}
 use Rattle.rp_rules.specs.Objects.{SignedManifest, SignedRoa, certificate_in, crl_in, manifest_in, roa_in, is_entitys}
 use Rattle.rp_rules.specs.Authorities.{key_id}
 use Rattle.issue_values.specs.Bodies.{roa_of}
+use Rattle.issue_values.specs.Certificates.{prefix_sets}
 
 -- The row has what the certificate says: of an object's own, or of the one in it.
 pub record IsDated (certificate : CertValue) (row : IssuedRow) : Type 0 where
@@ -31,17 +33,19 @@ pub record IsAuthority (bytes : List ℕ) (key : KeyId) (held : Resources) (row 
   pub resources : certificate.cert.held ≡ Some (sets_of held)
   pub dated : IsDated certificate.cert row
 
--- The bytes are the ROA of the origin.
+-- The bytes are the ROA of the origin, and its certificate holds just the prefix.
 pub record IsRoute (bytes : List ℕ) (origin : Origin) (row : IssuedRow) : Type 0 where
   pub roa : SignedRoa
   pub read : roa_in bytes ≡ Some roa
   pub body : roa.body ≡ roa_of origin
+  pub holds : roa.certificate.cert.held ≡ Some (prefix_sets origin.prefix)
   pub dated : IsDated roa.certificate.cert row
 
--- The bytes are a manifest.
+-- The bytes are a manifest, whose nextUpdate is the end of its certificate.
 pub record IsManifest (bytes : List ℕ) (row : IssuedRow) : Type 0 where
   pub manifest : SignedManifest
   pub read : manifest_in bytes ≡ Some manifest
+  pub ends : next_update_of manifest.body ≡ manifest.certificate.cert.not_after
   pub dated : IsDated manifest.certificate.cert row
 
 -- The bytes are a CRL, which has no serial, and ends with its nextUpdate.

@@ -13,7 +13,7 @@ ghost use Rattle.issue_drafts.specs.Drafts.Kind.{Manifest};
 ghost use Rattle.issue_plan.specs.Wanted.{parent_of};
 ghost use Rattle.issue_keys.specs.Keys.{id_of};
 ghost use Rattle.editions.specs.Edition.{Edition, set_after, IsInLife};
-ghost use Rattle.editions.specs.MadeIn.{issuance_of, IsMadeIn, WasMade, LooksAt, IsAuthorityOf, LastsAs, AreClear};
+ghost use Rattle.editions.specs.MadeIn.{issuance_of, IsMadeIn, WasMade, LooksAt, IsAuthorityOf, LastsAs, AreClear, AreAtHome};
 ghost use Rattle.editions.specs.MadeIn.{IsSameKey};
 ghost use Rattle.editions.specs.Names.{AreTree};
 ghost use Rattle.editions.specs.Step.{Premises, IsStep, AreSteps, configs_at};
@@ -84,6 +84,22 @@ pub fn editions_leave_no_other_places()
         → AreTree (names_of (configs_at premises.lists edition.cut))
         → All (λ row. IsName row.name) (names_of (configs_at premises.lists edition.cut))
         → AreClear premises.site edition.rows (set_after (editions ++ edition ∷ [])) }
+{
+    files_are_told_apart();
+    keys_are_told_apart();
+    kinds_are_told_apart();
+    origins_are_told_apart();
+}
+
+/// A law, with nothing to run: in the set of an edition each certificate is that of a live key, and names the folder of
+/// the key's authority.
+pub fn certificates_name_their_folders()
+    ensures { (premises : Premises) (editions : List Edition) (edition : Edition)
+        → AreSteps premises (editions ++ edition ∷ [])
+        → AreTree (names_of (configs_at premises.lists edition.cut))
+        → All (λ row. IsName row.name) (names_of (configs_at premises.lists edition.cut))
+        → AreAtHome premises.site (names_of (configs_at premises.lists edition.cut)) edition.rows
+        (set_after (editions ++ edition ∷ [])) }
 {
     files_are_told_apart();
     keys_are_told_apart();

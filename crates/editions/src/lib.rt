@@ -30,8 +30,8 @@ pub use ended::{EndedKey, ended_keys};
 pub use folding::{configs_with, cut_with};
 pub use gathered::Gathered;
 pub use lasting_laws::{
-    editions_leave_no_other_places, lives_are_of_one_key, new_manifests_are_lists,
-    places_of_keys_stay, what_is_made_lasts, what_stands_was_made,
+    certificates_name_their_folders, editions_leave_no_other_places, lives_are_of_one_key,
+    new_manifests_are_lists, places_of_keys_stay, what_is_made_lasts, what_stands_was_made,
 };
 pub use limits::{first_at_end, next_moment};
 pub use making_laws::{the_table_goes_on, what_is_planned_and_made_follows};

@@ -12,6 +12,15 @@ use Rattle.press_core.specs.inner.Resumed.{RoaPlace, uri_of, stands_at, AddsUri}
 pub one-more : {X : Type 0} (xs : List X) (i : ℕ) (x : X) → i < length xs → x ≡ get_or xs i x → take (i + 1) xs ≡ take i xs ++ x ∷ []
 one-more xs i x less is = take_more xs i x less ∙ ap (λ y. take i xs ++ y ∷ []) (sym is)
 
+-- A list of as many, seen by a view.
+pub map-more : {X Y V : Type 0} (view : Y → V) (f : X → V) (xs : List X) (ys : List Y) (i : ℕ) (x : X) (y : Y) → i < length xs → x ≡ get_or xs i x → map view ys ≡ map f (take i xs) → view y ≡ f x
+    → map view (ys ++ y ∷ []) ≡ map f (take (i + 1) xs)
+map-more {V = V} view f xs ys i x y less is before same =
+    map-append view ys (y ∷ [])
+    ∙ (ap (λ (l : List V). l ++ view y ∷ []) before
+    ∙ (ap (λ (v : V). map f (take i xs) ++ v ∷ []) same
+    ∙ (sym (map-append f (take i xs) (x ∷ [])) ∙ ap (map f) (sym (one-more xs i x less is)))))
+
 -- ---- URIs
 
 either-way : (a b c : Bool) → (a || cond b true c) ≡ cond b true (a || c)

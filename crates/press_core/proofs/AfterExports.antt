@@ -2,7 +2,6 @@
 use Rattle.std.proofs.Common.{◌≡◌, ℕ, zero, suc, ◌+◌, ◌-◌, ◌<◌, ◌≤◌, ◌^◌, refl, sym, subst, ap, ap₂, ◌∙◌, arith, length, get_or, take, drop, map, List, [], ◌∷◌, ◌++◌, Some, None, Bool, true, false}
 use Rattle.std.specs.Prelude.{◌≢◌, Option, option_map, IfSome, nat_lt, String, Result, Ok, Err, OnOk}
 use Rattle.std.specs.declared.alloc.Global.{Global}
-use Rattle.std.specs.List.{AllByRecursion}
 use Rattle.std.proofs.lemmas.Bool.{false≢true}
 use Rattle.std.proofs.lemmas.Bool.Decides.{nat_tests}
 use Rattle.std.proofs.lemmas.List.{take-append-drop, length-append, length-drop, map-append}
@@ -25,7 +24,7 @@ use Rattle.rrdp_state.specs.Coherent.{Shows, Coherent}
 use Rattle.rrdp_state.specs.Kept.{Kept}
 use Rattle.rrdp_state.specs.State.{kept_of}
 use Rattle.rrdp_state.specs.State as rrdp_state
-use Rattle.editions.specs.Edition.{Edition, state_after, set_after}
+use Rattle.editions.specs.Edition.{Edition}
 use Rattle.editions.specs.PublishedState.{PublishedStateValue}
 use Rattle.press_core.specs.declared.last_export.LastExport.{LastExport}
 use Rattle.press_core.specs.declared.last_export.LastExport.TheVariants.{NoExport, Failed, Done}

@@ -1,13 +1,11 @@
 -- What agreed rows say of the keys that are live.
-use Rattle.std.proofs.Common.{◌≡◌, ◌≢◌, ℕ, zero, suc, ◌+◌, ◌<◌, ◌≤◌, ◌&&◌, ◌||◌, ◌==◌, nat_lt, nat_le, eqb, ltb, Bool, true, false, not, cond, List, [], ◌∷◌, ◌++◌, map, length, Option, None, Some, refl, sym, ap, subst, ◌∙◌, arith, ◌⊎◌, inl, inr, eqb-true, leb-true}
-use Rattle.std.specs.Prelude.{All, AllPairs, Contains}
-use Rattle.std.specs.List.{list_all, list_any, flat_map}
+use Rattle.std.proofs.Common.{◌≡◌, ◌≢◌, ℕ, ◌≤◌, ◌&&◌, ◌||◌, ◌==◌, nat_lt, nat_le, Bool, true, false, not, cond, List, [], ◌∷◌, map, Option, None, Some, refl, sym, subst, ◌∙◌, inl, inr, eqb-true, leb-true}
+use Rattle.std.specs.List.{list_all, list_any}
 use Rattle.std.specs.Str.{bytes_eq}
 use Rattle.std.proofs.lemmas.Bool.{and_parts, and_from, false≢true}
 use Rattle.std.proofs.lemmas.Slice.Eq.{bytes_eq-Decides}
-use Rattle.items.specs.laws.AmongLaws.{In, all-in, in-any, any-in, map-in, in-map, flat-map-in, in-flat-map, contains-in, in-contains}
+use Rattle.items.specs.laws.AmongLaws.{In, all-in, in-any, flat-map-in, in-flat-map}
 use Rattle.items.specs.laws.PairLaws.{Each, Twos, twos-pairs}
-use Rattle.sha1.specs.Sha1.{sha1}
 use Rattle.der.specs.Forms.{AreAll}
 use Rattle.key_roll.specs.declared.rows.KeyRow.{KeyRow}
 use Rattle.key_roll.specs.declared.rows.RevokedRow.{RevokedRow}
@@ -19,11 +17,11 @@ use Rattle.rp_rules.specs.Walk.{Visit, Certificate, Published, Route}
 use Rattle.rp_rules.specs.Yield.{PointValue, point_value, point_of, points}
 use Rattle.issue_values.specs.Bodies.{crl_entry, AreRevoked}
 use Rattle.issue_keys.specs.Keys.{id_of}
-use Rattle.press_records.specs.Rows.{RowValue, row_value}
+use Rattle.press_records.specs.Rows.{row_value}
 use Rattle.press_records.specs.Edition.{first_moment, is_counted, are_past, is_settled, are_apart, are_live}
 use Rattle.press_records.specs.Edition as records
 use Rattle.editions.specs.PublishedState.{AreLive}
-use Rattle.press_core.specs.Agreement.{Mismatch, mismatch, first_other, crl_mismatch, greatest_known, differs, or_else, first_told, differs_here, has_point, row_mismatch, has_row, point_mismatch, first_mismatch}
+use Rattle.press_core.specs.Agreement.{mismatch, first_other, crl_mismatch, greatest_known, differs, or_else, first_told, differs_here, has_point, row_mismatch, has_row, point_mismatch, first_mismatch}
 
 -- ---- what isn't told
 

@@ -1,14 +1,14 @@
 -- The texts that are in one of two sets alone.
-use Rattle.std.proofs.Common.{◌≡◌, ℕ, ◌||◌, Bool, true, false, not, cond, List, [], ◌∷◌, String, string_bytes, string_cmp, Option, None, Some, refl, sym, ap, subst, ◌∙◌, inl, inr}
+use Rattle.std.proofs.Common.{◌≡◌, ℕ, ◌||◌, Bool, true, false, not, cond, List, [], ◌∷◌, String, string_bytes, string_cmp, None, Some, refl, sym, ap, subst, ◌∙◌, inl, inr}
 use Rattle.std.specs.List.{list_any, AllByRecursion}
 use Rattle.std.specs.List.Sorted.{IsStrictlySortedBy}
 use Rattle.std.specs.Ordering.{is_eq, is_lt, ordering_reverse}
-use Rattle.std.specs.BTreeSet.{BTreeSet, contains_text}
+use Rattle.std.specs.BTreeSet.{BTreeSet}
 use Rattle.std.specs.declared.cmp.Ordering.{Ordering}
 use Rattle.std.specs.declared.cmp.Ordering.TheVariants.{Less, Equal, Greater}
 use Rattle.std.proofs.lemmas.Bool.{false≢true}
 use Rattle.items.specs.laws.AmongLaws.{In, in-any}
-use Rattle.pub_set.specs.Objects.{uri_cmp, is_same}
+use Rattle.pub_set.specs.Objects.{uri_cmp}
 use Rattle.pub_set.specs.laws.UriLaws.{uri_total, same_is, same_self}
 use Rattle.press_core.specs.inner.Resumed.{IsFirstInOne}
 

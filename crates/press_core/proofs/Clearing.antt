@@ -1,7 +1,7 @@
 -- Nothing stands at the places of keys that aren't live, where the audited set agrees with the rows.
-use Rattle.std.proofs.Common.{◌≡◌, ◌≢◌, ℕ, ◌+◌, ◌<◌, ◌≤◌, ◌&&◌, ◌==◌, eqb, nat_le, Bool, true, false, cond, List, [], ◌∷◌, ◌++◌, map, Option, None, Some, refl, sym, ap, subst, ◌∙◌, arith, ◌⊎◌, inl, inr, eqb-true, leb-true}
+use Rattle.std.proofs.Common.{◌≡◌, ◌≢◌, ℕ, ◌+◌, ◌≤◌, ◌&&◌, ◌==◌, eqb, nat_le, Bool, true, false, cond, List, [], ◌∷◌, map, None, refl, sym, ap, subst, ◌∙◌, arith, inl, inr, eqb-true, leb-true}
 use Rattle.std.specs.Prelude.{All, Contains}
-use Rattle.std.specs.List.{list_all, list_any, AllZip, flat_map}
+use Rattle.std.specs.List.{list_all, AllZip}
 use Rattle.std.specs.Str.{bytes_eq}
 use Rattle.std.proofs.lemmas.Bool.{and_parts, eqb-false}
 use Rattle.std.proofs.lemmas.Slice.Eq.{bytes_eq-Decides}
@@ -18,8 +18,7 @@ use Rattle.key_roll.specs.declared.issued.IssuedRow.{IssuedRow}
 use Rattle.pub_set.specs.declared.objects.Object.{Object}
 use Rattle.pub_set.specs.Objects.{content_at}
 use Rattle.rp_rules.specs.Authorities.{Authority, key_id}
-use Rattle.rp_rules.specs.Certificates.{WalkContext, is_among}
-use Rattle.rp_rules.specs.Points.{Point}
+use Rattle.rp_rules.specs.Certificates.{WalkContext}
 use Rattle.rp_rules.specs.Walk.{Visit, Certificate, Published, uris_of, visited}
 use Rattle.rp_rules.specs.Accepted.{AreAccepted}
 use Rattle.rp_rules.specs.Sound.{IsSoundBy, is_visited}
@@ -31,10 +30,11 @@ use Rattle.editions.specs.laws.RowLaws.{role-is}
 use Rattle.press_records.specs.Rows.{RowValue, row_value}
 use Rattle.press_records.specs.Stages.{is_alone, are_two, are_stages, are_staged}
 use Rattle.press_core.specs.Agreement.{first_mismatch}
+use Rattle.press_core.specs.Tables.{Home}
 use Rattle.press_core.specs.inner.Rows.{IsRowFor}
 use Rattle.press_core.proofs.Agreeing.{row-of-point, point-among}
 use Rattle.press_core.proofs.Tabled.{object-of}
-use Rattle.press_core.proofs.Visited.{IsKeyUri, IsKeyPlace, IsPlace, place-of, each-has-point}
+use Rattle.press_core.proofs.Visited.{IsKeyUri, IsPlace, place-of, each-has-point}
 
 -- ---- the anchor has no key but a current one
 
@@ -161,10 +161,10 @@ module _ (laws : AreUriLaws) (walk-law : IsWalkLaw) (s : WalkContext) (objects :
       (λ same. in-all (λ (row : KeyRow). id_of row ≢ id) w.0 rows other w.1 (w.2 ∙ same)) key.is
   elsewhere id fits other uri (inr (inr route)) = elsewhere-route laws s.bases id fits uri route
 
-  pub clear : (issued : List IssuedRow) → AllZip IsRowFor objects issued → are_staged (map row_value rows) ≡ true → IsClear s.bases rows issued
-  clear issued zip staged = record {
+  pub clear : (homes : List Home) (issued : List IssuedRow) → AllZip (IsRowFor homes) objects issued → are_staged (map row_value rows) ≡ true → IsClear s.bases rows issued
+  clear homes issued zip staged = record {
     places = λ id fits other. all-in (λ (row : IssuedRow). IsElsewhere s.bases id row.uri) issued (λ row at.
-        let w = object-of objects issued zip row at in
+        let w = object-of {homes = homes} objects issued zip row at in
         subst (λ (u : List ℕ). IsElsewhere s.bases id u) (sym w.2.uri) (elsewhere id fits other w.0.uri (place-there w.0 w.1)));
     anchor = anchor-alone rows staged;
   }

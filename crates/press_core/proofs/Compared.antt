@@ -1,5 +1,5 @@
 -- What comparing the origins tells.
-use Rattle.std.proofs.Common.{◌≡◌, ℕ, List, Option, None, Some, sym, subst}
+use Rattle.std.proofs.Common.{◌≡◌, ℕ, List, None, Some, sym, subst}
 use Rattle.std.specs.Prelude.{All}
 use Rattle.names.specs.Name.{IsName}
 use Rattle.key_ids.specs.Uris.{Bases}

@@ -1,5 +1,5 @@
 -- What loops over rows and points have come to.
-use Rattle.std.proofs.Common.{◌≡◌, ◌≢◌, ℕ, ◌+◌, ◌<◌, ◌≤◌, ◌==◌, ◌||◌, Bool, true, false, cond, List, [], ◌∷◌, map, length, get_or, drop, Option, None, Some, refl, sym, ap, ap₂, subst, ◌∙◌, arith, ne_eqb, eq-eqb}
+use Rattle.std.proofs.Common.{◌≡◌, ◌≢◌, ℕ, ◌+◌, ◌<◌, ◌≤◌, ◌||◌, Bool, true, false, cond, List, [], ◌∷◌, map, length, get_or, drop, Option, None, Some, refl, sym, ap, ap₂, ◌∙◌, ne_eqb, eq-eqb}
 use Rattle.std.specs.List.{list_any, fold}
 use Rattle.std.specs.Prelude.{max}
 use Rattle.std.proofs.lemmas.List.{drop_more, drop_all}

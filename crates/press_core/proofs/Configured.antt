@@ -1,5 +1,5 @@
 -- What the commands up to a cut come to.
-use Rattle.std.proofs.Common.{◌≡◌, ℕ, zero, suc, ◌+◌, ◌<◌, ◌≤◌, List, [], ◌∷◌, ◌++◌, length, get_or, take, Option, Some, None, refl, sym, ap, ap₂, subst, ◌∙◌, arith, take_at}
+use Rattle.std.proofs.Common.{◌≡◌, ℕ, zero, suc, ◌+◌, ◌<◌, ◌≤◌, List, [], ◌∷◌, length, get_or, take, Some, refl, sym, ap, ap₂, subst, ◌∙◌, arith, take_at}
 use Rattle.std.specs.Prelude.{slice_get}
 use Rattle.std.proofs.lemmas.Option.{same_Some, slice_get_within}
 use Rattle.std.proofs.lemmas.List.{length-append, length-map}
@@ -10,7 +10,7 @@ use Rattle.authority_book.specs.Fold.{fold_of, empty_settings, after_all, Accept
 use Rattle.editions.specs.Edition.{cut_at}
 use Rattle.editions.specs.Gathering.{commands_of, configs_with, AreAccepted}
 use Rattle.editions.specs.Gathering as gathering
-use Rattle.editions.specs.Step.{configs_from, configs_at, BeginsWith}
+use Rattle.editions.specs.Step.{configs_from, configs_at}
 use Rattle.editions.specs.PublishedState.{AreFirstConfigs, AreTakenIn, desks}
 use Rattle.editions.specs.declared.gathered.Gathered.{Gathered}
 use Rattle.press_core.specs.Resuming.{AreFirsts, AreConfigsOf, GoOnFrom}

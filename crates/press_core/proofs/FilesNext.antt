@@ -1,10 +1,10 @@
 -- The files of a press with one more edition.
-use Rattle.std.proofs.Common.{◌≡◌, ℕ, ◌+◌, refl, sym, subst, ap, ap₂, ◌∙◌, arith, length, List, [], ◌∷◌, ◌++◌}
+use Rattle.std.proofs.Common.{◌≡◌, ℕ, ◌+◌, sym, subst, ap, ap₂, ◌∙◌, length, List, [], ◌∷◌, ◌++◌}
 use Rattle.pub_set.specs.declared.objects.Object.{Object}
 use Rattle.pub_set.specs.Objects.{content_at, IsAscending}
 use Rattle.pub_set.specs.Changes.{Contents, after_all}
 use Rattle.authority_book.specs.declared.commands.Command.{Command}
-use Rattle.editions.specs.Edition.{Edition, set_after}
+use Rattle.editions.specs.Edition.{Edition}
 use Rattle.rrdp_state.specs.declared.next.NextDelta.{NextDelta}
 use Rattle.rrdp_state.specs.Editions as rrdp
 use Rattle.rrdp_state.specs.Editions.{FollowEachOther, objects_of, next_delta, edition_delta}

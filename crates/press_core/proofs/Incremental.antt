@@ -1,6 +1,6 @@
 -- A prepared edition puts just what doesn't fit, and takes the signatures of that.
 use Rattle.std.proofs.Common.{◌≡◌, ℕ, suc, ◌+◌, ◌<◌, ◌^◌, Bool, true, false, cond, Option, None, Some, List, [], ◌∷◌, ◌++◌, length, map, option_map, refl, sym, ap, ap₂, subst, ◌∙◌, ◌⊎◌, inl, inr, arith}
-use Rattle.std.specs.Prelude.{Any, Contains, IsPermutation}
+use Rattle.std.specs.Prelude.{Any, IsPermutation}
 use Rattle.std.specs.List.{list_any}
 use Rattle.std.specs.Str.{bytes_eq}
 use Rattle.std.proofs.lemmas.List.Sorted.{Contains-permutation, IsPermutation-append, IsPermutation-sym}
@@ -8,7 +8,7 @@ use Rattle.signer_api.specs.State.{SignerState}
 use Rattle.items.specs.laws.AmongLaws.{In, in-map, map-in, contains-in, in-contains}
 use Rattle.key_roll.specs.declared.rows.KeyRow.{KeyRow}
 use Rattle.pub_set.specs.declared.steps.Change.{Change}
-use Rattle.pub_set.specs.declared.steps.Change.TheVariants.{Put, Withdraw}
+use Rattle.pub_set.specs.declared.steps.Change.TheVariants.{Withdraw}
 use Rattle.pub_set.specs.Objects.{is_same, found_at}
 use Rattle.pub_set.specs.laws.UriLaws.{same_self}
 use Rattle.pub_set.specs.Changes.{change_at}

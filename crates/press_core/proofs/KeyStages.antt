@@ -1,21 +1,14 @@
 -- The keys that the making of a planned work leaves are those of stages.
-use Rattle.std.proofs.Common.{◌≡◌, ◌≢◌, ℕ, zero, suc, ◌+◌, ◌<◌, ◌&&◌, ◌==◌, Bool, true, false, cond, Option, Some, None, List, [], ◌∷◌, map, length, codes, refl, sym, ap, subst, ◌∙◌, arith, ◌↔◌}
-use Rattle.std.specs.Prelude.{All, AllPairs, Contains, slice_get, nat_le, IsPermutation}
-use Rattle.std.specs.List.Sorted.{IsSortedBy}
+use Rattle.std.proofs.Common.{◌≡◌, ◌≢◌, ℕ, zero, suc, ◌+◌, ◌&&◌, ◌==◌, Bool, true, false, cond, Some, List, [], ◌∷◌, map, codes, refl, sym, ap, subst, ◌∙◌, arith}
+use Rattle.std.specs.Prelude.{All, AllPairs, nat_le}
 use Rattle.std.proofs.lemmas.List.Elements.{All-head, All-tail}
 use Rattle.items.specs.laws.PairLaws.{Each, twos-from, twos-same}
 use Rattle.signer_api.specs.State.{SignerState}
 use Rattle.key_ids.specs.declared.identifier.KeyId.{KeyId}
 use Rattle.key_ids.specs.Uris.{Bases}
-use Rattle.authority_book.specs.declared.commands.Command.{Command}
-use Rattle.authority_book.specs.declared.rows.NameRow.{NameRow}
-use Rattle.authority_book.specs.Settings.{Settings}
-use Rattle.authority_book.specs.Fold.{fold_of, Taken}
 use Rattle.entitle.specs.Certified.{names_of}
-use Rattle.entitle.specs.declared.trees.Owed.{Owed}
 use Rattle.key_roll.specs.declared.rows.KeyRow.{KeyRow}
 use Rattle.key_roll.specs.declared.rows.Role.TheVariants.{New, Current}
-use Rattle.key_roll.specs.declared.issued.IssuedRow.{IssuedRow}
 use Rattle.key_roll.specs.declared.work.KeyName.{KeyName}
 use Rattle.key_roll.specs.declared.work.KeyName.TheVariants.{Live, Fresh}
 use Rattle.key_roll.specs.declared.work.NewKey.{NewKey}
@@ -26,12 +19,11 @@ use Rattle.issue_plan.specs.Wanted.{PlanInput}
 use Rattle.issue_plan.specs.Work.{IsPlan, new_key_by}
 use Rattle.issue_plan.specs.Work as plan
 use Rattle.issue_keys.specs.Keys.{id_of, fresh_row}
-use Rattle.issue_drafts.specs.WorkKeys.{Keys, all_keys}
+use Rattle.issue_drafts.specs.WorkKeys.{Keys}
 use Rattle.issue_drafts.specs.IssueInput.{IssueInput}
-use Rattle.issue_drafts.specs.Drafts.{serial_behind}
 use Rattle.issue_drafts.specs.Revoking.{has_point}
 use Rattle.issue_make.specs.declared.made.Made.{Made}
-use Rattle.issue_make.specs.Trace.{IssuingTrace, AreKeys, all_of, row_after, is_before}
+use Rattle.issue_make.specs.Trace.{IssuingTrace, AreKeys, row_after}
 use Rattle.issue_make.specs.Made.{IsMade}
 use Rattle.press_records.specs.Rows.{RowValue, row_value}
 use Rattle.press_records.specs.Stages.{is_alone, are_two, are_stages, are_staged}
@@ -39,7 +31,7 @@ use Rattle.editions.specs.laws.RowLaws.{either_row, keeps}
 use Rattle.editions.specs.Names.{AreTree}
 use Rattle.editions.specs.Keys.{IsNextBy, AreEach}
 use Rattle.editions.specs.PublishedState.{PublishedStateValue, IsConsistentState}
-use Rattle.editions.specs.inner.PlanAndTable.{made_from, KeepsUri, AreOfPlan}
+use Rattle.editions.specs.inner.PlanAndTable.{made_from, AreOfPlan}
 use Rattle.editions.specs.inner.Following.{CanFollow, setting_over}
 use Rattle.press_core.specs.Staged.{AreStaged, HasStages}
 use Rattle.press_core.proofs.Following.{IsNamesLaw, tree-of}

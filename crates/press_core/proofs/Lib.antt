@@ -44,3 +44,6 @@ pub mod Crashes
 pub mod Begun
 pub mod Heads
 pub mod FoundAll
+pub mod AtHome
+pub mod Spans
+pub mod Contents

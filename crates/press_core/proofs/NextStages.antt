@@ -1,5 +1,5 @@
 -- The next keys are those of stages, where the keys before were.
-use Rattle.std.proofs.Common.{◌≡◌, ℕ, zero, suc, ◌+◌, ◌<◌, ◌≤◌, ◌&&◌, ◌==◌, Bool, true, false, cond, Option, Some, None, List, [], ◌∷◌, ◌++◌, map, length, codes, refl, sym, ap, subst, ◌∙◌, arith, append_assoc}
+use Rattle.std.proofs.Common.{◌≡◌, ℕ, zero, suc, ◌+◌, ◌<◌, ◌&&◌, ◌==◌, Bool, true, false, cond, Option, Some, None, List, [], ◌∷◌, ◌++◌, map, length, codes, refl, sym, ap, subst, ◌∙◌, arith, append_assoc}
 use Rattle.std.specs.Prelude.{Contains, slice_get, get_or}
 use Rattle.std.proofs.lemmas.Bool.{and_parts, eqb-true, false≢true}
 use Rattle.std.proofs.lemmas.List.{map-append}
@@ -11,7 +11,6 @@ use Rattle.res_sets.specs.Numbers.{any_spans}
 use Rattle.res_sets.specs.declared.holdings.Resources.{Resources}
 use Rattle.res_sets.specs.Triples.{has}
 use Rattle.authority_book.specs.declared.rows.NameRow.{NameRow}
-use Rattle.authority_book.specs.Settings.{Settings}
 use Rattle.entitle.specs.Certified.{names_of, certified, most_parents, AreCertified}
 use Rattle.key_roll.specs.declared.rows.KeyRow.{KeyRow}
 use Rattle.key_roll.specs.declared.rows.Role.{Role}
@@ -25,8 +24,8 @@ use Rattle.issue_plan.specs.declared.keys.NextKey.{NextKey}
 use Rattle.issue_plan.specs.declared.keys.Asked.{Asked}
 use Rattle.issue_plan.specs.Keys.{Basis, id_of, row_of, kept, turned, made, keys_at_end, keys_after, holds_nothing, no_ranges, asked_at, keys_of, keys_at, keys_of_first, next_keys}
 use Rattle.key_roll.specs.Roles.{is_role}
-use Rattle.press_records.specs.Rows.{RowValue, row_value}
-use Rattle.press_records.specs.Stages.{is_alone, are_two, are_stages, are_staged}
+use Rattle.press_records.specs.Rows.{RowValue}
+use Rattle.press_records.specs.Stages.{are_stages, are_staged}
 use Rattle.press_core.proofs.Stages.{is-alone, begun-two, ended-two, Agree, IsGroup, stages-then, staged-first}
 use Rattle.editions.specs.laws.RowLaws.{role-is}
 

@@ -1,5 +1,5 @@
 -- Records tell one store and one list of editions.
-use Rattle.std.proofs.Common.{◌≡◌, ℕ, List, [], ◌∷◌, map, sym, ◌∙◌, subst, inl}
+use Rattle.std.proofs.Common.{◌≡◌, ℕ, List, ◌∷◌, map, sym, ◌∙◌, subst, inl}
 use Rattle.record_forms.specs.laws.ByteLaws.{same-some}
 use Rattle.record_forms.specs.laws.FormLaws.{whole-again}
 use Rattle.press_records.specs.Store.{Store, stores, IsStoreRecord}

@@ -1,9 +1,8 @@
 -- Origins that are owed and yielded, by the URIs of their ROAs.
-use Rattle.std.proofs.Common.{◌≡◌, ℕ, zero, suc, ◌+◌, ◌<◌, Bool, true, false, not, List, [], ◌∷◌, ◌++◌, map, length, string_bytes, Option, None, Some, refl, sym, ap, ap₂, subst, ◌∙◌, arith, ◌⊎◌, inl, inr, ◌↔◌}
-use Rattle.std.specs.Prelude.{All, Contains, slice_get}
+use Rattle.std.proofs.Common.{◌≡◌, ℕ, zero, suc, ◌<◌, Bool, true, false, not, List, [], ◌∷◌, ◌++◌, map, length, string_bytes, Option, None, Some, refl, sym, ap, ap₂, subst, ◌∙◌, arith, ◌⊎◌, inl, inr}
+use Rattle.std.specs.Prelude.{All, Contains}
 use Rattle.std.specs.Option.{option_map_or}
 use Rattle.std.specs.Str.{bytes_eq}
-use Rattle.std.specs.Ordering.{is_lt}
 use Rattle.std.proofs.lemmas.Bool.{false≢true}
 use Rattle.std.proofs.lemmas.Option.{slice_get-get_or}
 use Rattle.std.proofs.lemmas.Slice.Eq.{bytes_eq-Decides}
@@ -13,7 +12,7 @@ use Rattle.origins.specs.declared.Prefix.{Prefix}
 use Rattle.origins.specs.declared.Origin.{Origin}
 use Rattle.key_ids.specs.Uris.{Bases, folder_of}
 use Rattle.pub_set.specs.declared.objects.Object.{Object}
-use Rattle.pub_set.specs.Objects.{uri_cmp, content_at}
+use Rattle.pub_set.specs.Objects.{content_at}
 use Rattle.authority_book.specs.declared.rows.NameRow.{NameRow}
 use Rattle.authority_book.specs.Settings.{Settings}
 use Rattle.entitle.specs.declared.trees.Owed.{Owed}
@@ -24,16 +23,14 @@ use Rattle.issue_plan.specs.Uris.{roa_file}
 use Rattle.issue_drafts.specs.Publishers.{name_at}
 use Rattle.payloads.specs.RoaFormats.{Entry, roa_asn, roa_entries}
 use Rattle.rp_rules.specs.declared.audited.YieldedOrigin.{YieldedOrigin}
-use Rattle.rp_rules.specs.Objects.{SignedRoa}
-use Rattle.rp_rules.specs.Authorities.{Authority}
 use Rattle.rp_rules.specs.Certificates.{WalkContext}
 use Rattle.rp_rules.specs.Walk.{Visit, Certificate, Published, Route}
 use Rattle.rp_rules.specs.Accepted.{AreAccepted}
 use Rattle.rp_rules.specs.Views.{yielded_values}
-use Rattle.rp_rules.specs.Yield.{Yielded, yielded_of, yield_of, yielded_by, yield}
+use Rattle.rp_rules.specs.Yield.{Yielded, yielded_of, yielded_by, yield}
 use Rattle.editions.specs.Published.{yielded_for}
 use Rattle.press_core.specs.Agreement.{IsRoaUri, IsInOne, IsOtherOrigin, AreSameOrigins, owed_yield}
-use Rattle.press_core.specs.inner.Resumed.{RoaPlace, uri_of, yield_at, owed_place, owed_places, yielded_places, stands_at, IsLeastInOne, IsOtherPlace, IsInFolder, AreInFolders}
+use Rattle.press_core.specs.inner.Resumed.{RoaPlace, uri_of, yield_at, owed_place, owed_places, yielded_places, stands_at, IsOtherPlace, IsInFolder, AreInFolders}
 use Rattle.press_core.proofs.Visited.{route-named}
 
 -- The laws of the layers below that this rests on.

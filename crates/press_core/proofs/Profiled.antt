@@ -1,25 +1,27 @@
 -- Each object that steps leave is one that a press makes.
 use Rattle.std.proofs.Common.{◌≡◌, ℕ, Bool, true, false, cond, List, [], ◌∷◌, ◌++◌, map, Option, None, Some, refl, sym, ap, subst, ◌∙◌, ◌⊎◌, inl, inr}
-use Rattle.std.specs.Prelude.{All, Any, Contains, IsSome}
+use Rattle.std.specs.Prelude.{IsSome}
 use Rattle.std.specs.List.{filter_map}
-use Rattle.items.specs.laws.AmongLaws.{In, in-all, in-parts, filter-map-in, map-in, contains-in, in-contains}
+use Rattle.items.specs.laws.AmongLaws.{In, in-all, in-parts, filter-map-in, map-in, contains-in}
 use Rattle.sha2.specs.Sha256.{sha256}
-use Rattle.origins.specs.declared.Origin.{Origin}
 use Rattle.res_sets.specs.declared.holdings.Resources.{Resources}
 use Rattle.key_roll.specs.declared.rows.KeyRow.{KeyRow}
 use Rattle.key_roll.specs.declared.issued.IssuedRow.{IssuedRow}
+use Rattle.key_roll.specs.declared.issued.What.{What}
 use Rattle.key_roll.specs.declared.issued.What.TheVariants.{Authority, Route, Point}
 use Rattle.key_roll.specs.declared.work.CertWork.{CertWork}
 use Rattle.key_roll.specs.declared.work.RoaWork.{RoaWork}
 use Rattle.pub_set.specs.declared.objects.Object.{Object}
 use Rattle.pub_set.specs.Objects.{content_at, IsAscending}
-use Rattle.cert_obj.specs.Values.{CertValue, sets_of, is_entity}
+use Rattle.payloads.specs.ManifestFormats as manifests
+use Rattle.cert_obj.specs.Values.{CertValue, SignedCert, sets_of, is_entity}
+use Rattle.rp_rules.specs.Objects.{certificate_in}
 use Rattle.rp_rules.specs.Authorities.{key_id}
 use Rattle.key_ids.specs.Uris.{Bases}
 use Rattle.issue_values.specs.Publishers.{Publishing}
 use Rattle.issue_values.specs.Certificates.{anchor_certificate, authority_certificate}
 use Rattle.issue_plan.specs.Keys.{kept}
-use Rattle.issue_plan.specs.Wanted.{PlanInput, point_of}
+use Rattle.issue_plan.specs.Wanted.{point_of}
 use Rattle.issue_drafts.specs.WorkKeys.{Keys}
 use Rattle.issue_drafts.specs.IssueInput.{IssueInput}
 use Rattle.issue_drafts.specs.Publishers.{is_key, publishing_of}
@@ -30,7 +32,7 @@ use Rattle.editions.specs.Table.{IsTable, IsRowOf}
 use Rattle.editions.specs.Wanted.{there, whole, all_certificates, all_roas, all_objects, new_objects, keeps_certificate, keeps_roa, keeps_point}
 use Rattle.editions.specs.Objects.{Issuance, IsCertificate, IsObject, IsLeft, IsDone, IsNewSet}
 use Rattle.editions.specs.Step.{Premises, IsStep, AreSteps, plan_input_at}
-use Rattle.press_core.specs.Tables.{IsOfProfile, AreOfProfile}
+use Rattle.press_core.specs.Tables.{Home, is_at_home, IsAtHome, AreOfProfile}
 use Rattle.press_core.proofs.Tabled.{stands-there}
 
 -- The bytes have a row.
@@ -93,7 +95,7 @@ made-row m d (Roa origin) bytes is =
       row,
       record {
         hash = refl;
-        told = record { roa = is.roa; read = is.read; body = is.signed.body; dated = record { issuer = refl; serial = refl; not_after = refl } };
+        told = record { roa = is.roa; read = is.read; body = is.signed.body; holds = ap (λ (v : CertValue). v.held) is.signed.certificate.says; dated = record { issuer = refl; serial = refl; not_after = refl } };
       },
     )
 made-row m d Crl bytes is =
@@ -119,7 +121,12 @@ made-row m d Manifest bytes is =
       row,
       record {
         hash = refl;
-        told = inr (record { manifest = is.manifest; read = is.read; dated = record { issuer = refl; serial = refl; not_after = refl } });
+        told = inr (record {
+          manifest = is.manifest;
+          read = is.read;
+          ends = ap (λ (v : manifests.Manifest). manifests.next_update_of v) is.signed.body ∙ sym (ap (λ (v : CertValue). v.not_after) is.signed.certificate.says);
+          dated = record { issuer = refl; serial = refl; not_after = refl };
+        });
       },
     )
 
@@ -213,12 +220,12 @@ abbrev pub IsLastLaw : Type 0
 IsLastLaw = (premises : Premises) (editions : List Edition) (edition : Edition) → AreSteps premises (editions ++ edition ∷ [])
     → (clock : ℕ) × IsStep premises clock editions edition
 
-record Ends {X : Type 0} (xs : List X) : Type 0 where
-  front : List X
-  last : X
-  whole : xs ≡ front ++ last ∷ []
+pub record Ends {X : Type 0} (xs : List X) : Type 0 where
+  pub front : List X
+  pub last : X
+  pub whole : xs ≡ front ++ last ∷ []
 
-ends : {X : Type 0} (xs : List X) → (xs ≡ []) ⊎ Ends xs
+pub ends : {X : Type 0} (xs : List X) → (xs ≡ []) ⊎ Ends xs
 ends [] = inl refl
 ends {X} (x ∷ xs) = inr (by (ends xs))
   where
@@ -242,9 +249,18 @@ steps-row law premises editions steps uri bytes e = elim (ends editions) [
       }) made.set made.table uri bytes (ap (λ (es : List Edition). set_after es uri) (sym w.whole) ∙ e)
 ]
 
-pub steps-profile : IsLastLaw → (premises : Premises) (editions : List Edition) (objects : List Object) → AreSteps premises editions → IsAscending objects
-    → ((uri : List ℕ) → content_at objects uri ≡ set_after editions uri) → AreOfProfile objects
-steps-profile law premises editions objects steps up same object at =
-    let there = stands-there objects object up (contains-in object objects at) in
-    let w = steps-row law premises editions steps object.uri object.bytes (sym (same object.uri) ∙ there) in
-    record { row = w.0; is = w.1 }
+-- Each certificate that stands names the folder of its key's authority.
+abbrev pub AreHome : List Home → List Edition → Type 0
+AreHome homes editions = (uri bytes : List ℕ) (c : SignedCert) → set_after editions uri ≡ Some bytes → certificate_in bytes ≡ Some c → is_at_home homes c.cert ≡ true
+
+pub steps-profile : IsLastLaw → (homes : List Home) (premises : Premises) (editions : List Edition) (objects : List Object) → AreHome homes editions → AreSteps premises editions → IsAscending objects
+    → ((uri : List ℕ) → content_at objects uri ≡ set_after editions uri) → AreOfProfile homes objects
+steps-profile law homes premises editions objects home steps up same object at =
+    let there : set_after editions object.uri ≡ Some object.bytes = sym (same object.uri) ∙ stands-there objects object up (contains-in object objects at) in
+    let w = steps-row law premises editions steps object.uri object.bytes there in
+    record { row = w.0; is = w.1; home = by w.0.what (λ c read. home object.uri object.bytes c there read) }
+  where
+    by : (what : What) → ((c : SignedCert) → certificate_in object.bytes ≡ Some c → is_at_home homes c.cert ≡ true) → IsAtHome homes object.bytes what
+    by (Authority key held) is = is
+    by (Route origin) is = tt
+    by Point is = tt

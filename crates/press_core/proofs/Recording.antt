@@ -1,5 +1,5 @@
 -- The edition that is prepared can be recorded.
-use Rattle.std.proofs.Common.{◌≡◌, ◌≢◌, ℕ, suc, ◌+◌, ◌<◌, ◌≤◌, ◌&&◌, eqb, ltb, leb, Bool, true, false, not, cond, Option, None, Some, List, [], ◌∷◌, ◌++◌, map, filter, refl, sym, ap, subst, ◌∙◌, arith, inl, inr}
+use Rattle.std.proofs.Common.{◌≡◌, ◌≢◌, ℕ, suc, ◌<◌, ◌≤◌, ◌&&◌, ltb, leb, Bool, true, false, not, cond, Option, None, Some, List, [], ◌∷◌, ◌++◌, map, filter, refl, sym, ap, subst, ◌∙◌, arith, inl, inr}
 use Rattle.der.specs.Forms.{AreAll}
 use Rattle.std.specs.Prelude.{All, AllPairs, Contains, option_map, get_or}
 use Rattle.std.specs.List.{AllByRecursion, list_all, list_any}

@@ -1,6 +1,7 @@
 -- What stands when a press goes on: what was left behind an edition, and nothing before the first one.
-use Rattle.std.proofs.Common.{◌≡◌, ◌≢◌, ℕ, ◌<◌, ◌≤◌, true, List, [], length, map, get_or, Option, None, Some, refl, sym, ap, subst, ◌∙◌, arith, inl, inr}
-use Rattle.std.specs.Prelude.{All}
+use Rattle.std.proofs.Common.{◌≡◌, ℕ, List, [], length, None, sym, ap, subst, ◌∙◌, arith, inl, inr}
+use Rattle.std.specs.Prelude.{All, Contains}
+use Rattle.items.specs.laws.ElementLaws.{none as no-element}
 use Rattle.std.specs.List.{AllZip}
 use Rattle.std.specs.List.Sorted.{IsStrictlySortedBy}
 use Rattle.std.proofs.lemmas.Bool.{and_parts, cases_lt}
@@ -12,9 +13,8 @@ use Rattle.authority_book.specs.Settings.{Settings}
 use Rattle.pub_set.specs.declared.objects.Object.{Object}
 use Rattle.pub_set.specs.Objects.{content_at, IsAscending}
 use Rattle.entitle.specs.declared.trees.Owed.{Owed}
-use Rattle.entitle.specs.Certified.{settings_of}
-use Rattle.rp_rules.specs.Yield.{AuditedValue, Yielded}
-use Rattle.press_records.specs.Rows.{row_value}
+use Rattle.entitle.specs.Certified.{settings_of, names_of}
+use Rattle.rp_rules.specs.Yield.{AuditedValue}
 use Rattle.press_records.specs.declared.recovered.RecoveredParts.{RecoveredParts}
 use Rattle.editions.specs.Edition.{cut_at}
 use Rattle.editions.specs.Table.{IsTable}
@@ -24,18 +24,29 @@ use Rattle.editions.specs.declared.gathered.Gathered.{Gathered}
 use Rattle.press_core.specs.declared.opening.Owing.{Owing}
 use Rattle.press_core.specs.Agreement.{AreSameOrigins, owed_yield, first_mismatch}
 use Rattle.press_core.specs.Staged.{AreStaged, HasStages}
-use Rattle.press_core.specs.Tables.{IsHashed, AreOfProfile}
+use Rattle.press_core.specs.Tables.{Home, homes_of, IsHashed, AreOfProfile, HasOthers}
 use Rattle.press_core.specs.Resuming.{AreFirsts, AreConfigsOf}
 use Rattle.press_core.specs.inner.Rows.{IsRowFor}
-use Rattle.press_core.specs.inner.Resumed.{IsLeft, IsOwing, owed_by, IsStandingWith, IsStateOf, AreAgreedAt}
+use Rattle.press_core.specs.inner.Resumed.{IsLeft, IsOwing, owed_by, IsStandingWith, AreNamed, IsAnchored, IsStateOf, AreAgreedAt}
 use Rattle.press_core.proofs.Configured.{none-come-to, no-commands}
-use Rattle.press_core.proofs.Tabled.{hashed, tabled}
+use Rattle.press_core.proofs.Tabled.{hashed, tabled, others}
 
 -- ---- behind an edition
 
 module _ (left : RecoveredParts) (owing : Owing) (issued : List IssuedRow) (at : PublishedStateValue) (is : IsStandingWith left owing issued at) where
-  pub state-of : (firsts : List Gathered) → IsOwing firsts owing → AllZip IsRowFor left.set issued → IsAscending left.set → length left.cut ≡ desks → IsStateOf left firsts at
-  state-of firsts comes zip up long = record {
+  abbrev at_homes : Bases → List Home
+  at_homes site = homes_of site (names_of at.configs) at.rows
+
+  abbrev left_homes : Bases → List Home
+  left_homes site = homes_of site (names_of (settings_of owing.configs.items)) left.rows
+
+  same-homes : (site : Bases) → at_homes site ≡ left_homes site
+  same-homes site = ap (λ (configs : List Settings). homes_of site (names_of configs) at.rows) is.configs
+      ∙ ap (λ (rows : List KeyRow). homes_of site (names_of (settings_of owing.configs.items)) rows) is.rows
+
+  pub state-of : (site : Bases) (firsts : List Gathered) → IsOwing firsts owing → AllZip (IsRowFor (homes_of site (names_of (settings_of owing.configs.items)) left.rows)) left.set issued
+      → IsAscending left.set → length left.cut ≡ desks → AreNamed (settings_of owing.configs.items) → IsAnchored site left.rows left.set → IsStateOf site left firsts at
+  state-of site firsts comes zip up long named anchored = record {
     serial = is.serial;
     moment = is.moment;
     cut = λ desk. ap (λ (c : List ℕ). cut_at c desk) is.cut;
@@ -43,10 +54,16 @@ module _ (left : RecoveredParts) (owing : Owing) (issued : List IssuedRow) (at :
     rows = is.rows;
     set = is.set;
     hashed = subst (λ (objects : List Object). IsHashed objects at.issued) (sym is.set)
-        (subst (λ (rows : List IssuedRow). IsHashed left.set rows) (sym is.table) (hashed left.set issued zip));
+        (subst (λ (rows : List IssuedRow). IsHashed left.set rows) (sym is.table) (hashed (left_homes site) left.set issued zip));
     table = λ profile. subst (λ (objects : List Object). IsTable (content_at objects) at.issued) (sym is.set)
         (subst (λ (rows : List IssuedRow). IsTable (content_at left.set) rows) (sym is.table)
-        (tabled left.set issued zip up (subst (λ (objects : List Object). AreOfProfile objects) is.set profile)));
+        (tabled left.set issued zip up (subst (λ (homes : List Home). AreOfProfile homes left.set) (same-homes site) (subst (λ (objects : List Object). AreOfProfile (at_homes site) objects) is.set profile))));
+    others = subst (λ (homes : List Home). HasOthers homes at.set at.issued) (sym (same-homes site))
+        (subst (λ (objects : List Object). HasOthers (left_homes site) objects at.issued) (sym is.set)
+        (subst (λ (rows : List IssuedRow). HasOthers (left_homes site) left.set rows) (sym is.table) (others left.set issued zip)));
+    named = λ some. subst AreNamed (sym is.configs) named;
+    anchored = λ some. subst (λ (rows : List KeyRow). IsAnchored site rows at.set) (sym is.rows)
+        (subst (λ (objects : List Object). IsAnchored site left.rows objects) (sym is.set) anchored);
     configs = subst (λ (configs : List Settings). AreConfigsOf firsts configs) (sym is.configs) comes.come;
   }
 
@@ -61,8 +78,8 @@ module _ (left : RecoveredParts) (owing : Owing) (issued : List IssuedRow) (at :
     rows = ap (λ (rows : List KeyRow). first_mismatch rows audited.points) is.rows ∙ none;
   }
 
-pub stages-of : (left : RecoveredParts) (firsts : List Gathered) (at : PublishedStateValue) → IsStateOf left firsts at → IsLeft left → HasStages at
-stages-of left firsts at is order = record {
+pub stages-of : (site : Bases) (left : RecoveredParts) (firsts : List Gathered) (at : PublishedStateValue) → IsStateOf site left firsts at → IsLeft left → HasStages at
+stages-of site left firsts at is order = record {
   none = λ z. is.rows ∙ order.rows (sym is.serial ∙ z);
   staged = λ some.
       let live = order.live (λ z. some (is.serial ∙ z)) in
@@ -83,8 +100,8 @@ unfolding IsStrictlySortedBy
 nothing-rises = tt
 
 module _ (left : RecoveredParts) (firsts : List Gathered) (at : PublishedStateValue) (first : IsFirst at) where
-  pub first-state : IsLeft left → left.serial ≡ 0 → AreFirsts left.cut firsts → IsStateOf left firsts at
-  first-state order none are = record {
+  pub first-state : (site : Bases) → IsLeft left → left.serial ≡ 0 → AreFirsts left.cut firsts → IsStateOf site left firsts at
+  first-state site order none are = record {
     serial = first.serial ∙ sym none;
     moment = first.moment ∙ sym (order.moment none);
     cut = λ desk. none-counted at.cut first.cut.none desk ∙ sym (uncounted desk);
@@ -92,10 +109,13 @@ module _ (left : RecoveredParts) (firsts : List Gathered) (at : PublishedStateVa
     rows = first.rows ∙ sym (order.rows none);
     set = first.set ∙ sym (order.set none);
     hashed = subst (λ (objects : List Object). IsHashed objects at.issued) (sym first.set)
-        (subst (λ (rows : List IssuedRow). IsHashed [] rows) (sym first.issued) (hashed [] [] tt));
+        (subst (λ (rows : List IssuedRow). IsHashed [] rows) (sym first.issued) (hashed [] [] [] tt));
     table = λ profile. subst (λ (objects : List Object). IsTable (content_at objects) at.issued) (sym first.set)
         (subst (λ (rows : List IssuedRow). IsTable (content_at []) rows) (sym first.issued)
-        (tabled [] [] tt nothing-rises (subst (λ (objects : List Object). AreOfProfile objects) first.set profile)));
+        (tabled {homes = []} [] [] tt nothing-rises (λ object here. absurd (no-element object here))));
+    others = λ object here. absurd (no-element object (subst (λ (objects : List Object). Contains objects object) first.set here));
+    named = λ some. absurd (some first.serial);
+    anchored = λ some. absurd (some first.serial);
     configs = none-come-to at.configs firsts first.configs (λ desk. no-commands _ (are.count desk ∙ uncounted desk));
   }
     where

@@ -1,5 +1,5 @@
 -- What an outlet shows, when there are more editions.
-use Rattle.std.proofs.Common.{◌≡◌, inl, inr, ℕ, suc, ◌+◌, ◌≤◌, refl, sym, subst, ap, ◌∙◌, arith, length, take, drop, List, [], ◌∷◌, ◌++◌, Some, None, Bool, true, false}
+use Rattle.std.proofs.Common.{◌≡◌, inl, inr, ℕ, suc, refl, sym, subst, ap, ◌∙◌, arith, length, drop, List, [], ◌∷◌, ◌++◌, Some, None, Bool, true, false}
 use Rattle.std.specs.Prelude.{Option, Result, Ok, Err}
 use Rattle.std.proofs.lemmas.Bool.{false≢true}
 use Rattle.std.proofs.lemmas.List.{take-append-le, take_all, length-append}
@@ -20,8 +20,8 @@ use Rattle.editions.specs.Step.{Premises}
 use Rattle.editions.specs.Published.{IsPublished}
 use Rattle.press_core.specs.declared.last_export.LastExport.{LastExport}
 use Rattle.press_core.specs.declared.last_export.LastExport.TheVariants.{NoExport, Failed, Done}
-use Rattle.press_core.specs.Files.{rrdp_editions, told, repository_at}
-use Rattle.press_core.specs.Exports.{IsCoherent, ShowsFiles, ShowsEdition, ShowsSerial, ShowsLast}
+use Rattle.press_core.specs.Files.{repository_at}
+use Rattle.press_core.specs.Exports.{IsCoherent, ShowsFiles, ShowsEdition, ShowsLast}
 use Rattle.press_core.proofs.Told.{behind_told}
 
 pub coherent-more : (repository : Repository) (editions : List Edition) (edition : Edition) (files : Files)

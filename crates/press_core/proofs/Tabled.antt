@@ -1,37 +1,36 @@
 -- The rows that are told of a set's objects are its table.
-use Rattle.std.proofs.Common.{◌≡◌, ℕ, Bool, true, false, cond, List, [], ◌∷◌, Option, None, Some, option_map, refl, sym, ap, subst, ◌∙◌, inl, inr}
-use Rattle.std.specs.Prelude.{Contains, IsSome}
+use Rattle.std.proofs.Common.{◌≡◌, ℕ, Bool, true, false, cond, List, [], ◌∷◌, Option, None, Some, option_map, refl, sym, ap, subst, ◌∙◌, ◌⊎◌, inl, inr}
+use Rattle.std.specs.Prelude.{IsSome}
 use Rattle.std.specs.List.{AllZip, AllByRecursion}
 use Rattle.std.specs.List.Sorted.{IsStrictlySortedBy}
-use Rattle.std.specs.Ordering.{on}
 use Rattle.std.proofs.lemmas.Bool.{false≢true}
 use Rattle.std.specs.declared.cmp.Ordering.TheVariants.{Less}
 use Rattle.sha2.specs.Sha256.{sha256}
 use Rattle.items.specs.laws.AmongLaws.{In, contains-in, in-contains}
 use Rattle.key_roll.specs.declared.issued.IssuedRow.{IssuedRow}
 use Rattle.pub_set.specs.declared.objects.Object.{Object}
-use Rattle.pub_set.specs.Objects.{uri_cmp, is_same, found_at, content_at, uri_at, Rise, IsAscending}
+use Rattle.pub_set.specs.Objects.{uri_cmp, is_same, found_at, content_at, Rise, IsAscending}
 use Rattle.pub_set.specs.laws.UriLaws.{same_is, same_self, other_below}
-use Rattle.editions.specs.Table.{IsTable}
-use Rattle.press_core.specs.Tables.{IsHashed, AreOfProfile}
+use Rattle.editions.specs.Table.{IsRowOf, IsTable}
+use Rattle.press_core.specs.Tables.{Home, IsHashed, IsOfProfile, AreOfProfile, IsOther, HasOthers}
 use Rattle.press_core.specs.inner.Rows.{IsRowFor}
 
 -- ---- side by side
 
-pub object-of : (objects : List Object) (rows : List IssuedRow) → AllZip IsRowFor objects rows → (row : IssuedRow) → In row rows
-    → (object : Object) × In object objects × IsRowFor object row
+pub object-of : {homes : List Home} (objects : List Object) (rows : List IssuedRow) → AllZip (IsRowFor homes) objects rows → (row : IssuedRow) → In row rows
+    → (object : Object) × In object objects × IsRowFor homes object row
 object-of [] [] zip row at = absurd at
 object-of [] (r ∷ rows) zip row at = absurd zip
 object-of (o ∷ objects) [] zip row at = absurd zip
-object-of (o ∷ objects) (r ∷ rows) zip row (inl same) = (o, inl refl, subst (λ (k : IssuedRow). IsRowFor o k) same zip.0)
+object-of {homes} (o ∷ objects) (r ∷ rows) zip row (inl same) = (o, inl refl, subst (λ (k : IssuedRow). IsRowFor homes o k) same zip.0)
 object-of (o ∷ objects) (r ∷ rows) zip row (inr at) = let w = object-of objects rows zip.1 row at in (w.0, inr w.1, w.2)
 
-pub row-of : (objects : List Object) (rows : List IssuedRow) → AllZip IsRowFor objects rows → (object : Object) → In object objects
-    → (row : IssuedRow) × In row rows × IsRowFor object row
+pub row-of : {homes : List Home} (objects : List Object) (rows : List IssuedRow) → AllZip (IsRowFor homes) objects rows → (object : Object) → In object objects
+    → (row : IssuedRow) × In row rows × IsRowFor homes object row
 row-of [] [] zip object at = absurd at
 row-of [] (r ∷ rows) zip object at = absurd at
 row-of (o ∷ objects) [] zip object at = absurd zip
-row-of (o ∷ objects) (r ∷ rows) zip object (inl same) = (r, inl refl, subst (λ (k : Object). IsRowFor k r) same zip.0)
+row-of {homes} (o ∷ objects) (r ∷ rows) zip object (inl same) = (r, inl refl, subst (λ (k : Object). IsRowFor homes k r) same zip.0)
 row-of (o ∷ objects) (r ∷ rows) zip object (inr at) = let w = row-of objects rows zip.1 object at in (w.0, inr w.1, w.2)
 
 -- ---- what stands at a URI
@@ -66,13 +65,13 @@ stands-there (o ∷ objects) object up (inr at) =
 
 -- ---- the table
 
-pub hashed : (objects : List Object) (rows : List IssuedRow) → AllZip IsRowFor objects rows → IsHashed objects rows
-hashed [] [] zip uri = refl
-hashed [] (row ∷ rows) zip uri = absurd zip
-hashed (o ∷ objects) [] zip uri = absurd zip
-hashed (o ∷ objects) (row ∷ rows) zip uri =
+pub hashed : (homes : List Home) (objects : List Object) (rows : List IssuedRow) → AllZip (IsRowFor homes) objects rows → IsHashed objects rows
+hashed homes [] [] zip uri = refl
+hashed homes [] (row ∷ rows) zip uri = absurd zip
+hashed homes (o ∷ objects) [] zip uri = absurd zip
+hashed homes (o ∷ objects) (row ∷ rows) zip uri =
     ap (λ (u : List ℕ). cond (is_same u uri) (Some row.hash) (found_at (λ (r : IssuedRow). r.uri) (λ (r : IssuedRow). r.hash) rows uri)) zip.0.uri
-    ∙ by (hashed objects rows zip.1 uri) (is_same o.uri uri)
+    ∙ by (hashed homes objects rows zip.1 uri) (is_same o.uri uri)
   where
     by : found_at (λ (r : IssuedRow). r.uri) (λ (r : IssuedRow). r.hash) rows uri ≡ option_map sha256 (content_at objects uri)
         → (b : Bool) → cond b (Some row.hash) (found_at (λ (r : IssuedRow). r.uri) (λ (r : IssuedRow). r.hash) rows uri)
@@ -80,35 +79,50 @@ hashed (o ∷ objects) (row ∷ rows) zip uri =
     by rest true = ap Some zip.0.hash
     by rest false = rest
 
-rises-behind : (uri : List ℕ) (objects : List Object) (rows : List IssuedRow) → AllZip IsRowFor objects rows → AllByRecursion (λ (o : Object). uri_cmp uri o.uri ≡ Less) objects
+rises-behind : (homes : List Home) (uri : List ℕ) (objects : List Object) (rows : List IssuedRow) → AllZip (IsRowFor homes) objects rows → AllByRecursion (λ (o : Object). uri_cmp uri o.uri ≡ Less) objects
     → AllByRecursion (λ (r : IssuedRow). uri_cmp uri r.uri ≡ Less) rows
-rises-behind uri [] [] zip above = tt
-rises-behind uri [] (row ∷ rows) zip above = absurd zip
-rises-behind uri (o ∷ objects) [] zip above = absurd zip
-rises-behind uri (o ∷ objects) (row ∷ rows) zip above = (ap (λ (u : List ℕ). uri_cmp uri u) zip.0.uri ∙ above.0, rises-behind uri objects rows zip.1 above.1)
+rises-behind homes uri [] [] zip above = tt
+rises-behind homes uri [] (row ∷ rows) zip above = absurd zip
+rises-behind homes uri (o ∷ objects) [] zip above = absurd zip
+rises-behind homes uri (o ∷ objects) (row ∷ rows) zip above = (ap (λ (u : List ℕ). uri_cmp uri u) zip.0.uri ∙ above.0, rises-behind homes uri objects rows zip.1 above.1)
 
-pub rising : (objects : List Object) (rows : List IssuedRow) → AllZip IsRowFor objects rows → IsAscending objects → Rise (λ (row : IssuedRow). row.uri) rows
+pub rising : (homes : List Home) (objects : List Object) (rows : List IssuedRow) → AllZip (IsRowFor homes) objects rows → IsAscending objects → Rise (λ (row : IssuedRow). row.uri) rows
 unfolding IsStrictlySortedBy
-rising [] [] zip up = tt
-rising [] (row ∷ rows) zip up = absurd zip
-rising (o ∷ objects) [] zip up = absurd zip
-rising (o ∷ objects) (row ∷ rows) zip up =
-    (subst (λ (u : List ℕ). AllByRecursion (λ (r : IssuedRow). uri_cmp u r.uri ≡ Less) rows) (sym zip.0.uri) (rises-behind o.uri objects rows zip.1 up.0), rising objects rows zip.1 up.1)
+rising homes [] [] zip up = tt
+rising homes [] (row ∷ rows) zip up = absurd zip
+rising homes (o ∷ objects) [] zip up = absurd zip
+rising homes (o ∷ objects) (row ∷ rows) zip up =
+    (subst (λ (u : List ℕ). AllByRecursion (λ (r : IssuedRow). uri_cmp u r.uri ≡ Less) rows) (sym zip.0.uri) (rises-behind homes o.uri objects rows zip.1 up.0), rising homes objects rows zip.1 up.1)
 
 some-bytes : (o : Option (List ℕ)) → IsSome o → (bytes : List ℕ) × (o ≡ Some bytes)
 some-bytes None is = absurd (false≢true is)
 some-bytes (Some bytes) is = (bytes, refl)
 
-pub tabled : (objects : List Object) (rows : List IssuedRow) → AllZip IsRowFor objects rows → IsAscending objects → AreOfProfile objects → IsTable (content_at objects) rows
-tabled objects rows zip up profile = record {
-  rising = rising objects rows zip up;
+pub tabled : {homes : List Home} (objects : List Object) (rows : List IssuedRow) → AllZip (IsRowFor homes) objects rows → IsAscending objects → AreOfProfile homes objects → IsTable (content_at objects) rows
+tabled {homes} objects rows zip up profile = record {
+  rising = rising homes objects rows zip up;
   each = λ row at.
       let w = object-of objects rows zip row (contains-in row rows at) in
       let has = profile w.0 (in-contains w.0 objects w.1) in
-      (w.0.bytes, ap (λ (u : List ℕ). content_at objects u) w.2.uri ∙ stands-there objects w.0 up w.1, w.2.told has.row has.is);
+      (w.0.bytes, ap (λ (u : List ℕ). content_at objects u) w.2.uri ∙ stands-there objects w.0 up w.1, own w.0 row has w.2.told);
   all = λ uri is.
       let some = some-bytes (content_at objects uri) is in
       let o = object-at objects uri some.0 some.1 in
       let w = row-of objects rows zip o.0 o.1 in
       (w.0, in-contains w.0 rows w.1, w.2.uri ∙ o.2);
 }
+  where
+    own : (object : Object) (row : IssuedRow) → IsOfProfile homes object.bytes
+        → (IsOfProfile homes object.bytes × IsRowOf object.bytes row) ⊎ ((¬ IsOfProfile homes object.bytes) × IsOther object.bytes row) → IsRowOf object.bytes row
+    own object row has (inl is) = is.1
+    own object row has (inr other) = absurd (other.0 has)
+
+-- And the others have rows that are never wanted.
+pub others : {homes : List Home} (objects : List Object) (rows : List IssuedRow) → AllZip (IsRowFor homes) objects rows → HasOthers homes objects rows
+others {homes} objects rows zip object at strange =
+    let w = row-of objects rows zip object (contains-in object objects at) in
+    (w.0, in-contains w.0 rows w.1, w.2.uri, other w.0 w.2.told)
+  where
+    other : (row : IssuedRow) → (IsOfProfile homes object.bytes × IsRowOf object.bytes row) ⊎ ((¬ IsOfProfile homes object.bytes) × IsOther object.bytes row) → IsOther object.bytes row
+    other row (inl is) = absurd (strange is.0)
+    other row (inr is) = is.1

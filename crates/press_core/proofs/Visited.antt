@@ -1,36 +1,31 @@
 -- What a walk visits: each authority's point too, and each URI is one of a key, of a ROA, or the anchor's.
-use Rattle.std.proofs.Common.{◌≡◌, ◌≢◌, ℕ, zero, suc, ◌+◌, ◌-◌, ◌<◌, ◌≤◌, ◌||◌, nat_lt, nat_le, nat_eq, Bool, true, false, not, cond, List, [], ◌∷◌, ◌++◌, take, drop, length, codes, Option, None, Some, Ok, Err, refl, sym, ap, subst, ◌∙◌, arith, ◌⊎◌, inl, inr, append_assoc, length-append, length-take, length-drop, get_or-append-add, get_or, take_at, take-add, leb-true, ltb-true}
+use Rattle.std.proofs.Common.{◌≡◌, ℕ, zero, suc, ◌+◌, ◌-◌, ◌<◌, ◌≤◌, ◌||◌, nat_lt, nat_le, nat_eq, Bool, true, false, not, cond, List, [], ◌∷◌, ◌++◌, take, drop, length, codes, Option, None, Some, Ok, Err, refl, sym, ap, subst, ◌∙◌, arith, ◌⊎◌, inl, inr, append_assoc, length-append, length-take, length-drop, get_or-append-add, get_or, take_at, take-add, leb-true, ltb-true}
 use Rattle.std.specs.Prelude.{if◌then◌else◌, ⊤, Contains}
 use Rattle.std.specs.List.{list_all, ends_with}
 use Rattle.std.specs.Str.{bytes_eq}
-use Rattle.std.proofs.lemmas.Bool.{and_parts, or_parts}
+use Rattle.std.proofs.lemmas.Bool.{and_parts}
 use Rattle.std.proofs.lemmas.Bool.Decides.{Decides-eqb}
 use Rattle.std.proofs.lemmas.List.Sums.{AllPass-from_list_all}
-use Rattle.std.proofs.lemmas.List.Elements.{Contains-append_left, Contains-append_right, Contains-push, Contains-push_cases}
+use Rattle.std.proofs.lemmas.List.Elements.{Contains-append_left, Contains-push, Contains-push_cases}
 use Rattle.std.proofs.lemmas.Slice.Eq.{bytes_eq-Decides, starts_is, ends_is}
-use Rattle.items.specs.laws.ElementLaws.{none, here, there, first-or-rest, from-filter}
+use Rattle.items.specs.laws.ElementLaws.{none, here, first-or-rest, from-filter}
 use Rattle.items.specs.laws.AmongLaws.{In, contains-in}
 use Rattle.names.specs.Name.{IsName, is_name_byte}
 use Rattle.sha2.specs.Sha256.{sha256}
 use Rattle.key_ids.specs.Uris.{Bases, anchor_uri, folder_of, cert_uri, crl_uri, manifest_uri}
-use Rattle.der.specs.Grammar.{AreBytes}
-use Rattle.der.specs.declared.shape_fault.ShapeFault.{ShapeFault}
-use Rattle.der.specs.Object.{Spells, read_object}
-use Rattle.der.specs.laws.ObjectLaws.{object-taken}
-use Rattle.crl_obj.specs.Values.{CrlValue, SignedCrl, are_rising}
-use Rattle.crl_obj.specs.Formats.{signed_crl}
-use Rattle.crl_obj.specs.laws.CrlLaws.{signed_crl-law}
+use Rattle.cert_obj.specs.Values.{SignedCert}
+use Rattle.crl_obj.specs.Values.{CrlValue, SignedCrl}
 use Rattle.crl_obj.specs.declared.values.CrlEntry.{CrlEntry}
 use Rattle.pub_set.specs.Changes.{Contents}
 use Rattle.rp_rules.specs.declared.rules.Rule.{Rule}
 use Rattle.rp_rules.specs.declared.rules.Rule.TheVariants as rule
 use Rattle.rp_rules.specs.Checks.{Refused, Checked, Test, ◌>>=◌, tested, found}
-use Rattle.rp_rules.specs.Objects.{SignedManifest, SignedRoa, such, value_in, certificate_in, is_anchors, is_authoritys, crl_in, manifest_in}
+use Rattle.rp_rules.specs.Objects.{SignedManifest, SignedRoa, such, certificate_in, is_anchors, is_authoritys, crl_in, manifest_in}
 use Rattle.rp_rules.specs.Authorities.{Authority, key_id, listed_uri, crl_uri_of, manifest_place, certificate_uri_of, manifest_in_folder, is_authority_name, between, is_folder}
 use Rattle.rp_rules.specs.Certificates.{WalkContext, File, lies_in, listed_bytes, anchor_tests, anchor_of, accepted_anchor, authority_tests, authority_of, accepted_authority}
 use Rattle.rp_rules.specs.Points.{Point, is_certificate_file, is_crl_file, is_roa_file, is_file_in_use, files_of, is_list, other_files, manifest_tests, accepted_manifest, crl_tests, accepted_crl, crl_file, point_tests, accepted_point, accepted_roa}
 use Rattle.rp_rules.specs.Walk.{Visit, Certificate, Published, Route, Below, uris_of, visited, visit_file, visit_files, visit_below, walk}
-use Rattle.rp_rules.specs.Accepted.{IsAccepted, IsVisitedPoint, IsRoute, AreAccepted}
+use Rattle.rp_rules.specs.Accepted.{IsAccepted, AreAccepted}
 use Rattle.issue_values.specs.UriEndings.{last_byte}
 
 -- ---- checks
@@ -152,6 +147,39 @@ anchor-ok s held a e =
     let named : IsNamed s.bases (anchor_of uri c) = named-by s.bases (anchor_of uri c) (codes "ta") (named-text (codes "ta") refl) folder
     (manifest ∙ ap (λ (f : List ℕ). manifest_in_folder f c.cert) (sym folder)) in
     subst (λ (b : Authority). (b.uri ≡ uri) × IsNamed s.bases b) one.4 (refl, named)
+
+-- The trust anchor's certificate, where a walk begins.
+pub record HasAnchor (s : WalkContext) (held : Contents) : Type 0 where
+  pub bytes : List ℕ
+  pub there : held (anchor_uri s.bases) ≡ Some bytes
+  pub certificate : SignedCert
+  pub read : certificate_in bytes ≡ Some certificate
+  pub subject : certificate.cert.key ≡ s.anchor
+  pub folder : certificate.cert.uris.folder ≡ folder_of s.bases (codes "ta")
+
+such-some : {X : Type 0} (test : X → Bool) (o : Option X) (x : X) → such test o ≡ Some x → o ≡ Some x
+such-some test None x e = absurd cc
+such-some {X} test (Some y) x e = by (test y) e
+  where
+    by : (b : Bool) → cond b (Some y) None ≡ Some x → Some y ≡ Some x
+    by true same = same
+    by false none = absurd cc
+
+anchor-read : (s : WalkContext) (held : Contents) (a : Authority) → accepted_anchor s held ≡ Ok a → HasAnchor s held
+unfolding accepted_anchor
+anchor-read s held a e =
+    let uri = anchor_uri s.bases in
+    let one = read-ok (found uri rule.Missing (held uri)) uri rule.Shape (λ bytes. such is_anchors (certificate_in bytes)) (anchor_tests s) (anchor_of uri) a e in
+    let c = one.2 in
+    let place = and_parts _ _ (and_parts _ _ one.5.1.1.1.1.0).0 in
+    record {
+      bytes = one.0;
+      there = found-ok uri rule.Missing (held uri) one.0 one.1;
+      certificate = c;
+      read = such-some is_anchors (certificate_in one.0) c one.3;
+      subject = same-bytes c.cert.key s.anchor (and_parts _ _ one.5.1.0).1;
+      folder = same-bytes c.cert.uris.folder (folder_of s.bases (codes "ta")) place.0;
+    }
 
 authority-ok : (s : WalkContext) (held : Contents) (issuer : Authority) (revoked : List CrlEntry) (seen : List (List ℕ)) (file : File) (child : Authority)
     → accepted_authority s held issuer revoked seen file ≡ Ok child → (child.uri ≡ certificate_uri_of issuer child.cert) × IsNamed s.bases child
@@ -367,6 +395,12 @@ each-has-point s held visits e a at =
       ]
       | inr has ↦ has
     ]
+
+pub has-anchor : (s : WalkContext) (held : Contents) (visits : List Visit) → walk s held ≡ Ok visits → HasAnchor s held
+unfolding walk
+has-anchor s held visits e =
+    let anchor = bind-ok (accepted_anchor s held) (λ b. visit_below 65 s held b (Certificate b ∷ [])) visits e in
+    anchor-read s held anchor.0 anchor.1
 
 -- ---- what is visited
 

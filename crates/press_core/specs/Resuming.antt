@@ -11,6 +11,7 @@ use Rattle.authority_book.specs.declared.commands.Command.{Command}
 use Rattle.authority_book.specs.Settings.{Settings}
 use Rattle.authority_book.specs.Fold.{fold_of, Taken}
 use Rattle.entitle.specs.declared.trees.Owed.{Owed}
+use Rattle.entitle.specs.Certified.{names_of}
 use Rattle.entitle.specs.Owed.{AreOwed}
 use Rattle.rp_rules.specs.Certificates.{WalkContext}
 use Rattle.rp_rules.specs.Sound.{IsAuditOf, IsSound}
@@ -28,7 +29,7 @@ use Rattle.press_core.specs.declared.resume.ResumeFault.TheVariants as why
 use Rattle.press_core.specs.Agreement.{owed_yield, AreSameOrigins, IsOtherOrigin, mismatch, first_mismatch}
 use Rattle.press_core.specs.Stands.{IsLeftBy, StandsFor}
 use Rattle.press_core.specs.Loading.{LoadedValue, IsLeftAs, anchor_of}
-use Rattle.press_core.specs.Tables.{IsHashed, AreOfProfile}
+use Rattle.press_core.specs.Tables.{Home, homes_of, IsHashed, AreOfProfile, HasOthers}
 use Rattle.press_core.specs.Stored.{StoredValue}
 
 -- ---- the audit
@@ -75,6 +76,11 @@ GoOnFrom lists firsts =
 
 -- ---- the press that goes on
 
+-- Where the live keys publish.
+abbrev pub homes_in : {D : Type 0} → StoredValue D → List Home
+homes_in stored =
+    homes_of stored.press.site (names_of stored.press.at.configs) stored.press.at.rows
+
 -- What stands is what was loaded, with what the commands up to the cut come to; the journal, the
 -- RRDP files, the signers and the bases are those that were handed in, and nothing was exported in
 -- this run.
@@ -89,8 +95,10 @@ pub record GoesOn {D : Type 0} (loaded : LoadedValue D) (firsts : List Gathered)
   -- the table has the hash of each object, whatever the objects are
   pub hashed : IsHashed stored.press.at.set stored.press.at.issued
   -- and where they are such as a press makes, what they are for and until when they hold
-  pub table : AreOfProfile stored.press.at.set
+  pub table : AreOfProfile (homes_in stored) stored.press.at.set
       → IsTable (content_at stored.press.at.set) stored.press.at.issued
+  -- any other is never one that is wanted, and is told by its issuer and its serial
+  pub others : HasOthers (homes_in stored) stored.press.at.set stored.press.at.issued
   -- behind whatever editions left what was loaded, over whatever commands go on behind those up to
   -- the cut
   pub left : (lists : List (List Command)) (editions : List Edition) → IsLeftAs editions loaded

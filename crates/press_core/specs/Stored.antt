@@ -1,5 +1,5 @@
 -- A press over its journal.
-use Rattle.std.specs.Prelude.{◌≡◌, ◌<◌, ◌≤◌, ℕ, ◌+◌, List, Option, None, Some, IfSome, length}
+use Rattle.std.specs.Prelude.{◌≡◌, ◌<◌, ℕ, ◌+◌, List, Some, IfSome, length}
 use Rattle.gate_journal.specs.View as journal
 use Rattle.gate_journal.specs.Answers.{CanAppend}
 use Rattle.editions.specs.Edition.{Edition}

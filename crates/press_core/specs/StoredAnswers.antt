@@ -1,5 +1,5 @@
 -- Why no edition is prepared over a journal, and what a commit that the disk failed leaves.
-use Rattle.std.specs.Prelude.{◌≡◌, ◌<◌, ◌≤◌, ℕ, ◌+◌, ◌-◌, ◌^◌, min, None, Some, List, length}
+use Rattle.std.specs.Prelude.{◌≡◌, ◌<◌, ℕ, ◌+◌, ◌-◌, ◌^◌, min, None, Some, List, length}
 use Rattle.host_calls.specs.Rise.{HasRisen}
 use Rattle.disk_api.specs.declared.disk.Disk.{Ghosts as DiskGhosts}
 use Rattle.gate_journal.specs.Format.{held_for}
@@ -9,7 +9,6 @@ use Rattle.editions.specs.PublishedState.{PublishedStateValue}
 use Rattle.press_core.specs.PrepareInput.{PrepareInput}
 use Rattle.press_core.specs.Planned.{IsPrepared}
 use Rattle.press_core.specs.Next.{NextValue}
-use Rattle.press_core.specs.Met.{MetValue}
 use Rattle.press_core.specs.Faults.{IsMet, IsPressFault}
 use Rattle.press_core.specs.declared.fault.PressFault.{PressFault}
 use Rattle.press_core.specs.declared.fault.PressFault.TheVariants as press

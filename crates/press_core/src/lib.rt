@@ -2,9 +2,11 @@
 //! next edition, which then becomes the last one.
 #![tactic(auto)]
 
+mod exact_holdings;
 mod exporting;
 mod fault;
 mod hash_laws;
+mod homes;
 mod journal_laws;
 mod last_export;
 mod laws;

@@ -14,12 +14,13 @@ ghost use Rattle.press_core.specs.Agreement.{AreSameOrigins};
 ghost use Rattle.press_core.specs.Resuming.{AreFirsts, IsFaultAt};
 ghost use Rattle.press_core.specs.inner.Resumed.{mismatch_value, TellsMismatch, AreInFolders, IsLeft, IsAuditAt, IsAuditIf, IsOwing, IsOriginFault, IsRowFault, IsFaultIf, owed_by, IsStandingWith, IsStateOf, AreAgreedAt};
 
+use crate::homes::homes_of;
 use crate::resume::ResumeFault;
 use crate::resuming::{Mismatch, first_mismatch};
 use crate::roa_uris::other_origin;
 use crate::tables::table_of;
 use authority_book::Config;
-use editions::{Gathered, PublishedState, StateParts, configs_with};
+use editions::{Gathered, PublishedState, StateParts, accepted_names_are_apart, configs_with};
 use entitle::{Owed, Tree, certified, names_of, owed};
 use issue_values::{
     files_are_told_apart, keys_are_told_apart, kinds_are_told_apart, origins_are_told_apart,
@@ -151,11 +152,12 @@ fn agreed_state(
     requires order { IsLeft left }
     requires audit { IsAuditAt site.now left audited.now }
     requires firsts { AreFirsts left.cut firsts.items }
-    ensures state { IfOk result (IsStateOf left firsts.items) }
+    ensures state { IfOk result (IsStateOf site.now left firsts.items) }
     ensures clear { IfOk result (λ at. IsClear site.now at.rows at.issued) }
     ensures agreed { IfOk result (AreAgreedAt site.now audited.now) }
     ensures refused { IfErr result (IsFaultAt site.now left.rows firsts.items audited.now) }
 {
+    accepted_names_are_apart();
     visits_are_accepted();
     files_are_told_apart();
     keys_are_told_apart();
@@ -163,7 +165,9 @@ fn agreed_state(
     let owing = owing_at(alloc, firsts)?;
     compare_origins(alloc, site, &owing, audited)?;
     compare_rows(left.rows.as_slice(), audited)?;
-    let issued = table_of(alloc, &left.set)?;
+    let names = names_of(&owing.configs);
+    let homes = homes_of(alloc, site, names, left.rows.as_slice())?;
+    let issued = table_of(alloc, &left.set, &homes)?;
     Ok(stand(left, owing, issued))
 }
 
@@ -179,7 +183,7 @@ pub fn state_of(
     requires order { IsLeft left }
     requires audit { IsAuditIf site.now left audited }
     requires firsts { AreFirsts left.cut firsts.items }
-    ensures state { IfOk result (IsStateOf left firsts.items) }
+    ensures state { IfOk result (IsStateOf site.now left firsts.items) }
     ensures clear { IfOk result (λ at. IsClear site.now at.rows at.issued) }
     ensures stages { IfOk result HasStages }
     ensures agreed { IfOk result (λ at. IfSome audited (λ a. AreAgreedAt site.now a at)) }

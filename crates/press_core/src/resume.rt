@@ -9,7 +9,9 @@ use crate::opening::state_of;
 use crate::press::Press;
 use crate::stored::StoredPress;
 use disk_api::Disk;
-use editions::{Gathered, steps_come_one_by_one};
+use editions::{
+    Gathered, certificates_name_their_folders, editions_follow_one_another, steps_come_one_by_one,
+};
 use key_ids::KeyId;
 use rp_rules::Audited;
 use signer_api::Signer;
@@ -85,6 +87,8 @@ impl<D: Disk, S: Signer> StoredPress<D, S> {
         ensures disk { IfErr result (λ e. e.disk ≡ loaded.journal.disk) }
         ensures ring { IfErr result (λ e. e.ring ≡ ring) }
     {
+        certificates_name_their_folders();
+        editions_follow_one_another();
         steps_come_one_by_one();
         let (journal, store, left, rrdp) = loaded.into_parts();
         match state_of(alloc, &store.site, left, audited, firsts) {

@@ -12,8 +12,8 @@ use rp_rules::YieldedOrigin;
 use std::alloc::{AllocError, Global};
 use std::collections::BTreeSet;
 
-// The name of a desk's authority, and no text where there is none.
-fn name_of(names: &[NameRow], desk: u32) -> &str
+/// The name of a desk's authority, and no text where there is none.
+pub fn name_of(names: &[NameRow], desk: u32) -> &str
     ensures { result.now ≡ name_at names.now desk }
 {
     match names.get(desk as usize) {

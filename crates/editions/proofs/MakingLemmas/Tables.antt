@@ -10,6 +10,8 @@ use Rattle.signer_api.specs.State.{SignerState}
 use Rattle.res_sets.specs.declared.holdings.Resources.{Resources}
 use Rattle.cert_obj.specs.Values.{CertValue, is_entity, sets_of}
 use Rattle.crl_obj.specs.Values.{CrlValue}
+use Rattle.origins.specs.declared.Origin.{Origin}
+use Rattle.payloads.specs.ManifestFormats as Manifests
 use Rattle.pub_set.specs.declared.steps.Change.{Change}
 use Rattle.pub_set.specs.Objects.{found_at}
 use Rattle.pub_set.specs.Changes.{Contents, change_at}
@@ -165,6 +167,8 @@ module _ (laws : Laws) (premises : Premises) (clock : ℕ) (editions : List Edit
         roa = object.roa;
         read = object.read;
         body = object.signed.body ∙ ap roa_of (sym says);
+        holds = ap (λ (v : CertValue). v.held) value
+            ∙ ap (λ (o : Origin). Some (values.prefix_sets o.prefix)) (sym says);
         dated = record {
           issuer = issuer ∙ sym (ap (λ (v : CertValue). v.issuer) value);
           serial = serial ∙ (serial-same d ∙ sym (ap (λ (v : CertValue). v.serial) value));
@@ -187,6 +191,8 @@ module _ (laws : Laws) (premises : Premises) (clock : ℕ) (editions : List Edit
       subst (IsTold bytes row) (sym says) (inr (record {
         manifest = object.manifest;
         read = object.read;
+        ends = ap (λ (v : Manifests.Manifest). Manifests.next_update_of v) object.signed.body
+            ∙ sym (ap (λ (v : CertValue). v.not_after) value);
         dated = record {
           issuer = issuer ∙ sym (ap (λ (v : CertValue). v.issuer) value);
           serial = serial ∙ (behind-same d ∙ sym (ap (λ (v : CertValue). v.serial) value));

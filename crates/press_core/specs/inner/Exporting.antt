@@ -1,5 +1,5 @@
 -- What the press knows of the editions whose files it has.
-use Rattle.std.specs.Prelude.{◌≡◌, ◌<◌, ◌^◌, ℕ, List, length}
+use Rattle.std.specs.Prelude.{◌≡◌, ◌<◌, ◌^◌, List, length}
 use Rattle.editions.specs.Edition.{Edition}
 use Rattle.press_core.specs.Press.{PressValue}
 use Rattle.press_core.specs.Files.{rrdp_editions}

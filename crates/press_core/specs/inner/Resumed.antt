@@ -1,5 +1,5 @@
 -- What opening compares, and what it goes on with.
-use Rattle.std.specs.Prelude.{◌≡◌, ◌≢◌, ℕ, Bool, true, false, not, if◌then◌else◌, List, [], ◌∷◌, ◌++◌, map, length, Option, None, Some, Contains, String}
+use Rattle.std.specs.Prelude.{◌≡◌, ◌≢◌, ℕ, Bool, true, false, not, if◌then◌else◌, List, [], ◌++◌, map, length, Option, None, Some, All, AllPairs, Contains, String, codes}
 use Rattle.std.specs.Str.{bytes_eq}
 use Rattle.std.specs.Ordering.{is_lt}
 use Rattle.std.specs.String.{string_bytes}
@@ -10,14 +10,19 @@ use Rattle.origins.specs.declared.Origin.{Origin}
 use Rattle.key_ids.specs.Uris.{Bases, folder_of}
 use Rattle.key_roll.specs.declared.rows.KeyRow.{KeyRow}
 use Rattle.key_roll.specs.declared.issued.IssuedRow.{IssuedRow}
+use Rattle.cert_obj.specs.Values.{SignedCert}
+use Rattle.pub_set.specs.declared.objects.Object.{Object}
 use Rattle.pub_set.specs.Objects.{uri_cmp, content_at}
+use Rattle.issue_keys.specs.Keys.{id_of}
+use Rattle.authority_book.specs.Settings.{Settings}
 use Rattle.authority_book.specs.declared.rows.NameRow.{NameRow}
 use Rattle.entitle.specs.declared.trees.Owed.{Owed}
-use Rattle.entitle.specs.Certified.{settings_of, AreCertified}
+use Rattle.entitle.specs.Certified.{settings_of, names_of, AreCertified}
 use Rattle.entitle.specs.Owed.{AreOwed}
 use Rattle.issue_plan.specs.Uris.{roa_file, is_among}
 use Rattle.issue_drafts.specs.Publishers.{name_at}
 use Rattle.rp_rules.specs.declared.audited.YieldedOrigin.{YieldedOrigin}
+use Rattle.rp_rules.specs.Objects.{certificate_in}
 use Rattle.rp_rules.specs.Certificates.{WalkContext}
 use Rattle.rp_rules.specs.Sound.{IsAuditOf}
 use Rattle.rp_rules.specs.Views.{entry_of}
@@ -26,6 +31,7 @@ use Rattle.press_records.specs.declared.recovered.RecoveredParts.{RecoveredParts
 use Rattle.press_records.specs.Rows.{row_value}
 use Rattle.press_records.specs.Edition.{are_live}
 use Rattle.editions.specs.Edition.{cut_at}
+use Rattle.editions.specs.Names.{AreTree}
 use Rattle.editions.specs.PublishedState.{PublishedStateValue, desks}
 use Rattle.editions.specs.Table.{IsTable}
 use Rattle.editions.specs.declared.gathered.Gathered.{Gathered}
@@ -34,7 +40,8 @@ use Rattle.press_core.specs.declared.opening.Owing.{Owing}
 use Rattle.press_core.specs.declared.resume.ResumeFault.{ResumeFault}
 use Rattle.press_core.specs.declared.resume.ResumeFault.TheVariants as why
 use Rattle.press_core.specs.Agreement.{Mismatch, mismatch, first_mismatch, owed_yield, AreSameOrigins, IsOtherOrigin}
-use Rattle.press_core.specs.Tables.{IsHashed, AreOfProfile}
+use Rattle.press_core.specs.Loading.{anchor_of}
+use Rattle.press_core.specs.Tables.{homes_of, IsHashed, AreOfProfile, HasOthers}
 use Rattle.press_core.specs.Resuming.{AreConfigsOf, IsFaultAt}
 
 -- ---- rows and points
@@ -109,6 +116,7 @@ pub record IsAuditAt (site : Bases) (left : RecoveredParts) (audited : AuditedVa
     : Type 0 where
   pub some : left.serial ≢ 0
   pub context : WalkContext
+  pub anchor : anchor_of left.rows ≡ Some context.anchor
   pub bases : context.bases ≡ site
   pub moment : context.moment ≡ left.moment
   pub audit : IsAuditOf context left.set audited
@@ -178,9 +186,29 @@ pub record IsStandingWith (left : RecoveredParts) (owing : Owing) (issued : List
   pub configs : at.configs ≡ settings_of owing.configs.items
   pub owed : at.owed ≡ owing.owed.items
 
--- The same, by the commands up to the cut.
-pub record IsStateOf (left : RecoveredParts) (firsts : List Gathered) (at : PublishedStateValue)
+-- The names are those of a tree, and such as authorities have.
+pub record AreNamed (configs : List Settings) : Type 0 where
+  pub tree : AreTree (names_of configs)
+  pub plain : All (λ row. IsName row.name) (names_of configs)
+
+-- The keys are apart, and the certificate of the trust anchor's key stands and names its folder.
+pub record IsAnchored (site : Bases) (rows : List KeyRow) (objects : List Object)
     : Type 0 where
+  pub apart : AllPairs (λ a b. id_of a ≢ id_of b) rows
+  pub key : KeyRow
+  pub live : Contains rows key
+  pub desk : key.desk ≡ 0
+  pub uri : List ℕ
+  pub bytes : List ℕ
+  pub there : content_at objects uri ≡ Some bytes
+  pub certificate : SignedCert
+  pub read : certificate_in bytes ≡ Some certificate
+  pub subject : certificate.cert.key ≡ key.key.bytes
+  pub folder : certificate.cert.uris.folder ≡ folder_of site (codes "ta")
+
+-- The same, by the commands up to the cut.
+pub record IsStateOf (site : Bases) (left : RecoveredParts) (firsts : List Gathered)
+    (at : PublishedStateValue) : Type 0 where
   pub serial : at.serial ≡ left.serial
   pub moment : at.moment ≡ left.moment
   pub cut : (desk : ℕ) → cut_at at.cut desk ≡ cut_at left.cut desk
@@ -188,8 +216,12 @@ pub record IsStateOf (left : RecoveredParts) (firsts : List Gathered) (at : Publ
   pub rows : at.rows ≡ left.rows
   pub set : at.set ≡ left.set
   pub hashed : IsHashed at.set at.issued
-  pub table : AreOfProfile at.set → IsTable (content_at at.set) at.issued
+  pub table : AreOfProfile (homes_of site (names_of at.configs) at.rows) at.set
+      → IsTable (content_at at.set) at.issued
+  pub others : HasOthers (homes_of site (names_of at.configs) at.rows) at.set at.issued
   pub configs : AreConfigsOf firsts at.configs
+  pub named : at.serial ≢ 0 → AreNamed at.configs
+  pub anchored : at.serial ≢ 0 → IsAnchored site at.rows at.set
 
 -- The audited set agrees with it.
 pub record AreAgreedAt (site : Bases) (audited : AuditedValue) (at : PublishedStateValue)

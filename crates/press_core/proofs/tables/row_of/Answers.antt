@@ -1,6 +1,7 @@
-use Rattle.std.proofs.Common.{ℕ, List, refl, rules}
+use Rattle.std.proofs.Common.{ℕ, List, map, refl, rules}
 use Rattle.der.specs.Grammar.{AreBytes}
 use Rattle.key_roll.specs.declared.issued.IssuedRow.{IssuedRow}
+use Rattle.press_core.specs.inner.Rows.{home_value}
 use Rattle.press_core.proofs.Telling.{row-for}
 use Rattle.press_core.proofs.tables.row_of.Goals as goal
 
@@ -17,4 +18,4 @@ returns c =
       hash = c.digest.result;
       what = told.what;
     } in
-    row-for c.args.object.now bytes told row c.as_slice-bytes.ensures fits c.in_ok-copy.ensures c.digest.ensures refl refl refl refl c.in_ok-told.ensures
+    row-for (map home_value c.args.homes.now) c.args.object.now bytes told row c.as_slice-bytes.ensures fits c.in_ok-copy.ensures c.digest.ensures refl refl refl refl c.in_ok-told.ensures

@@ -12,7 +12,7 @@ returns-in-Ok-clause-goes_on g c =
     let journal = c.into_parts-journal.result.0 in
     whole journal c.into_parts-journal.result.1 c.into_parts-journal.result.2 c.into_parts-journal.result.3 c.args.loaded c.into_parts-journal.ensures.parts c.args.firsts.items c.args.ring c.in-Ok.at c.in-Ok.ensures.state
     c.requires.firsts c.into_parts-journal.ensures.kept c.of.result (stored-so journal c.resumed-press.result _ c.of.result c.of.ensures c.resumed-press.ensures)
-    c.steps_come_one_by_one.ensures.last
+    (record { last = c.steps_come_one_by_one.ensures.last; home = c.certificates_name_their_folders.ensures; append = c.editions_follow_one_another.ensures })
 
 pub returns-in-Ok-clause-agreed : goal.returns-in-Ok-clause-agreed
 returns-in-Ok-clause-agreed g c =
