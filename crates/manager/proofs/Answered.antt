@@ -38,12 +38,13 @@ use Rattle.manager.specs.Named.{Named}
 use Rattle.manager.specs.Lists.{AreSeen, seat_at}
 use Rattle.manager.specs.Gathered.{AreSince}
 use Rattle.manager.specs.Run.{Stood, last_of, shown_at, shown_in}
-use Rattle.manager.specs.Locked.{IsLocked}
+use Rattle.manager.specs.Locked.{IsLockedOver, IsLocked}
 use Rattle.manager.specs.Answers.{IsShownTo, IsAnswered, nothing_behind}
 use Rattle.manager.specs.declared.publish_fault.Unmade.TheVariants.{Unprepared}
 use Rattle.manager.proofs.Since.{Within, CutsGoOn, are_gathered, they_are_accepted, names_signed, seen_taken}
 use Rattle.manager.proofs.Runs.{last_serial_in}
 use Rattle.manager.proofs.Kept.{lock}
+use Rattle.manager.proofs.Over.{over}
 
 -- ---- what calls for no edition
 
@@ -77,17 +78,20 @@ front_of_shown at (stood ∷ run) =
     (shown_at at ∷ rest.0, ap (λ (l : List ShownEdition). shown_at at ∷ l) rest.1)
 
 module _ {D O : Type 0} (outlet_of : OutletGhosts O) (named : Named) (press : StoredValue D) (seats : List FollowerSeat) (board : BoardSeat) (outlet : O) (is : IsLocked outlet_of named (lock press seats board outlet)) where
+  behind : IsLockedOver outlet_of named is.editions is.lists is.run is.calls (lock press seats board outlet)
+  behind = over outlet_of named (lock press seats board outlet) is
+
   -- the serial that is shown last is that of what stands
   pub shown_serial : last_serial board.shown ≡ press.press.at.serial
   shown_serial =
-      ap last_serial is.is.shown ∙ (last_serial_in named.at is.run ∙ ap (λ (s : PublishedStateValue). s.serial) (sym is.is.made.last))
+      ap last_serial behind.shown ∙ (last_serial_in named.at is.run ∙ ap (λ (s : PublishedStateValue). s.serial) (sym behind.made.last))
 
   module _ (clock : ℕ) (groups : List Gathered) (since : (lists : List (List Command)) → AreSeen (length named.signers) lists seats → AreSince 0 lists press.press.at.cut groups) where
     pub since_here : AreSince 0 is.lists press.press.at.cut groups
-    since_here = since is.lists is.is.seen
+    since_here = since is.lists behind.seen
 
     within : Within is.lists press.press.at.cut groups
-    within = record { all = since_here; one_each = is.is.made.left.desks; held = is.is.made.left.taken_in }
+    within = record { all = since_here; one_each = behind.made.left.desks; held = behind.made.left.taken_in }
 
     -- ---- what a press asks for
 
@@ -95,21 +99,21 @@ module _ {D O : Type 0} (outlet_of : OutletGhosts O) (named : Named) (press : St
     asks_gathered = are_gathered is.lists press.press.at.cut groups since_here
 
     pub asks_accepted : AreAccepted press.press.at.configs groups
-    asks_accepted = they_are_accepted (length named.signers) is.lists (map (λ (seat : FollowerSeat). seat.seen) seats) press.press.at.cut groups press.press.at.configs within is.is.seen is.is.made.left.configs
+    asks_accepted = they_are_accepted (length named.signers) is.lists (map (λ (seat : FollowerSeat). seat.seen) seats) press.press.at.cut groups press.press.at.configs within behind.seen behind.made.left.configs
 
     pub asks_live : All (λ (row : KeyRow). row.signer < length press.press.ring) press.press.at.rows
-    asks_live = subst (λ (n : ℕ). All (λ (row : KeyRow). row.signer < n) press.press.at.rows) (sym is.is.made.kept.count) is.is.made.live_signers
+    asks_live = subst (λ (n : ℕ). All (λ (row : KeyRow). row.signer < n) press.press.at.rows) (sym behind.made.kept.count) behind.made.live_signers
 
     pub asks_names : CutsGoOn → All (λ (name : NameRow). name.signer < length press.press.ring) (names_of (configs_with press.press.at.configs groups))
     asks_names go =
-        subst (λ (n : ℕ). All (λ (name : NameRow). name.signer < n) (names_of (configs_with press.press.at.configs groups))) (sym is.is.made.kept.count)
-        (names_signed go (length named.signers) is.lists (map (λ (seat : FollowerSeat). seat.seen) seats) press.press.at.cut groups press.press.at.configs within is.is.seen is.is.made.left.configs
-        (omega (arith, is.is.made.one_each, is.is.made.left.desks)))
+        subst (λ (n : ℕ). All (λ (name : NameRow). name.signer < n) (names_of (configs_with press.press.at.configs groups))) (sym behind.made.kept.count)
+        (names_signed go (length named.signers) is.lists (map (λ (seat : FollowerSeat). seat.seen) seats) press.press.at.cut groups press.press.at.configs within behind.seen behind.made.left.configs
+        (omega (arith, behind.made.one_each, behind.made.left.desks)))
 
     -- ---- what it answers
 
     pub taken : (desk : ℕ) → length (seat_at seats desk).seen ≤ cut_at (cut_with press.press.at.cut groups) desk
-    taken = seen_taken (length named.signers) is.lists seats press.press.at.cut groups within is.is.seen
+    taken = seen_taken (length named.signers) is.lists seats press.press.at.cut groups within behind.seen
 
     pub answered : (ring : List SignerState) (prepared : NextValue) (told : PublishedNumbers) (shown : List ShownEdition) → IsNextEdition (start_of press.press clock groups) ring prepared
         → told ≡ published_of prepared.next → shown ≡ board.shown ++ shown_at prepared.next ∷ [] → IsAnswered told seats shown
@@ -129,12 +133,12 @@ module _ {D O : Type 0} (outlet_of : OutletGhosts O) (named : Named) (press : St
     nothing_shown : (serial : ℕ) → IsNothing (start_of press.press clock groups) serial → IsShownTo serial seats board.shown
     nothing_shown serial nothing =
         let front = front_of_shown named.at is.run in
-        let last : last_of named.at is.run ≡ press.press.at = sym is.is.made.last in
+        let last : last_of named.at is.run ≡ press.press.at = sym behind.made.last in
         record {
           edition = shown_at press.press.at;
           is = record {
             before = front.0;
-            last = is.is.shown ∙ (front.1 ∙ ap (λ (s : PublishedStateValue). front.0 ++ shown_at s ∷ []) last);
+            last = behind.shown ∙ (front.1 ∙ ap (λ (s : PublishedStateValue). front.0 ++ shown_at s ∷ []) last);
             cut = λ desk.
                 let less = not_called press.press.at (cut_with press.press.at.cut groups) (moment_behind clock press.press.at.moment)
                 (next_keys (basis_for (start_of press.press clock groups) nothing.sets)) nothing.called.answer desk in

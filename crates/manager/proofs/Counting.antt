@@ -27,7 +27,7 @@ module _ {D : Type 0} where
       (counted_front all (length new) desk one (reverse done) (last.1 desk) last.2 so (subst (λ (n : ℕ). AreCounted (drop n all) (reverse done)) long are))
 
   -- the desks that have words already are those behind
-  desks_of : (desks : List (View D)) (done : List (CountedView D)) → AreCounted desks done → map (λ counted. counted.desk) done ≡ desks
+  pub desks_of : (desks : List (View D)) (done : List (CountedView D)) → AreCounted desks done → map (λ counted. counted.desk) done ≡ desks
   desks_of [] [] are = refl
   desks_of [] (one ∷ done) are = absurd are
   desks_of (desk ∷ desks) [] are = absurd are

@@ -1,7 +1,8 @@
 -- What desks and press come to, once no other thread has them.
 use Rattle.std.specs.Prelude.{Bool, Result}
-use Rattle.std.proofs.Common.{◌≡◌, ℕ, ◌≤◌, List, [], length, get_or, sym, ◌∙◌, subst, arith}
-use Rattle.std.proofs.lemmas.Option.{slice_get_within, get_or_from_slice_get}
+use Rattle.std.specs.Prelude.{Some, slice_get}
+use Rattle.std.proofs.Common.{◌≡◌, ℕ, zero, suc, ◌≤◌, List, [], ◌∷◌, ◌++◌, length, get_or, sym, ◌∙◌, subst, arith}
+use Rattle.std.proofs.lemmas.Option.{none-some, slice_get_within, get_or_from_slice_get}
 use mathlib.Core.List.{IsPrefix}
 use Rattle.disk_api.specs.declared.disk.Disk.{Ghosts as DiskGhosts}
 use Rattle.outlet_api.specs.declared.outlet.Outlet.{Ghosts as OutletGhosts}
@@ -15,6 +16,7 @@ use Rattle.editions.specs.Edition.{cut_at}
 use Rattle.manager.specs.Named.{Named}
 use Rattle.manager.specs.Lists.{AreSeen, seat_at}
 use Rattle.manager.specs.Passes.{KnowsMore}
+use Rattle.manager.specs.Run.{editions_of}
 use Rattle.manager.specs.Locked.{LockedValue}
 use Rattle.manager.specs.Closing.{IsClosed}
 use Rattle.manager.specs.Answers.{IsRepeated}
@@ -23,6 +25,7 @@ use Rattle.manager.specs.Ends.{IsHeld, HaveSeen, AreEnds}
 use Rattle.manager.specs.inner.Gathering.{SeeAlike}
 use Rattle.manager.proofs.Since.{long_at}
 use Rattle.manager.proofs.More.{held_at}
+use Rattle.manager.proofs.Over.{over}
 use Rattle.manager.proofs.Knowing.{prefix_on}
 use Rattle.manager.proofs.Gathering.{prefix_long}
 
@@ -57,11 +60,16 @@ module _ {D : Type 0} (signers : ℕ) (lists : List (List Command)) (seats : Lis
       let within = taken place in
       omega (arith, long, more, within)
 
+get_front : {X : Type 0} (xs rest : List X) (place : ℕ) (x : X) → slice_get xs place ≡ Some x → slice_get (xs ++ rest) place ≡ Some x
+get_front [] rest place x is = absurd (none-some x is)
+get_front (y ∷ xs) rest zero x is = is
+get_front (y ∷ xs) rest (suc place) x is = get_front xs rest place x is
+
 pub ends_are : {D O : Type 0} (disk_of : DiskGhosts D) (outlet_of : OutletGhosts O) (named : Named) (locked : LockedValue D O) (shown : List ShownEdition) (desks : List (View D)) (disk : D) (ring : List SignerState) (outlet : O) (repeated : Result Bool (ExportFault O))
     → IsClosed disk_of outlet_of named locked → IsPrefix shown locked.board.shown → HaveSeen locked.seats desks → disk ≡ locked.press.journal.disk → ring ≡ locked.press.press.ring → outlet ≡ locked.outlet
     → IsRepeated locked.press.press.last_export locked.press.press.at.serial repeated → AreEnds disk_of outlet_of named shown desks disk ring outlet repeated
 ends_are disk_of outlet_of named locked shown desks disk ring outlet repeated closed told begin disk_is ring_is outlet_is again =
-    let is = closed.is.is in
+    let is = over outlet_of named locked closed.is in
     let hold = held (length named.signers) closed.is.lists locked.seats desks is.seen begin in
     record {
       locked = locked;
@@ -73,6 +81,9 @@ ends_are disk_of outlet_of named locked shown desks disk ring outlet repeated cl
       shown = told;
       seen = begin;
       stands = hold locked.press.press.at.cut is.made.left.taken_in;
-      run = λ k d below. hold (get_or closed.is.run k d).edition.cut (held_at closed.is.lists named.editions closed.is.run k d below is.made.after);
-      doubt = λ entry doubted. hold doubted.prepared.next.cut doubted.left.taken_in;
+      run = λ k d below. hold (get_or closed.is.run k d).edition.cut (held_at closed.is.lists closed.is.editions closed.is.run k d below is.made.after);
+      found = λ editions vouched there steps all place edition at.
+          let stands = ((closed.is.each editions there).made.sound vouched all steps).stands in
+          hold edition.cut ((stands.steps place edition (get_front editions (editions_of closed.is.run) place edition at)).1.cut.held);
+      doubt = λ editions entry doubted. hold doubted.prepared.next.cut doubted.left.taken_in;
     }

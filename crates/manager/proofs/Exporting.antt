@@ -29,7 +29,7 @@ abbrev pub FilesLaw : Type 0
 FilesLaw = (session : List ℕ) (site : Bases) (editions : List Edition) (last : LastExport) (files : Option Files)
     → ShowsLast (ShowsEdition session site) editions last files → ShowsLast (ShowsFiles (repository_at session site)) editions last files
 
-shows_newest : (session : List ℕ) (site : Bases) (editions : List Edition) (serial : ℕ) (files : Option Files) → serial ≡ length editions → IfSome files (ShowsEdition session site editions)
+pub shows_newest : (session : List ℕ) (site : Bases) (editions : List Edition) (serial : ℕ) (files : Option Files) → serial ≡ length editions → IfSome files (ShowsEdition session site editions)
     → ShowsLast (ShowsEdition session site) editions (Done serial) files
 shows_newest session site editions serial None is shown = tt
 shows_newest session site editions serial (Some files) is shown = record {
@@ -44,30 +44,30 @@ pub record IsExportOf {T O : Type 0} (result : Result T (ExportFault O)) (press 
   pub shown : OnOk result ((lists : List (List Command)) (editions : List Edition) → IsLeftBy lists editions press.at → HasFilesOf editions press
       → ShowsLast (ShowsFiles (repository_of press)) editions press.last_export was → IfSome is (ShowsEdition press.rrdp.session press.site editions))
 
-module _ {D O : Type 0} (outlet_of : OutletGhosts O) (named : Named) (files_law : FilesLaw) (lists : List (List Command)) (run : List Stood) (calls : List Call)
-    (press : StoredValue D) (seats : List FollowerSeat) (board : BoardSeat) (old new : O) (is : IsLockedOver outlet_of named lists run calls (lock press seats board old)) where
+module _ {D O : Type 0} (outlet_of : OutletGhosts O) (named : Named) (editions : List Edition) (files_law : FilesLaw) (lists : List (List Command)) (run : List Stood) (calls : List Call)
+    (press : StoredValue D) (seats : List FollowerSeat) (board : BoardSeat) (old new : O) (is : IsLockedOver outlet_of named editions lists run calls (lock press seats board old)) where
   same_repository : repository_of press.press ≡ repository_in named
   same_repository = λ i. record { session = is.session i; base = (is.site i).rrdp }
 
-  shows_files : ShowsLast (ShowsFiles (repository_of press.press)) (all_of named run) press.press.last_export (outlet_of.files old)
+  shows_files : ShowsLast (ShowsFiles (repository_of press.press)) (all_of editions run) press.press.last_export (outlet_of.files old)
   shows_files =
-      subst (λ (r : Repository). ShowsLast (ShowsFiles r) (all_of named run) press.press.last_export (outlet_of.files old)) (sym same_repository)
-      (files_law named.session named.site (all_of named run) press.press.last_export (outlet_of.files old) is.shows)
+      subst (λ (r : Repository). ShowsLast (ShowsFiles r) (all_of editions run) press.press.last_export (outlet_of.files old)) (sym same_repository)
+      (files_law named.session named.site (all_of editions run) press.press.last_export (outlet_of.files old) is.shows)
 
   -- the press once its last edition was exported, as far as it went
   abbrev pub ended : LastExport → StoredValue D
   ended last = record press { press = record press.press { last_export = last } }
 
-  coherent_then : {T : Type 0} (result : Result T (ExportFault O)) → IsExportOf result press.press (outlet_of.files old) (outlet_of.files new) → WasCoherent named
-      → IfSome (outlet_of.files new) (IsCoherent (repository_in named) (all_of named run))
+  coherent_then : {T : Type 0} (result : Result T (ExportFault O)) → IsExportOf result press.press (outlet_of.files old) (outlet_of.files new) → WasCoherent named editions
+      → IfSome (outlet_of.files new) (IsCoherent (repository_in named) (all_of editions run))
   coherent_then result export was =
-      subst (λ (r : Repository). IfSome (outlet_of.files new) (IsCoherent r (all_of named run))) same_repository
-      (export.coherent (all_of named run) is.files shows_files
-      (subst (λ (r : Repository). IfSome (outlet_of.files old) (IsCoherent r (all_of named run))) (sym same_repository) (is.coherent was)))
+      subst (λ (r : Repository). IfSome (outlet_of.files new) (IsCoherent r (all_of editions run))) same_repository
+      (export.coherent (all_of editions run) is.files shows_files
+      (subst (λ (r : Repository). IfSome (outlet_of.files old) (IsCoherent r (all_of editions run))) (sym same_repository) (is.coherent was)))
 
-  ended_over : (last : LastExport) → ShowsLast (ShowsEdition named.session named.site) (all_of named run) last (outlet_of.files new)
-      → (WasCoherent named → IfSome (outlet_of.files new) (IsCoherent (repository_in named) (all_of named run)))
-      → IsLockedOver outlet_of named lists run calls (lock (ended last) seats board new)
+  ended_over : (last : LastExport) → ShowsLast (ShowsEdition named.session named.site) (all_of editions run) last (outlet_of.files new)
+      → (WasCoherent named editions → IfSome (outlet_of.files new) (IsCoherent (repository_in named) (all_of editions run)))
+      → IsLockedOver outlet_of named editions lists run calls (lock (ended last) seats board new)
   ended_over last shows coherent = record {
     seen = is.seen;
     site = is.site;
@@ -85,13 +85,13 @@ module _ {D O : Type 0} (outlet_of : OutletGhosts O) (named : Named) (files_law 
   }
 
   pub locked_exported : {T : Type 0} (result : Result T (ExportFault O)) → IsExportOf result press.press (outlet_of.files old) (outlet_of.files new)
-      → IsLockedOver outlet_of named lists run calls (lock (ended (ended_by result press.press.at.serial)) seats board new)
+      → IsLockedOver outlet_of named editions lists run calls (lock (ended (ended_by result press.press.at.serial)) seats board new)
   locked_exported (Ok done) export =
-      let shown : IfSome (outlet_of.files new) (ShowsEdition named.session named.site (all_of named run)) =
-      subst (λ (session : List ℕ). IfSome (outlet_of.files new) (ShowsEdition session named.site (all_of named run))) is.session
-      (subst (λ (site : Bases). IfSome (outlet_of.files new) (ShowsEdition press.press.rrdp.session site (all_of named run))) is.site
-      (export.shown lists (all_of named run) is.made.left is.files shows_files)) in
-      ended_over (Done press.press.at.serial) (shows_newest named.session named.site (all_of named run) press.press.at.serial (outlet_of.files new) is.made.counted shown)
+      let shown : IfSome (outlet_of.files new) (ShowsEdition named.session named.site (all_of editions run)) =
+      subst (λ (session : List ℕ). IfSome (outlet_of.files new) (ShowsEdition session named.site (all_of editions run))) is.session
+      (subst (λ (site : Bases). IfSome (outlet_of.files new) (ShowsEdition press.press.rrdp.session site (all_of editions run))) is.site
+      (export.shown lists (all_of editions run) is.made.left is.files shows_files)) in
+      ended_over (Done press.press.at.serial) (shows_newest named.session named.site (all_of editions run) press.press.at.serial (outlet_of.files new) is.made.counted shown)
       (coherent_then (Ok done) export)
   locked_exported (Err fault) export = ended_over Failed tt (coherent_then (Err fault) export)
 

@@ -21,6 +21,7 @@ use Rattle.manager.specs.Passes.{ComesTo, KnowsMore}
 use Rattle.manager.specs.Locked.{LockedValue, IsLocked}
 use Rattle.manager.specs.inner.Gathering.{no_group, IsSinceSeen, SeeAlikeAt, SeeAlike}
 use Rattle.manager.proofs.Kept.{lock}
+use Rattle.manager.proofs.Over.{over}
 use Rattle.manager.proofs.Seats.{seen_at}
 use Rattle.manager.proofs.More.{OneList, list_there}
 use Rattle.manager.proofs.Learned.{seen_long}
@@ -113,8 +114,9 @@ seen_less known pass press more alike desk =
 pub followers_long : {D O : Type 0} (outlet_of : OutletGhosts O) (named : Named) (press : StoredValue D) (seats : List FollowerSeat) (board : BoardSeat) (outlet : O) → IsLocked outlet_of named (lock press seats board outlet)
     → length seats ≡ most_authorities
 followers_long outlet_of named press seats board outlet is =
-    let count = seen_long (length named.signers) 0 is.lists seats is.is.seen in
-    omega (arith, count, is.is.made.left.desks, is.is.made.one_each)
+    let behind = over outlet_of named (lock press seats board outlet) is in
+    let count = seen_long (length named.signers) 0 is.lists seats behind.seen in
+    omega (arith, count, behind.made.left.desks, behind.made.one_each)
 
 -- ---- the press as a whole
 

@@ -15,8 +15,9 @@ use Rattle.press_core.specs.Follows.{edition_of}
 use Rattle.press_core.specs.Stands.{IsLeftBy}
 use Rattle.press_core.specs.Stored.{store_of}
 use Rattle.manager.specs.Named.{Named}
+use Rattle.manager.specs.Found.{AreFound}
 use Rattle.manager.specs.Locked.{LockedValue, IsInDoubt, IsLocked, all_of}
-use Rattle.manager.specs.Closing.{FindsAll, IsClosed}
+use Rattle.manager.specs.Closing.{FindsBehind, FindsAll, IsClosed}
 
 -- one record more is that of one edition more
 abbrev pub RecordsLaw : Type 0
@@ -30,20 +31,21 @@ module _ {D O : Type 0} (law : RecordsLaw) (outlet_of : OutletGhosts O) (named :
   store = store_for named.session named.site
 
   -- what a file is that recovers to the journal's records, and perhaps to the one in doubt
-  finds : (known : Option (List (List ℕ))) (doubt : Option (List ℕ)) (file : List ℕ) → IsSome known → IfSome known (AreRecords store (all_of named is.run))
-      → IfSome doubt (IsInDoubt named is.lists is.run is.calls locked.press.press.ring locked.press.press.at) → RecoversToInDoubt press_limit known doubt file → FindsAll outlet_of named locked is file
-  finds None doubt file some are has recovers = absurd (false≢true some)
-  finds (Some records) None file some are has recovers = inl (record { records = records; whole = recovers; are = are })
-  finds (Some records) (Some entry) file some are has (inl whole) = inl (record { records = records; whole = whole; are = are })
-  finds (Some records) (Some entry) file some are has (inr whole) =
-      inr (entry, has, record { records = records ++ entry ∷ []; whole = whole; are = law is.lists (all_of named is.run) locked.press.press.at has.prepared store records entry is.is.made.left are has.recorded })
+  finds : (editions : List Edition) (found : AreFound named editions) (known : Option (List (List ℕ))) (doubt : Option (List ℕ)) (file : List ℕ) → IsSome known → IfSome known (AreRecords store (all_of editions is.run))
+      → IfSome doubt (IsInDoubt named editions is.lists is.run is.calls locked.press.press.ring locked.press.press.at) → RecoversToInDoubt press_limit known doubt file → FindsBehind outlet_of named locked is file editions
+  finds editions found None doubt file some are has recovers = absurd (false≢true some)
+  finds editions found (Some records) None file some are has recovers = inl (record { records = records; whole = recovers; are = are })
+  finds editions found (Some records) (Some entry) file some are has (inl whole) = inl (record { records = records; whole = whole; are = are })
+  finds editions found (Some records) (Some entry) file some are has (inr whole) =
+      inr (entry, has, record { records = records ++ entry ∷ []; whole = whole; are = law is.lists (all_of editions is.run) locked.press.press.at has.prepared store records entry (is.each editions found).made.left are has.recorded })
 
   finds_here : (file : List ℕ) → IsSome locked.press.journal.records → RecoversToInDoubt locked.press.journal.limit locked.press.journal.records locked.press.journal.doubt file → FindsAll outlet_of named locked is file
-  finds_here file some recovers =
-      let same : store_of locked.press ≡ store = λ i. store_for (is.is.session i) (is.is.site i) in
-      finds locked.press.journal.records locked.press.journal.doubt file some
-      (subst (λ (s : Store). IfSome locked.press.journal.records (AreRecords s (all_of named is.run))) same is.is.records) is.is.doubt
-      (subst (λ (n : ℕ). RecoversToInDoubt n locked.press.journal.records locked.press.journal.doubt file) is.is.limit recovers)
+  finds_here file some recovers editions found =
+      let behind = is.each editions found in
+      let same : store_of locked.press ≡ store = λ i. store_for (behind.session i) (behind.site i) in
+      finds editions found locked.press.journal.records locked.press.journal.doubt file some
+      (subst (λ (s : Store). IfSome locked.press.journal.records (AreRecords s (all_of editions is.run))) same behind.records) behind.doubt
+      (subst (λ (n : ℕ). RecoversToInDoubt n locked.press.journal.records locked.press.journal.doubt file) behind.limit recovers)
 
   both : {A : Type 0} (known : Option A) (P Q : A → Type 0) (R : Type 0) → IfSome known (λ _. R) → IfSome known P → (R → (x : A) → P x → Q x) → IfSome known Q
   both None P Q R some all so = tt

@@ -69,9 +69,9 @@ lock press seats board outlet = record { press = press; seats = seats; board = b
 
 -- ---- the signers were asked
 
-module _ (named : Named) where
+module _ (named : Named) (editions : List Edition) where
   made_asked : (lists : List (List Command)) (run : List Stood) (calls : List Call) (old new : List SignerState) (at : PublishedStateValue) → Keeps old new
-      → AreMade named lists run calls old at → AreMade named lists run calls new at
+      → AreMade named editions lists run calls old at → AreMade named editions lists run calls new at
   made_asked lists run calls old new at kept is = record {
     left = is.left;
     after = is.after;
@@ -85,7 +85,7 @@ module _ (named : Named) where
   }
 
   doubt_asked : (lists : List (List Command)) (run : List Stood) (calls : List Call) (old new : List SignerState) (at : PublishedStateValue) (entry : List ℕ) → Keeps old new
-      → IsInDoubt named lists run calls old at entry → IsInDoubt named lists run calls new at entry
+      → IsInDoubt named editions lists run calls old at entry → IsInDoubt named editions lists run calls new at entry
   doubt_asked lists run calls old new at entry kept is = record {
     prepared = is.prepared;
     recorded = is.recorded;
@@ -95,7 +95,7 @@ module _ (named : Named) where
     sound = is.sound;
   }
 
-module _ {D O : Type 0} (outlet_of : OutletGhosts O) (named : Named) where
+module _ {D O : Type 0} (outlet_of : OutletGhosts O) (named : Named) (editions : List Edition) where
   -- the press with another ring, and its journal with another room; and the board with another sheet ready
   abbrev asked : StoredValue D → List SignerState → ℕ → ℕ → StoredValue D
   asked old ring places room = record {
@@ -105,12 +105,12 @@ module _ {D O : Type 0} (outlet_of : OutletGhosts O) (named : Named) where
 
   asked_over : (lists : List (List Command)) (run : List Stood) (calls : List Call) (old : StoredValue D) (ring : List SignerState) (places room : ℕ) (seats : List FollowerSeat) (was is : BoardSeat) (outlet : O)
       → Keeps old.press.ring ring → is.list ≡ was.list → is.shown ≡ was.shown
-      → IsLockedOver outlet_of named lists run calls (lock old seats was outlet) → IsLockedOver outlet_of named lists run calls (lock (asked old ring places room) seats is outlet)
+      → IsLockedOver outlet_of named editions lists run calls (lock old seats was outlet) → IsLockedOver outlet_of named editions lists run calls (lock (asked old ring places room) seats is outlet)
   asked_over lists run calls old ring places room seats was board outlet kept same_list same_shown is = record {
     seen = is.seen;
     site = is.site;
     session = is.session;
-    made = made_asked named lists run calls old.press.ring ring old.press.at kept is.made;
+    made = made_asked named editions lists run calls old.press.ring ring old.press.at kept is.made;
     list = same_list ∙ is.list;
     shown = same_shown ∙ is.shown;
     files = record { kept = is.files.kept; set = is.files.set };
@@ -119,21 +119,21 @@ module _ {D O : Type 0} (outlet_of : OutletGhosts O) (named : Named) where
     limit = is.limit;
     records = is.records;
     settled = is.settled;
-    doubt = if_some_so old.journal.doubt (IsInDoubt named lists run calls old.press.ring old.press.at) (IsInDoubt named lists run calls ring old.press.at) is.doubt
-        (λ entry doubted. doubt_asked named lists run calls old.press.ring ring old.press.at entry kept doubted);
+    doubt = if_some_so old.journal.doubt (IsInDoubt named editions lists run calls old.press.ring old.press.at) (IsInDoubt named editions lists run calls ring old.press.at) is.doubt
+        (λ entry doubted. doubt_asked named editions lists run calls old.press.ring ring old.press.at entry kept doubted);
   }
 
   pub locked_asked : (lists : List (List Command)) (run : List Stood) (calls : List Call) (old new : StoredValue D) (seats : List FollowerSeat) (was board : BoardSeat) (outlet : O)
       → Keeps old.press.ring new.press.ring → new.press ≡ record old.press { ring = new.press.ring } → IsSameButRoom old.journal new.journal → board.list ≡ was.list → board.shown ≡ was.shown
-      → IsLockedOver outlet_of named lists run calls (lock old seats was outlet) → IsLockedOver outlet_of named lists run calls (lock new seats board outlet)
+      → IsLockedOver outlet_of named editions lists run calls (lock old seats was outlet) → IsLockedOver outlet_of named editions lists run calls (lock new seats board outlet)
   locked_asked lists run calls old new seats was board outlet kept same room same_list same_shown is =
-      subst (λ (s : StoredValue D). IsLockedOver outlet_of named lists run calls (lock s seats board outlet)) (λ i. record { press = sym same i; journal = sym room i })
+      subst (λ (s : StoredValue D). IsLockedOver outlet_of named editions lists run calls (lock s seats board outlet)) (λ i. record { press = sym same i; journal = sym room i })
       (asked_over lists run calls old new.press.ring new.journal.places new.journal.room seats was board outlet kept same_list same_shown is)
 
   -- ---- an edition was prepared over a press that is locked
 
   pub record Readied (start : PrepareInput) (lists : List (List Command)) (run : List Stood) (calls : List Call) (ready : StoredValue D) (seats : List FollowerSeat) (board : BoardSeat) (outlet : O) (prepared : NextValue) : Type 0 where
-    pub is : IsLockedOver outlet_of named lists run calls (lock ready seats board outlet)
+    pub is : IsLockedOver outlet_of named editions lists run calls (lock ready seats board outlet)
     pub since : AreSince 0 lists start.at.cut start.gathered
     pub edition : IsNextEdition start ready.press.ring prepared
     pub at : start.at ≡ ready.press.at
@@ -142,7 +142,7 @@ module _ {D O : Type 0} (outlet_of : OutletGhosts O) (named : Named) where
 
   module _ (law : VouchLaw) (start : PrepareInput) (lists : List (List Command)) (run : List Stood) (calls : List Call) (ready : StoredValue D) (seats : List FollowerSeat) (board : BoardSeat) (outlet : O) (prepared : NextValue)
       (readied : Readied start lists run calls ready seats board outlet prepared) where
-    abbrev is : IsLockedOver outlet_of named lists run calls (lock ready seats board outlet)
+    abbrev is : IsLockedOver outlet_of named editions lists run calls (lock ready seats board outlet)
     is = readied.is
 
     abbrev edition : Edition
@@ -155,7 +155,7 @@ module _ {D O : Type 0} (outlet_of : OutletGhosts O) (named : Named) where
     made = calls_for start ready.press.ring prepared readied.edition.is_prepared
 
     abbrev before : List Edition
-    before = all_of named run
+    before = all_of editions run
 
     left_before : IsLeftBy lists before start.at
     left_before = subst (λ (s : PublishedStateValue). IsLeftBy lists before s) (sym readied.at) is.made.left
@@ -169,7 +169,7 @@ module _ {D O : Type 0} (outlet_of : OutletGhosts O) (named : Named) where
     left_then : IsLeftBy lists (before ++ edition ∷ []) prepared.next
     left_then = readied.edition.left lists before left_before go_on
 
-    behind : (vouched : Vouched) → All (IsVouchedBy vouched) calls → All (IsVouchedBy vouched) made → AreFoundSteps named vouched → AreBehind start made (premises_of named lists vouched) before
+    behind : (vouched : Vouched) → All (IsVouchedBy vouched) calls → All (IsVouchedBy vouched) made → AreFoundSteps named editions vouched → AreBehind start made (premises_of named lists vouched) before
     behind vouched all mine found = record {
       stands = subst (λ (s : PublishedStateValue). StandsFor (premises_of named lists vouched) before s) (sym readied.at) (is.made.sound vouched all found).stands;
       gathered = go_on;
@@ -177,11 +177,11 @@ module _ {D O : Type 0} (outlet_of : OutletGhosts O) (named : Named) where
       vouched = mine;
     }
 
-    stands_then : (vouched : Vouched) → All (IsVouchedBy vouched) calls → All (IsVouchedBy vouched) made → AreFoundSteps named vouched
+    stands_then : (vouched : Vouched) → All (IsVouchedBy vouched) calls → All (IsVouchedBy vouched) made → AreFoundSteps named editions vouched
         → StandsFor (premises_of named lists vouched) (before ++ edition ∷ []) prepared.next
     stands_then vouched all mine found = (readied.edition.follows (premises_of named lists vouched) before (behind vouched all mine found)).stands
 
-    published_then : (vouched : Vouched) → All (IsVouchedBy vouched) calls → All (IsVouchedBy vouched) made → AreFoundSteps named vouched
+    published_then : (vouched : Vouched) → All (IsVouchedBy vouched) calls → All (IsVouchedBy vouched) made → AreFoundSteps named editions vouched
         → IsPublished (premises_of named lists vouched) edition (content_at prepared.next.set)
     published_then vouched all mine found = readied.edition.published (premises_of named lists vouched) before (behind vouched all mine found)
 
@@ -189,10 +189,10 @@ module _ {D O : Type 0} (outlet_of : OutletGhosts O) (named : Named) where
     told_then tell vouched has =
         law start ready.press.ring prepared readied.edition.is_prepared vouched (telling_vouched vouched ready.press.ring (is.made.kept.told tell) has)
 
-    one_more : all_of named (run ++ stood ∷ []) ≡ before ++ edition ∷ []
-    one_more = editions_more named.editions run stood
+    one_more : all_of editions (run ++ stood ∷ []) ≡ before ++ edition ∷ []
+    one_more = editions_more editions run stood
 
-    sound_then : (vouched : Vouched) → All (IsVouchedBy vouched) (calls ++ made) → AreFoundSteps named vouched → AreSound named lists (run ++ stood ∷ []) prepared.next vouched
+    sound_then : (vouched : Vouched) → All (IsVouchedBy vouched) (calls ++ made) → AreFoundSteps named editions vouched → AreSound named editions lists (run ++ stood ∷ []) prepared.next vouched
     sound_then vouched all found =
         let first = front_of (IsVouchedBy vouched) calls made all in
         let mine = rest_of (IsVouchedBy vouched) calls made all in
@@ -203,13 +203,13 @@ module _ {D O : Type 0} (outlet_of : OutletGhosts O) (named : Named) where
         }
 
     -- what is made, once the edition is the last one
-    pub made_then : (ring : List SignerState) → Keeps ready.press.ring ring → AreMade named lists (run ++ stood ∷ []) (calls ++ made) ring prepared.next
+    pub made_then : (ring : List SignerState) → Keeps ready.press.ring ring → AreMade named editions lists (run ++ stood ∷ []) (calls ++ made) ring prepared.next
     made_then ring kept = record {
       left = subst (λ (es : List Edition). IsLeftBy lists es prepared.next) (sym one_more) left_then;
-      after = after_more lists named.editions run stood is.made.after (record { left = left_then; cut = refl; kept = readied.edition.is_prepared.next.kept });
+      after = after_more lists editions run stood is.made.after (record { left = left_then; cut = refl; kept = readied.edition.is_prepared.next.kept });
       last = sym (last_more named.at run stood);
       counted =
-          let long : length (all_of named (run ++ stood ∷ [])) ≡ length before + 1 = ap length one_more ∙ length-append before (edition ∷ []) in
+          let long : length (all_of editions (run ++ stood ∷ [])) ≡ length before + 1 = ap length one_more ∙ length-append before (edition ∷ []) in
           let serial : start.at.serial ≡ length before = ap (λ (s : PublishedStateValue). s.serial) readied.at ∙ is.made.counted in
           omega (arith, long, serial, readied.edition.is_prepared.next.serial);
       one_each = readied.edition.is_prepared.next.kept.cut;
@@ -237,12 +237,12 @@ module _ {D O : Type 0} (outlet_of : OutletGhosts O) (named : Named) where
       pub shown_is : shown.shown ≡ board.shown ++ shown_at prepared.next ∷ []
 
     pub locked_pressed : CoherentLaw → ShownLaw → (new : StoredValue D) (shown : BoardSeat) → IsPressed new shown
-        → IsLockedOver outlet_of named lists (run ++ stood ∷ []) (calls ++ made) (lock new seats shown outlet)
+        → IsLockedOver outlet_of named editions lists (run ++ stood ∷ []) (calls ++ made) (lock new seats shown outlet)
     locked_pressed still_coherent still_shown new shown pressed = record {
       seen = is.seen;
       site = pressed.site ∙ is.site;
       session = pressed.session ∙ is.session;
-      made = subst (λ (s : PublishedStateValue). AreMade named lists (run ++ stood ∷ []) (calls ++ made) new.press.ring s) (sym pressed.at) (made_then new.press.ring pressed.kept);
+      made = subst (λ (s : PublishedStateValue). AreMade named editions lists (run ++ stood ∷ []) (calls ++ made) new.press.ring s) (sym pressed.at) (made_then new.press.ring pressed.kept);
       list = pressed.list ∙ is.list;
       shown = pressed.shown_is ∙ (ap (λ (l : List ShownEdition). l ++ shown_at prepared.next ∷ []) is.shown ∙ sym (shown_more named.at run stood));
       files = subst (λ (es : List Edition). HasFilesOf es new.press) (sym one_more) pressed.files;
@@ -255,16 +255,16 @@ module _ {D O : Type 0} (outlet_of : OutletGhosts O) (named : Named) where
       limit = pressed.limit ∙ is.limit;
       records = subst (λ (es : List Edition). HasRecordsOf es new) (sym one_more) pressed.records;
       settled = λ none. pressed.settled;
-      doubt = subst (λ (d : Option (List ℕ)). IfSome d (IsInDoubt named lists (run ++ stood ∷ []) (calls ++ made) new.press.ring new.press.at)) (sym pressed.settled) tt;
+      doubt = subst (λ (d : Option (List ℕ)). IfSome d (IsInDoubt named editions lists (run ++ stood ∷ []) (calls ++ made) new.press.ring new.press.at)) (sym pressed.settled) tt;
     }
 
     -- ---- the disk failed while its record was written
 
     pub locked_doubted : (entry : List ℕ) (rose : ℕ × ℕ) (new : StoredValue D) → new.press ≡ ready.press → new.journal.limit ≡ ready.journal.limit → new.journal.records ≡ ready.journal.records → new.journal.shut ≡ Some rose → new.journal.doubt ≡ Some entry
         → IsRecordOf ready.press.at prepared entry
-        → IsLockedOver outlet_of named lists run calls (lock new seats board outlet)
+        → IsLockedOver outlet_of named editions lists run calls (lock new seats board outlet)
     locked_doubted entry rose new same limit records shut doubted recorded =
-        subst (λ (p : PressValue). IsLockedOver outlet_of named lists run calls (lock (record { press = p; journal = new.journal }) seats board outlet)) (sym same) (record {
+        subst (λ (p : PressValue). IsLockedOver outlet_of named editions lists run calls (lock (record { press = p; journal = new.journal }) seats board outlet)) (sym same) (record {
           seen = is.seen;
           site = is.site;
           session = is.session;
@@ -277,7 +277,7 @@ module _ {D O : Type 0} (outlet_of : OutletGhosts O) (named : Named) where
           limit = limit ∙ is.limit;
           records = subst (λ (r : Option (List (List ℕ))). HasRecordsOf before (record ready { journal = record ready.journal { records = r } })) (sym records) is.records;
           settled = λ none. absurd (none-some rose (sym none ∙ shut));
-          doubt = subst (λ (d : Option (List ℕ)). IfSome d (IsInDoubt named lists run calls ready.press.ring ready.press.at)) (sym doubted) (record {
+          doubt = subst (λ (d : Option (List ℕ)). IfSome d (IsInDoubt named editions lists run calls ready.press.ring ready.press.at)) (sym doubted) (record {
             prepared = prepared;
             recorded = recorded;
             made = made;

@@ -16,6 +16,7 @@ use Rattle.manager.specs.Lists.{IsListOf, AreListsOf, IsListed, seat_at}
 use Rattle.manager.specs.Locked.{IsLocked}
 use Rattle.manager.proofs.Since.{long_at}
 use Rattle.manager.proofs.Kept.{lock}
+use Rattle.manager.proofs.Over.{over}
 use Rattle.manager.proofs.Seats.{seen_at}
 use Rattle.manager.proofs.More.{OneList, MoreLeft, MoreStand, StayPublished, locked_more}
 
@@ -42,19 +43,22 @@ module _ {D O : Type 0} (outlet_of : OutletGhosts O) (named : Named) (press : St
     lists = slice_set is.lists place listed.commands;
     run = is.run;
     calls = is.calls;
-    is = locked_more one more_left more_stand stay outlet_of named is.lists is.run is.calls press seats board outlet place (record (seat_at seats place) { seen = desk.records }) listed.commands
-        within grows (listed_of (length named.signers) place desk at listed) is.is;
+    editions = is.editions;
+    found = is.found;
+    each = λ editions found. locked_more one more_left more_stand stay outlet_of named editions is.lists is.run is.calls press seats board outlet place (record (seat_at seats place) { seen = desk.records }) listed.commands
+        within grows (listed_of (length named.signers) place desk at listed) (is.each editions found);
   }
 
   -- the cut has a number for the desk
   pub cut_within : place < length press.press.at.cut
   cut_within =
-      let long = seen_long (length named.signers) 0 is.lists seats is.is.seen in
-      omega (arith, within, long, is.is.made.left.desks)
+      let long = seen_long (length named.signers) 0 is.lists seats (over outlet_of named (lock press seats board outlet) is).seen in
+      let one_each = (over outlet_of named (lock press seats board outlet) is).made.left.desks in
+      omega (arith, within, long, one_each)
 
   -- it takes in no more than the follower has seen
   pub cut_held : cut_at press.press.at.cut place ≤ length (seat_at seats place).seen
   cut_held =
-      let seen = long_at (length named.signers) 0 is.lists seats place is.is.seen in
-      let held = is.is.made.left.taken_in place in
+      let seen = long_at (length named.signers) 0 is.lists seats place (over outlet_of named (lock press seats board outlet) is).seen in
+      let held = (over outlet_of named (lock press seats board outlet) is).made.left.taken_in place in
       omega (arith, seen, held)

@@ -5,6 +5,7 @@ pub mod Kept
 pub mod More
 pub mod Exporting
 pub mod Opened
+pub mod Over
 pub mod Holding
 pub mod Answered
 pub mod Seats
@@ -28,4 +29,5 @@ pub mod Rising
 pub mod Looking
 pub mod Sharing
 pub mod Counting
-pub mod GoingOn
+pub mod Anchored
+pub mod Ready

@@ -112,7 +112,7 @@ held_at lists before [] k d within all desk = absurd (omega (arith, within))
 held_at lists before (stood ∷ run) zero d within all desk = subst (λ (cut : List ℕ). cut_at cut desk ≤ length (get_or lists desk [])) all.0.cut (all.0.left.taken_in desk)
 held_at lists before (stood ∷ run) (suc k) d within all desk = held_at lists (before ++ stood.edition ∷ []) run k d (omega (arith, within)) all.1 desk
 
-module _ (more_left : MoreLeft) (more_stand : MoreStand) (stay : StayPublished) (named : Named) (less more : List (List Command)) (are : AreMore less more) where
+module _ (more_left : MoreLeft) (more_stand : MoreStand) (stay : StayPublished) (named : Named) (editions : List Edition) (less more : List (List Command)) (are : AreMore less more) where
   after_set : (before : List Edition) (run : List Stood) → AreAfter less before run → AreAfter more before run
   after_set before [] all = tt
   after_set before (stood ∷ run) all = (
@@ -127,10 +127,10 @@ module _ (more_left : MoreLeft) (more_stand : MoreStand) (stay : StayPublished) 
   published_set before run vouched after' all k d within =
       stay (premises_of named less vouched) more (get_or run k d).edition (content_at (get_or run k d).at.set) are (held_at less before run k d within after') (all k d within)
 
-  made_set : (run : List Stood) (calls : List Call) (ring : List SignerState) (at : PublishedStateValue) → AreMade named less run calls ring at → AreMade named more run calls ring at
+  made_set : (run : List Stood) (calls : List Call) (ring : List SignerState) (at : PublishedStateValue) → AreMade named editions less run calls ring at → AreMade named editions more run calls ring at
   made_set run calls ring at is = record {
-    left = more_left less more (all_of named run) at are is.left;
-    after = after_set named.editions run is.after;
+    left = more_left less more (all_of editions run) at are is.left;
+    after = after_set editions run is.after;
     last = is.last;
     counted = is.counted;
     one_each = is.one_each;
@@ -139,28 +139,28 @@ module _ (more_left : MoreLeft) (more_stand : MoreStand) (stay : StayPublished) 
     sound = λ vouched all found.
         let was = is.sound vouched all found in
         record {
-          stands = more_stand (premises_of named less vouched) (premises_of named more vouched) (all_of named run) at (premises_more vouched) was.stands;
-          published = published_set named.editions run vouched is.after was.published;
+          stands = more_stand (premises_of named less vouched) (premises_of named more vouched) (all_of editions run) at (premises_more vouched) was.stands;
+          published = published_set editions run vouched is.after was.published;
         };
     live_signers = is.live_signers;
   }
 
-  doubt_set : (run : List Stood) (calls : List Call) (ring : List SignerState) (at : PublishedStateValue) (entry : List ℕ) → IsInDoubt named less run calls ring at entry → IsInDoubt named more run calls ring at entry
+  doubt_set : (run : List Stood) (calls : List Call) (ring : List SignerState) (at : PublishedStateValue) (entry : List ℕ) → IsInDoubt named editions less run calls ring at entry → IsInDoubt named editions more run calls ring at entry
   doubt_set run calls ring at entry is = record {
     prepared = is.prepared;
     recorded = is.recorded;
     made = is.made;
     told = is.told;
-    left = more_left less more (all_of named run ++ edition_of is.prepared ∷ []) is.prepared.next are is.left;
+    left = more_left less more (all_of editions run ++ edition_of is.prepared ∷ []) is.prepared.next are is.left;
     sound = λ vouched all mine found.
         let was = is.sound vouched all mine found in (
-          more_stand (premises_of named less vouched) (premises_of named more vouched) (all_of named run ++ edition_of is.prepared ∷ []) is.prepared.next (premises_more vouched) was.0,
+          more_stand (premises_of named less vouched) (premises_of named more vouched) (all_of editions run ++ edition_of is.prepared ∷ []) is.prepared.next (premises_more vouched) was.0,
           stay (premises_of named less vouched) more (edition_of is.prepared) (content_at is.prepared.next.set) are is.left.taken_in was.1,
         );
   }
 
   over_more : {D O : Type 0} (outlet_of : OutletGhosts O) (run : List Stood) (calls : List Call) (press : StoredValue D) (was seats : List FollowerSeat) (board : BoardSeat) (outlet : O)
-      → AreSeen (length named.signers) more seats → IsLockedOver outlet_of named less run calls (lock press was board outlet) → IsLockedOver outlet_of named more run calls (lock press seats board outlet)
+      → AreSeen (length named.signers) more seats → IsLockedOver outlet_of named editions less run calls (lock press was board outlet) → IsLockedOver outlet_of named editions more run calls (lock press seats board outlet)
   over_more outlet_of run calls press was seats board outlet seen is = record {
     seen = seen;
     site = is.site;
@@ -174,18 +174,18 @@ module _ (more_left : MoreLeft) (more_stand : MoreStand) (stay : StayPublished) 
     limit = is.limit;
     records = is.records;
     settled = is.settled;
-    doubt = if_some_so press.journal.doubt (IsInDoubt named less run calls press.press.ring press.press.at) (IsInDoubt named more run calls press.press.ring press.press.at) is.doubt
+    doubt = if_some_so press.journal.doubt (IsInDoubt named editions less run calls press.press.ring press.press.at) (IsInDoubt named editions more run calls press.press.ring press.press.at) is.doubt
         (λ entry doubted. doubt_set run calls press.press.ring press.press.at entry doubted);
   }
 
 -- ---- the follower of a desk has seen its whole list
 
-pub locked_more : {D O : Type 0} (law : OneList) (more_left : MoreLeft) (more_stand : MoreStand) (stay : StayPublished) (outlet_of : OutletGhosts O) (named : Named)
+pub locked_more : {D O : Type 0} (law : OneList) (more_left : MoreLeft) (more_stand : MoreStand) (stay : StayPublished) (outlet_of : OutletGhosts O) (named : Named) (editions : List Edition)
     (lists : List (List Command)) (run : List Stood) (calls : List Call) (press : StoredValue D) (seats : List FollowerSeat) (board : BoardSeat) (outlet : O) (place : ℕ) (next : FollowerSeat) (list : List Command)
     → place < length seats → IsPrefix (seat_at seats place).seen next.seen → IsListOf (length named.signers) place list next.seen
-    → IsLockedOver outlet_of named lists run calls (lock press seats board outlet) → IsLockedOver outlet_of named (slice_set lists place list) run calls (lock press (slice_set seats place next) board outlet)
-locked_more law more_left more_stand stay outlet_of named lists run calls press seats board outlet place next list within grows listed is =
+    → IsLockedOver outlet_of named editions lists run calls (lock press seats board outlet) → IsLockedOver outlet_of named editions (slice_set lists place list) run calls (lock press (slice_set seats place next) board outlet)
+locked_more law more_left more_stand stay outlet_of named editions lists run calls press seats board outlet place next list within grows listed is =
     let old = list_there (length named.signers) 0 lists seats place place (omega arith) within is.seen in
     let begun = begins law place (get_or lists place []) list (seat_at seats place).seen next.seen old listed.are grows in
-    over_more more_left more_stand stay named lists (slice_set lists place list) (more_set lists place list begun) outlet_of run calls press seats (slice_set seats place next) board outlet
+    over_more more_left more_stand stay named editions lists (slice_set lists place list) (more_set lists place list begun) outlet_of run calls press seats (slice_set seats place next) board outlet
     (seen_set (length named.signers) 0 lists seats place place next list (omega arith) listed is.seen) is

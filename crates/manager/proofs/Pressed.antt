@@ -7,6 +7,7 @@ use Rattle.gate_journal.specs.View.{View as JournalView}
 use Rattle.authority_book.specs.declared.commands.Command.{Command}
 use Rattle.commit_word.specs.Seats.{FollowerSeat}
 use Rattle.notice_board.specs.Seats.{BoardSeat}
+use Rattle.editions.specs.Edition.{Edition}
 use Rattle.editions.specs.declared.gathered.Gathered.{Gathered}
 use Rattle.editions.specs.declared.published_state.PublishedNumbers.{PublishedNumbers}
 use Rattle.editions.specs.PublishedState.{PublishedStateValue, published_of}
@@ -19,12 +20,14 @@ use Rattle.press_core.specs.Stored.{StoredValue, StoredPreparedValue}
 use Rattle.press_core.specs.StoredAnswers.{IsCommitFault}
 use Rattle.press_core.specs.declared.stored_fault.PrepareFault.{PrepareFault}
 use Rattle.manager.specs.Named.{Named}
+use Rattle.manager.specs.Found.{AreFound}
 use Rattle.manager.specs.Lists.{AreSeen}
 use Rattle.manager.specs.Gathered.{AreSince}
 use Rattle.manager.specs.Run.{shown_at}
 use Rattle.manager.specs.Locked.{LockedValue, IsLockedOver, IsLocked, all_of}
 use Rattle.manager.specs.Pressing.{IsReady, IsUnready, IsCommitted}
 use Rattle.manager.specs.Answers.{IsBehind, IsFailedBy}
+use Rattle.manager.proofs.Over.{over}
 use Rattle.manager.proofs.Kept.{VouchLaw, CoherentLaw, ShownLaw, lock, locked_asked, Readied, locked_pressed, locked_doubted}
 
 -- the groups are what is behind the cut, whatever the followers have seen
@@ -46,26 +49,28 @@ module _ {D O : Type 0} (outlet_of : OutletGhosts O) (named : Named) (press : St
     lists = is.lists;
     run = is.run;
     calls = is.calls;
-    is = locked_asked outlet_of named is.lists is.run is.calls press new seats board still outlet unready.kept unready.same unready.journal
-        (ap (λ (b : BoardSeat). b.list) same) (ap (λ (b : BoardSeat). b.shown) same) is.is;
+    editions = is.editions;
+    found = is.found;
+    each = λ editions found. locked_asked outlet_of named editions is.lists is.run is.calls press new seats board still outlet unready.kept unready.same unready.journal
+        (ap (λ (b : BoardSeat). b.list) same) (ap (λ (b : BoardSeat). b.shown) same) (is.each editions found);
   }
 
   -- ---- one was
 
   module _ (law : VouchLaw) (since : Since named press seats groups) (ready : StoredValue D) (readied : BoardSeat) (prepared : StoredPreparedValue)
       (isready : IsReady start press ready prepared) (on_board : readied ≡ record board { ready = Some (sheet_of prepared.edition.next) }) where
-    ready_over : IsLockedOver outlet_of named is.lists is.run is.calls (lock ready seats readied outlet)
-    ready_over = locked_asked outlet_of named is.lists is.run is.calls press ready seats board readied outlet isready.kept isready.same isready.journal
-        (ap (λ (b : BoardSeat). b.list) on_board) (ap (λ (b : BoardSeat). b.shown) on_board) is.is
+    ready_over : (editions : List Edition) → AreFound named editions → IsLockedOver outlet_of named editions is.lists is.run is.calls (lock ready seats readied outlet)
+    ready_over editions found = locked_asked outlet_of named editions is.lists is.run is.calls press ready seats board readied outlet isready.kept isready.same isready.journal
+        (ap (λ (b : BoardSeat). b.list) on_board) (ap (λ (b : BoardSeat). b.shown) on_board) (is.each editions found)
 
-    abbrev readied_is : Readied outlet_of named start is.lists is.run is.calls ready seats readied outlet prepared.edition
-    readied_is = record {
-      is = ready_over;
-      since = since is.lists is.is.seen;
+    abbrev readied_is : (editions : List Edition) → AreFound named editions → Readied outlet_of named editions start is.lists is.run is.calls ready seats readied outlet prepared.edition
+    readied_is editions found = record {
+      is = ready_over editions found;
+      since = since is.lists (over outlet_of named (lock press seats board outlet) is).seen;
       edition = isready.edition;
       at = sym (ap (λ (p : PressValue). p.at) isready.same);
       site = sym (ap (λ (p : PressValue). p.site) isready.same);
-      count = is.is.made.kept.count;
+      count = (over outlet_of named (lock press seats board outlet) is).made.kept.count;
     }
 
     -- it was committed and shown
@@ -75,15 +80,17 @@ module _ {D O : Type 0} (outlet_of : OutletGhosts O) (named : Named) (press : St
       lists = is.lists;
       run = is.run ++ record { edition = edition_of prepared.edition; at = prepared.edition.next } ∷ [];
       calls = is.calls ++ calls_for start ready.press.ring prepared.edition isready.edition.is_prepared;
-      is = locked_pressed outlet_of named law start is.lists is.run is.calls ready seats readied outlet prepared.edition readied_is still_coherent still_shown new shown (record {
+      editions = is.editions;
+      found = is.found;
+      each = λ editions found. locked_pressed outlet_of named editions law start is.lists is.run is.calls ready seats readied outlet prepared.edition (readied_is editions found) still_coherent still_shown new shown (record {
         at = committed.at;
         site = committed.site;
         session = committed.session;
         last_export = committed.last_export;
         kept = committed.kept;
-        files = committed.files is.lists (all_of named is.run) ready_over.made.left ready_over.files;
+        files = committed.files is.lists (all_of editions is.run) (ready_over editions found).made.left (ready_over editions found).files;
         limit = committed.limit;
-        records = committed.records is.lists (all_of named is.run) ready_over.made.left ready_over.records;
+        records = committed.records is.lists (all_of editions is.run) (ready_over editions found).made.left (ready_over editions found).records;
         settled = committed.settled;
         list = ap (λ (b : BoardSeat). b.list) shown_is;
         shown_is = ap (λ (b : BoardSeat). b.shown) shown_is;
@@ -113,8 +120,10 @@ module _ {D O : Type 0} (outlet_of : OutletGhosts O) (named : Named) (press : St
       lists = is.lists;
       run = is.run;
       calls = is.calls;
-      is = subst (λ (b : BoardSeat). IsLockedOver outlet_of named is.lists is.run is.calls (lock new seats b outlet)) (sym same)
-          (locked_doubted outlet_of named law start is.lists is.run is.calls ready seats readied outlet prepared.edition readied_is
+      editions = is.editions;
+      found = is.found;
+      each = λ editions found. subst (λ (b : BoardSeat). IsLockedOver outlet_of named editions is.lists is.run is.calls (lock new seats b outlet)) (sym same)
+          (locked_doubted outlet_of named editions law start is.lists is.run is.calls ready seats readied outlet prepared.edition (readied_is editions found)
           prepared.entry rose new fault.press limit fault.records fault.shut fault.doubt isready.can.recorded);
     }
 

@@ -1,5 +1,6 @@
 pub mod Named
 pub mod Lists
+pub mod Found
 pub mod Gathered
 pub mod Run
 pub mod Locked
@@ -17,4 +18,5 @@ pub mod Starting
 pub mod Awaiting
 pub mod Sharing
 pub mod Resumed
+pub mod Ready
 pub mod inner

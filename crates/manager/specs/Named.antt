@@ -5,17 +5,19 @@ use Rattle.key_ids.specs.Uris.{Bases}
 use Rattle.signer_api.specs.State.{SignerState}
 use Rattle.outlet_api.specs.Calls.{Files}
 use Rattle.notice_board.specs.declared.shown.ListId.{ListId}
-use Rattle.editions.specs.Edition.{Edition}
 use Rattle.editions.specs.PublishedState.{PublishedStateValue}
+use Rattle.rrdp_state.specs.Kept.{Kept}
 
--- The bases of the repository and the session of its RRDP files; the records of each desk; the
--- editions, and what stands after them; the signers, what the outlet showed, and the board's list.
+-- The bases of the repository and the session of its RRDP files; the records of each desk; what stands
+-- after the last edition, the RRDP files that are kept of the editions, and the records of the press's
+-- journal, where its disk tells; the signers, what the outlet showed, and the board's list.
 pub record Named : Type 0 where
   pub site : Bases
   pub session : List ℕ
   pub records : List (List (List ℕ))
-  pub editions : List Edition
   pub at : PublishedStateValue
+  pub kept : Kept
+  pub journal : Option (List (List ℕ))
   pub signers : List SignerState
   pub files : Option Files
   pub list : ListId
@@ -33,13 +35,24 @@ nothing_at = record {
   owed = [];
 }
 
+abbrev pub nothing_kept : Kept
+nothing_kept = record {
+  session = [];
+  base = [];
+  serial = 0;
+  deltas = [];
+  previous = 0;
+  before = 0;
+}
+
 abbrev pub nothing_named : Named
 nothing_named = record {
   site = record { rsync = []; rrdp = [] };
   session = [];
   records = [];
-  editions = [];
   at = nothing_at;
+  kept = nothing_kept;
+  journal = None;
   signers = [];
   files = None;
   list = record { number = 0; log_name = 0; cells_name = 0 };

@@ -1,6 +1,8 @@
 //! What was opened, with a word beside each desk, and the board that shows the last edition.
 ghost use Rattle.std.specs.Prelude.{◌≡◌, ◌+◌, ◌++◌, [], ◌∷◌, All, map, length, reverse, vec_capacity, vec_len, ◌≤◌, IfOk, IfErr};
 ghost use Rattle.notice_board.specs.Seats.{viewer_seat};
+ghost use Rattle.manager.specs.Ready.{IsReady};
+ghost use Rattle.manager.specs.Resumed.{IsResumed};
 ghost use Rattle.manager.specs.Run.{numbers_of, shown_at};
 ghost use Rattle.manager.specs.Starting.{first_places, AreCounted};
 
@@ -15,10 +17,12 @@ use std::alloc::{AllocError, Global};
 use std::marker::Brand;
 use std::sync::Wait;
 
-/// What was opened, with the viewers of the first pass and of those that can be split off it.
+/// What was opened, with the viewers of the first pass and of those that can be split off it; and the emptied list of
+/// the desks, in which there is room for them.
 pub struct ReadyStore<D: Disk, S: Signer, O: Outlet> {
     pub opened: OpenedStore<D, S, O>,
     pub viewers: Vec<Viewer>,
+    pub room: Vec<Desk<D>>,
 }
 
 /// Desks, press and outlet as they were, where there was no memory.
@@ -30,6 +34,12 @@ pub struct UnreadyStore<D: Disk, S: Signer, O: Outlet> {
     pub fault: AllocError,
 }
 
+// The desks with their words, and the emptied list of them.
+struct CountedDesks<D: Disk> {
+    opened: Vec<OpenedDesk<D>>,
+    room: Vec<Desk<D>>,
+}
+
 // Desks as they were, where there was no memory.
 #[derive(Drop)]
 struct UncountedDesks<D: Disk> {
@@ -38,7 +48,8 @@ struct UncountedDesks<D: Disk> {
 }
 
 /// Gives each desk a word that counts its commands from those on that were found, and makes the board that shows the
-/// last edition.
+/// last edition. A press that goes on behind what was loaded, with the commands of these desks, is then ready to be
+/// put behind its lock.
 pub fn make_store_ready<D: Disk, S: Signer, O: Outlet, R: Wait>(
     rt: &R,
     alloc: Global,
@@ -50,6 +61,9 @@ pub fn make_store_ready<D: Disk, S: Signer, O: Outlet, R: Wait>(
     ensures press { IfOk result (λ ready. (ready.opened.press ≡ press) × (ready.opened.outlet ≡ outlet)) }
     ensures shown { IfOk result (λ ready. ready.opened.board.shown ≡ shown_at press.press.at ∷ []) }
     ensures viewers { IfOk result (λ ready. (length ready.viewers.items ≡ first_places + 1) × All (λ viewer. viewer ≡ viewer_seat ready.opened.board) ready.viewers.items) }
+    ensures room { IfOk result (λ ready. (ready.room.items ≡ []) × (length desks.items ≤ vec_capacity ready.room)) }
+    ensures ready { IfOk result (λ ready. IsResumed desks.items press
+        → IsReady O.Outlet ready.opened.desks.items ready.opened.press ready.opened.board ready.opened.outlet) }
     ensures refused { IfErr result (λ refused. (refused.desks.items ≡ desks.items) × (refused.press ≡ press) × (refused.outlet ≡ outlet)) }
 {
     let (board, viewers) = match board_of::<Brand, D, S, R>(rt, alloc, &press) {
@@ -64,14 +78,18 @@ pub fn make_store_ready<D: Disk, S: Signer, O: Outlet, R: Wait>(
         }
     };
     match count_all(alloc, desks) {
-        Ok(desks) => {
+        Ok(CountedDesks { opened, room }) => {
             let opened = OpenedStore {
-                desks,
+                desks: opened,
                 press,
                 board,
                 outlet,
             };
-            Ok(ReadyStore { opened, viewers })
+            Ok(ReadyStore {
+                opened,
+                viewers,
+                room,
+            })
         }
         Err(UncountedDesks { desks, fault }) => {
             board.close(rt);
@@ -103,8 +121,9 @@ fn board_of<E: Numbers, D: Disk, S: Signer, R: Wait>(
 fn count_all<D: Disk>(
     alloc: Global,
     desks: Vec<Desk<D>>,
-) -> Result<Vec<OpenedDesk<D>>, UncountedDesks<D>>
-    ensures counted { IfOk result (λ opened. AreCounted desks.items opened.items) }
+) -> Result<CountedDesks<D>, UncountedDesks<D>>
+    ensures counted { IfOk result (λ counted. AreCounted desks.items counted.opened.items) }
+    ensures room { IfOk result (λ counted. (counted.room.items ≡ []) × (length desks.items ≤ vec_capacity counted.room)) }
     ensures refused { IfErr result (λ refused. refused.desks.items ≡ desks.items) }
 {
     let mut desks = desks;
@@ -126,11 +145,14 @@ fn count_all<D: Disk>(
         }
     }
     opened.reverse();
-    Ok(opened)
+    Ok(CountedDesks {
+        opened,
+        room: desks,
+    })
 }
 
-// Puts these desks back behind the others, the last first, without their words.
-fn give_back<D: Disk>(opened: Vec<OpenedDesk<D>>, desks: &mut Vec<Desk<D>>)
+// Puts these desks behind the others, the last first, without their words.
+pub(crate) fn give_back<D: Disk>(opened: Vec<OpenedDesk<D>>, desks: &mut Vec<Desk<D>>)
     requires { vec_len desks.old + vec_len opened ≤ vec_capacity desks.old }
     ensures { desks.new.items ≡ desks.old.items ++ map (λ counted. counted.desk) (reverse opened.items) }
 {

@@ -1,5 +1,5 @@
 use Rattle.std.proofs.Common.{◌≡◌, ◌∙◌, ◌++◌, ◌∷◌, [], ℕ, List, length, drop, reverse, ap, sym, subst, arith}
-use Rattle.std.proofs.lemmas.List.{take_all, length_push}
+use Rattle.std.proofs.lemmas.List.{take_all, length_push, nil_from_length}
 use Rattle.desk_core.specs.View.{View}
 use Rattle.desk_core.specs.Counted.{CountedView}
 use Rattle.manager.specs.Starting.{IsCounted, AreCounted}
@@ -56,3 +56,9 @@ returns-in-Err-new-clause-refused g c =
     let new = c.pop.new.self.items in
     given_back c.args.desks.items c.loop.desks.items new c.push_reserved-in-Err-new.new.self.items c.give_back.new.desks.items c.in-Some.desk c.loop.opened.items
     so.front c.in-Some.ensures.items so.counted (c.push_reserved-in-Err-new.ensures.items ∙ ap (λ (d : View _). new ++ d ∷ []) c.in-Err-new.ensures.refused) c.give_back.ensures
+
+pub returns-clause-room : goal.returns-clause-room
+returns-clause-room g c =
+    let so = c.loop.invariant in
+    let none : length c.loop.desks.items ≡ 0 = omega (arith, so.long, c.loop-test.false, c.loop.auto.counter-end, c.args.desks.ok.0) in
+    (nil_from_length c.loop.desks.items none, so.room)

@@ -1,6 +1,7 @@
 use Rattle.std.proofs.Common.{◌∙◌, length, sym, ap}
 use Rattle.manager.specs.Locked.{LockedValue}
 use Rattle.manager.proofs.Gathering.{followers_long}
+use Rattle.manager.proofs.Over.{over}
 use Rattle.manager.proofs.locked_press.LockedPress.desks.Goals as goal
 
 pub returns-clause-count : goal.returns-clause-count
@@ -14,4 +15,4 @@ returns-clause-followers g c =
     ap (λ (l : LockedValue _ _). length l.seats) (sym c.self.view_is) ∙ followers_long g.O.Outlet g.N.Names.named inside.press inside.followers inside.board inside.outlet c.self.invariant
 
 pub returns-clause-cut : goal.returns-clause-cut
-returns-clause-cut g c = ap (λ (l : LockedValue _ _). length l.press.press.at.cut) (sym c.self.view_is) ∙ c.self.invariant.is.made.one_each
+returns-clause-cut g c = ap (λ (l : LockedValue _ _). length l.press.press.at.cut) (sym c.self.view_is) ∙ (over g.O.Outlet g.N.Names.named _ c.self.invariant).made.one_each

@@ -18,7 +18,9 @@ invariant_of-self g c =
       lists = is.lists;
       run = is.run;
       calls = is.calls;
-      is = locked_exported g.O.Outlet g.N.Names.named c.more_editions_stay_shown.ensures.files is.lists is.run is.calls inside.press inside.followers inside.board inside.outlet c.export_to.new.outlet is.is c.export_to.result
+      editions = is.editions;
+      found = is.found;
+      each = λ editions found. locked_exported g.O.Outlet g.N.Names.named editions c.more_editions_stay_shown.ensures.files is.lists is.run is.calls inside.press inside.followers inside.board inside.outlet c.export_to.new.outlet (is.each editions found) c.export_to.result
           (record { coherent = c.export_to.ensures.coherent; shown = c.export_to.ensures.shown });
     })
 

@@ -3,12 +3,13 @@ use Rattle.notice_board.specs.Seats.{BoardSeat, ViewerSeat}
 use Rattle.notice_board.specs.Lists.{last_serial}
 use Rattle.manager.specs.Locked.{LockedValue, IsLocked}
 use Rattle.manager.proofs.Kept.{lock}
+use Rattle.manager.proofs.Over.{over}
 use Rattle.manager.proofs.Answered.{shown_serial}
 use Rattle.manager.proofs.Rising.{serial_grows}
 use Rattle.manager.proofs.locked_press.LockedPress.tell.Goals as goal
 
 pub tell-requires : goal.tell-requires
-tell-requires g c = c.requires ∙ sym c.self.invariant.is.list
+tell-requires g c = c.requires ∙ sym (over g.O.Outlet g.N.Names.named _ c.self.invariant).list
 
 pub invariant_of-self : goal.invariant_of-self
 invariant_of-self g c =
@@ -24,7 +25,7 @@ returns-clause-same g c =
     ap (λ (b : BoardSeat). lock inside.press inside.followers b inside.outlet) c.tell.ensures.same ∙ c.self.view_is
 
 pub returns-clause-list : goal.returns-clause-list
-returns-clause-list g c = ap (λ (v : ViewerSeat). v.list) c.tell.ensures.whole ∙ (c.self.invariant.is.list ∙ sym c.requires)
+returns-clause-list g c = ap (λ (v : ViewerSeat). v.list) c.tell.ensures.whole ∙ ((over g.O.Outlet g.N.Names.named _ c.self.invariant).list ∙ sym c.requires)
 
 pub returns-clause-whole : goal.returns-clause-whole
 returns-clause-whole g c = ap (λ (v : ViewerSeat). v.seen) c.tell.ensures.whole ∙ ap (λ (l : LockedValue _ _). l.board.shown) c.self.view_is
