@@ -12,6 +12,7 @@ pub mod Seats
 pub mod Learned
 pub mod Readying
 pub mod Pressed
+pub mod Made
 pub mod Refused
 pub mod Placed
 pub mod Knowing

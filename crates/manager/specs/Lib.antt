@@ -6,6 +6,7 @@ pub mod Run
 pub mod Locked
 pub mod Opening
 pub mod Pressing
+pub mod Made
 pub mod Answers
 pub mod Closing
 pub mod Passes

@@ -14,6 +14,7 @@ ghost use Rattle.manager.specs.Answers.{IsBehind, IsUnmadeFor, IsMetBy, IsFaultO
 ghost use Rattle.press_core.specs.PrepareInput.{start_of};
 ghost use Rattle.manager.specs.Locked.{IsLocked};
 ghost use Rattle.manager.specs.Pressing.{exported_as};
+ghost use Rattle.manager.specs.Made.{HasMade, HasMadeNone, MayHaveMade};
 ghost use Rattle.manager.specs.Closing.{IsClosed};
 ghost use Rattle.press_core.specs.Exports.{ended_by};
 ghost use Rattle.press_core.specs.declared.last_export.LastExport.TheVariants.{Done, Failed};
@@ -179,6 +180,7 @@ impl<N: Names, D: Disk, S: Signer, O: Outlet> LockedPress<N, D, S, O> {
         requires { self.old.press.press.at.serial ≢ 0 }
         ensures seats { self.new.seats ≡ self.old.seats }
         ensures board { self.new.board ≡ self.old.board }
+        ensures press { self.new.press ≡ exported_as self.new.press.press.last_export self.old.press }
         ensures told { IfOk result (λ answer. answer ≡ told) }
         ensures exported { OnOk result (self.new.press.press.last_export ≡ Done self.new.press.press.at.serial) }
         ensures refused { IfErr result (IsUnexported told.serial) }
@@ -301,6 +303,8 @@ impl<N: Names, D: Disk, S: Signer + Send, O: Outlet> LockedPress<N, D, S, O> {
         ensures same { OnErr result (self.new.board.shown ≡ self.old.board.shown) }
         ensures nothing { IfErr result (λ unmade. IfSome (nothing_behind unmade) (λ serial. IsShownTo serial self.old.seats self.new.board.shown)) }
         ensures cause { IfErr result (IsUnmadeFor D.Disk (start_of self.old.press.press now gathered.items) self.old.press self.new.press) }
+        ensures made { OnOk result (HasMade (start_of self.old.press.press now gathered.items) self.old.press self.new.press) }
+        ensures held { OnErr result (HasMadeNone self.old.press self.new.press) }
     {
         gathered_commands_go_on();
         vouching_signers_vouch_for_editions();
@@ -341,6 +345,8 @@ impl<N: Names, D: Disk, S: Signer + Send, O: Outlet> LockedPress<N, D, S, O> {
         ensures refused { IfErr result (IsNotPublished self.old.seats viewer.new.seen) }
         ensures cause { IfErr result (IsMetBy D.Disk (start_of self.old.press.press now gathered.items) self.old.press self.new.press) }
         ensures left { IfErr result (IsExportLeft self.new.press.press.last_export self.new.press.press.at.serial) }
+        ensures made { OnOk result (HasMade (start_of self.old.press.press now gathered.items) self.old.press self.new.press) }
+        ensures held { OnErr result (MayHaveMade (start_of self.old.press.press now gathered.items) self.old.press self.new.press) }
     {
         let published = self.press_and_export(rt, alloc, now, gathered);
         self.tell(rt, viewer);
@@ -364,6 +370,8 @@ impl<N: Names, D: Disk, S: Signer + Send, O: Outlet> LockedPress<N, D, S, O> {
         ensures refused { IfErr result (IsNotPublished self.old.seats self.new.board.shown) }
         ensures cause { IfErr result (IsMetBy D.Disk (start_of self.old.press.press now gathered.items) self.old.press self.new.press) }
         ensures left { IfErr result (IsExportLeft self.new.press.press.last_export self.new.press.press.at.serial) }
+        ensures made { OnOk result (HasMade (start_of self.old.press.press now gathered.items) self.old.press self.new.press) }
+        ensures held { OnErr result (MayHaveMade (start_of self.old.press.press now gathered.items) self.old.press self.new.press) }
     {
         let told = match self.press(rt, alloc, now, gathered) {
             Ok(told) => told,

@@ -3,9 +3,11 @@ use Rattle.std.specs.Prelude.{IfSome}
 use Rattle.commit_word.specs.Seats.{FollowerSeat}
 use Rattle.notice_board.specs.Seats.{BoardSeat}
 use Rattle.notice_board.specs.declared.shown.ShownEdition.{ShownEdition}
+use Rattle.press_core.specs.Press.{PressValue}
 use Rattle.press_core.specs.PrepareInput.{start_of}
 use Rattle.press_core.specs.StoredAnswers.{IsPrepareFault, rose_of}
 use Rattle.manager.specs.Locked.{LockedValue}
+use Rattle.manager.specs.Made.{HasMade, HasMadeNone}
 use Rattle.manager.specs.Answers.{IsAnswered, IsShownTo, IsBehind, nothing_behind, IsFailedBy}
 use Rattle.manager.specs.declared.publish_fault.Unmade.TheVariants.{Unprepared}
 use Rattle.manager.proofs.Answered.{shown_serial, asks_gathered, asks_accepted, asks_live, asks_names, answered, refused_shown}
@@ -75,6 +77,9 @@ returns-in-Err-clause-cause g c =
     let since : Since g.N.Names.named inside.press inside.followers groups = since_inside g.N.Names.named groups _ _ c.self.view_is c.requires in
     subst (λ (l : LockedValue _ _). IsPrepareFault (start_of l.press.press c.args.now groups) c.make_ready.new.press.press.ring l.press.journal c.in-Err.fault) c.self.view_is c.in-Err.ensures.refused.cause
 
+pub returns-in-Err-clause-held : goal.returns-in-Err-clause-held
+returns-in-Err-clause-held g c = subst (λ (l : LockedValue _ _). HasMadeNone l.press c.make_ready.new.press) c.self.view_is c.in-Err.ensures.refused.held
+
 -- ---- the disk failed
 
 pub invariant_of-self-in-Err-commit_shown : goal.invariant_of-self-in-Err-commit_shown
@@ -100,6 +105,11 @@ returns-in-Err-commit_shown-clause-cause g c =
     let since : Since g.N.Names.named inside.press inside.followers groups = since_inside g.N.Names.named groups _ _ c.self.view_is c.requires in
     subst (λ (l : LockedValue _ _). IsFailedBy g.D.Disk (rose_of c.in-Err-commit_shown.fault) l.press.journal c.commit_shown.new.press.journal) c.self.view_is
     (doubted_for g.O.Outlet g.N.Names.named inside.press inside.followers inside.board inside.outlet c.self.invariant c.args.now groups c.vouching_signers_vouch_for_editions.ensures since c.make_ready.new.press c.make_ready.new.board c.in-Ok.prepared c.in-Ok.ensures.ready c.in-Ok.ensures.board g.D.Disk (rose_of c.in-Err-commit_shown.fault) c.commit_shown.new.press c.in-Err-commit_shown.ensures.refused)
+
+pub returns-in-Err-commit_shown-clause-held : goal.returns-in-Err-commit_shown-clause-held
+returns-in-Err-commit_shown-clause-held g c =
+    subst (λ (l : LockedValue _ _). HasMadeNone l.press c.commit_shown.new.press) c.self.view_is
+    (subst (λ (p : PressValue). HasMadeNone c.self.inside.press (record { press = p; journal = c.commit_shown.new.press.journal })) (sym c.in-Err-commit_shown.ensures.refused.press) c.in-Ok.ensures.ready.held)
 
 -- ---- one was made
 
@@ -135,3 +145,15 @@ returns-clause-answered g c =
     (answered g.O.Outlet g.N.Names.named inside.press inside.followers inside.board inside.outlet c.self.invariant c.args.now groups since c.make_ready.new.press.press.ring c.in-Ok.prepared.edition c.in-Ok-commit_shown.told c.commit_shown.new.board.shown
     c.in-Ok.ensures.ready.edition c.in-Ok-commit_shown.ensures.committed.told_is
     (pressed_shown g.O.Outlet g.N.Names.named inside.press inside.followers inside.board inside.outlet c.self.invariant c.args.now groups c.vouching_signers_vouch_for_editions.ensures since c.make_ready.new.press c.make_ready.new.board c.in-Ok.prepared c.in-Ok.ensures.ready c.in-Ok.ensures.board c.commit_shown.new.board c.in-Ok-commit_shown.ensures.shown))
+
+pub returns-clause-made : goal.returns-clause-made
+returns-clause-made g c =
+    subst (λ (l : LockedValue _ _). HasMade (start_of l.press.press c.args.now c.args.gathered.items) l.press c.commit_shown.new.press) c.self.view_is (record {
+      made = c.make_ready.new.press.press.ring;
+      prepared = c.in-Ok.prepared.edition;
+      edition = c.in-Ok.ensures.ready.edition;
+      held = c.in-Ok.ensures.ready.held;
+      stands = c.in-Ok-commit_shown.ensures.committed.at;
+      dropped = c.in-Ok-commit_shown.ensures.committed.dropped;
+      ended = c.in-Ok-commit_shown.ensures.committed.ended;
+    })

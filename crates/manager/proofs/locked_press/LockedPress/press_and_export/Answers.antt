@@ -1,4 +1,4 @@
-use Rattle.std.proofs.Common.{ℕ, List, sym, ap, subst}
+use Rattle.std.proofs.Common.{ℕ, List, sym, ap, subst, inl, inr}
 use Rattle.std.specs.Prelude.{IfSome}
 use Rattle.std.proofs.lemmas.Result.{IfOk-weaker, IfErr-weaker}
 use Rattle.commit_word.specs.Seats.{FollowerSeat}
@@ -7,6 +7,8 @@ use Rattle.editions.specs.declared.published_state.PublishedNumbers.{PublishedNu
 use Rattle.press_core.specs.PrepareInput.{start_of}
 use Rattle.press_core.specs.Stored.{StoredValue}
 use Rattle.manager.specs.Answers.{IsShownTo, IsAnswered, IsBehind, IsNotPublished, IsExportLeft, nothing_behind}
+use Rattle.manager.specs.Made.{HasMade, MayHaveMade}
+use Rattle.manager.proofs.Made.{made_exported, none_exported, on_ok_so, on_err_so}
 use Rattle.manager.proofs.Refused.{unexported_is, unexported_met, left_failed, met_of}
 use Rattle.manager.proofs.locked_press.LockedPress.press_and_export.Goals as goal
 
@@ -29,6 +31,10 @@ returns-in-Err-clause-cause g c =
 pub returns-in-Err-clause-left : goal.returns-in-Err-clause-left
 returns-in-Err-clause-left g c =
     subst (λ (n : ℕ). IsExportLeft c.refuse.new.self.press.press.last_export n c.refuse.result) (sym (ap (λ (s : StoredValue _). s.press.at.serial) c.refuse.ensures.press)) c.refuse.ensures.left
+
+pub returns-in-Err-clause-held : goal.returns-in-Err-clause-held
+returns-in-Err-clause-held g c =
+    inr (none_exported (start_of c.args.self.now.press.press c.args.now c.args.gathered.items) c.args.self.now.press c.press.new.self.press c.refuse.new.self.press c.refuse.new.self.press.press.last_export c.refuse.ensures.press c.in-Err.ensures.held)
 
 -- ---- one was made
 
@@ -60,3 +66,13 @@ returns-clause-behind g c =
 
 pub returns-clause-left : goal.returns-clause-left
 returns-clause-left g c = left_failed c.export_made.result c.export_made.new.self.press.press.last_export c.export_made.new.self.press.press.at.serial c.in-Ok.told.serial c.export_made.ensures.refused c.export_made.ensures.failed
+
+pub returns-clause-made : goal.returns-clause-made
+returns-clause-made g c =
+    on_ok_so c.export_made.result (HasMade (start_of c.args.self.now.press.press c.args.now c.args.gathered.items) c.args.self.now.press c.export_made.new.self.press)
+    (made_exported (start_of c.args.self.now.press.press c.args.now c.args.gathered.items) c.args.self.now.press c.press.new.self.press c.export_made.new.self.press c.export_made.new.self.press.press.last_export c.export_made.ensures.press c.in-Ok.ensures.made)
+
+pub returns-clause-held : goal.returns-clause-held
+returns-clause-held g c =
+    on_err_so c.export_made.result (MayHaveMade (start_of c.args.self.now.press.press c.args.now c.args.gathered.items) c.args.self.now.press c.export_made.new.self.press)
+    (inl (made_exported (start_of c.args.self.now.press.press c.args.now c.args.gathered.items) c.args.self.now.press c.press.new.self.press c.export_made.new.self.press c.export_made.new.self.press.press.last_export c.export_made.ensures.press c.in-Ok.ensures.made))

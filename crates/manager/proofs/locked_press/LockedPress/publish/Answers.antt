@@ -1,9 +1,10 @@
 use Rattle.std.proofs.Common.{◌≡◌, ◌∙◌, List, sym, ap, subst}
-use Rattle.std.specs.Prelude.{IfOk, IfErr, OnOk}
+use Rattle.std.specs.Prelude.{IfOk, IfErr, OnOk, OnErr}
 use Rattle.notice_board.specs.declared.shown.ShownEdition.{ShownEdition}
 use Rattle.press_core.specs.PrepareInput.{start_of}
 use Rattle.press_core.specs.declared.last_export.LastExport.TheVariants.{Done}
 use Rattle.manager.specs.Locked.{LockedValue}
+use Rattle.manager.specs.Made.{HasMade, MayHaveMade}
 use Rattle.manager.specs.Answers.{IsAnswered, IsNotPublished, IsMetBy, IsExportLeft}
 use Rattle.manager.proofs.locked_press.LockedPress.publish.Goals as goal
 
@@ -33,3 +34,13 @@ returns-clause-cause g c =
 pub returns-clause-left : goal.returns-clause-left
 returns-clause-left g c =
     subst (λ (l : LockedValue _ _). IfErr c.press_and_export-published.result (IsExportLeft l.press.press.last_export l.press.press.at.serial)) (sym c.tell.ensures.same) c.press_and_export-published.ensures.left
+
+pub returns-clause-made : goal.returns-clause-made
+returns-clause-made g c =
+    subst (λ (l : LockedValue _ _). OnOk c.press_and_export-published.result (HasMade (start_of c.args.self.now.press.press c.args.now c.args.gathered.items) c.args.self.now.press l.press))
+    (sym c.tell.ensures.same) c.press_and_export-published.ensures.made
+
+pub returns-clause-held : goal.returns-clause-held
+returns-clause-held g c =
+    subst (λ (l : LockedValue _ _). OnErr c.press_and_export-published.result (MayHaveMade (start_of c.args.self.now.press.press c.args.now c.args.gathered.items) c.args.self.now.press l.press))
+    (sym c.tell.ensures.same) c.press_and_export-published.ensures.held
