@@ -13,7 +13,7 @@ ghost use Rattle.manager.specs.Passes.{Knows, ComesTo, KnowsMore, unmade, IsSpli
 ghost use Rattle.manager.specs.Commanding.{IsTaken, IsRefusedAt};
 
 use crate::passes_seats::DeskSeat;
-use crate::{LockedDesk, LockedPress, Names, PublishFault, Words};
+use crate::{LockedDesk, LockedPress, MOST_SESSIONS, Names, PublishFault, Words};
 use authority_book::Command;
 use commit_word::Word;
 use desk_core::DeskFault;
@@ -202,7 +202,8 @@ impl<N: Names> Pass<N> {
         self.seats[place].commit(alloc, word, desk, command, signers)
     }
 
-    /// A pass that has seen no less and made nothing. It takes one of the places, and has none itself.
+    /// A pass that has seen no less and made nothing. It takes one of the places, and has none itself, but room for
+    /// as many as there are.
     pub fn split(&mut self, alloc: Global, words: &Words<N>) -> Result<Pass<N>, AllocError>
         requires place { 0 < self.old.places }
         requires words { words.now ≡ most_authorities }
@@ -211,6 +212,7 @@ impl<N: Names> Pass<N> {
         ensures same { OnErr result (self.new ≡ self.old) }
     {
         let mut seats = Vec::with_capacity(alloc, self.seats.len())?;
+        let room = Vec::with_capacity(alloc, MOST_SESSIONS)?;
         let Pass {
             seats: own,
             viewer,
@@ -222,7 +224,7 @@ impl<N: Names> Pass<N> {
         Ok(Pass {
             seats,
             viewer: next,
-            spare: Vec::new(alloc),
+            spare: room,
             of: PhantomData,
         })
     }
@@ -230,7 +232,8 @@ impl<N: Names> Pass<N> {
     /// Takes in another pass: what either has seen is seen, what both made is this one's, and the places of both
     /// are left, with the one that the other had itself.
     ///
-    /// It waits only for memory, and only where the room for those places wasn't taken when this pass was made.
+    /// It would wait for memory where both had more places than the first pass, which never comes: the room for as many
+    /// was taken when this pass was made.
     pub fn join<R: Wait>(&mut self, rt: &R, words: &Words<N>, other: Pass<N>)
         requires { words.now ≡ most_authorities }
         ensures { IsJoined self.old other self.new }

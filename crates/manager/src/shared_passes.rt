@@ -44,7 +44,8 @@ impl<N: Names, D: Disk, S: Signer, O: Outlet> Manager<N, D, S, O> {
 
     /// Takes in the passes of all sessions.
     ///
-    /// It waits only for memory, and only where the room for their places wasn't taken when this pass was made.
+    /// It would wait for memory where they had more places than the first pass, which never comes: the room for as many
+    /// was taken when the pass was made.
     pub fn join_passes<R: Wait>(&self, rt: &R, pass: &mut Pass<N>, others: Vec<Pass<N>>)
         ensures { IsOfAll (pass.old ∷ others.items) pass.new }
     {

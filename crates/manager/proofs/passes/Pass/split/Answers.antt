@@ -38,7 +38,7 @@ pub returns-clause-given : goal.returns-clause-given
 returns-clause-given g c = record {
   seats = c.split_seats.ensures.given ∙ ap (λ (p : PassValue). map unmade p.seats) c.self.view_is;
   shown = subst (λ (p : PassValue). IsPrefix p.shown c.in_ok-next.next.seen) c.self.view_is c.in_ok-next.ensures.next.1;
-  places = ap length c.new.ensures.items;
+  places = ap length c.in_ok-room.ensures.items;
 }
 
 pub invariant_of-result : goal.invariant_of-result
@@ -47,5 +47,5 @@ invariant_of-result g c = (
   subst (λ (l : List FollowerSeat). AreSeatsOf g.N.Names.words g.N.Names.named l) (sym c.split_seats.ensures.given)
       (split_seats_of g.N.Names.words g.N.Names.named c.self.inside.seats.items c.self.invariant.1),
   c.in_ok-next.ensures.next.0 ∙ c.self.invariant.2,
-  subst (λ (l : List ViewerSeat). All (λ viewer. viewer.list ≡ g.N.Names.named.list) l) (sym c.new.ensures.items) (All-nil (λ (viewer : ViewerSeat). viewer.list ≡ g.N.Names.named.list)),
+  subst (λ (l : List ViewerSeat). All (λ viewer. viewer.list ≡ g.N.Names.named.list) l) (sym c.in_ok-room.ensures.items) (All-nil (λ (viewer : ViewerSeat). viewer.list ≡ g.N.Names.named.list)),
 )
