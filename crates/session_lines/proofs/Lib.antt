@@ -1,0 +1,6 @@
+pub mod Answering
+pub mod Mapping
+pub mod Seating
+pub mod Sessions
+pub mod Owning
+pub mod Attending
