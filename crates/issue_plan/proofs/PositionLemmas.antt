@@ -210,7 +210,7 @@ none-there (row ∷ rows) uri none =
     ap (λ b. cond b (Some 0) (option_map suc (position_in rows uri))) (none 0 row (omega arith))
     ∙ ap (option_map suc) (none-there rows uri (λ k d inside. none (suc k) d (omega (arith, inside))))
 
-first-there : (rows : List IssuedRow) (uri : List ℕ) (i : ℕ) (d : IssuedRow)
+pub first-there : (rows : List IssuedRow) (uri : List ℕ) (i : ℕ) (d : IssuedRow)
     → i < length rows → is_same (get_or rows i d).uri uri ≡ true
     → ((k : ℕ) (d : IssuedRow) → k < i → is_same (get_or rows k d).uri uri ≡ false)
     → position_in rows uri ≡ Some i

@@ -3,5 +3,6 @@ pub mod Anew
 pub mod Beside
 pub mod Changed
 pub mod Live
+pub mod OwedPlaces
 pub mod Positions
 pub mod Works

@@ -142,8 +142,8 @@ fn roa_place(
     Ok(Some(place))
 }
 
-// The position of what fits the ROA.
-fn kept_roa(
+/// The position of what fits the ROA.
+pub fn kept_roa(
     alloc: Global,
     standing: &Standing<'_>,
     settled: &[LiveKey],
@@ -162,31 +162,6 @@ fn kept_roa(
         Some(row) if serves_roa(standing.moment, roa, row) => Ok(Some(position)),
         _ => Ok(None),
     }
-}
-
-/// The ROAs that nothing fits. The positions of what fits the others go behind `kept`. `settled` has
-/// the keys that are settled.
-pub fn roas_anew(
-    alloc: Global,
-    standing: &Standing<'_>,
-    settled: &[LiveKey],
-    roas: &[RoaWork],
-    kept: &mut Vec<usize>,
-) -> Result<Vec<RoaWork>, AllocError>
-    requires { Rise (λ row. row.uri) standing.now.issued.now }
-    ensures anew { IfOk result (λ anew. anew.items
-        ≡ filter (λ roa. is_none (spec.kept_roa standing.now settled.now roa)) roas.now) }
-    ensures kept { OnOk result (kept.new.items
-        ≡ kept.old.items ++ filter_map (spec.kept_roa standing.now settled.now) roas.now) }
-{
-    let mut anew = Vec::new(alloc);
-    for roa in roas {
-        match kept_roa(alloc, standing, settled, roa)? {
-            Some(position) => kept.push(position)?,
-            None => anew.push(*roa)?,
-        }
-    }
-    Ok(anew)
 }
 
 // ---- points

@@ -8,21 +8,24 @@ ghost use Rattle.pub_set.specs.Objects.{Rise};
 ghost use Rattle.issue_plan.specs.Keys as keys_spec;
 ghost use Rattle.issue_plan.specs.Work as spec;
 ghost use Rattle.issue_plan.specs.Work.{IsPlan};
-ghost use Rattle.issue_plan.specs.Wanted.{PlanInput};
+ghost use Rattle.issue_plan.specs.Wanted.{PlanInput, wanted_roas};
+ghost use Rattle.issue_plan.specs.inner.OwedPlaces.{owed_positions};
 ghost use Rattle.issue_plan.specs.Fits.{all_certificates, all_roas};
 ghost use Rattle.issue_plan.specs.inner.Anew.{IsOver};
 ghost use Rattle.issue_plan.specs.inner.Works.{IsAnew};
 
-use crate::anew::{Standing, certificates_anew, points_anew, roas_anew};
+use crate::anew::{Standing, certificates_anew, points_anew};
 use crate::beside::beside_roas;
 use crate::changed::changed_keys;
 use crate::keys::{NextKey, id_of, is_live, next_keys};
 use crate::live::{LiveKey, live_keys};
 use crate::lookups::set_at;
+use crate::owed_places::owed_positions;
 use crate::requests::revoked;
+use crate::roas::roas_anew;
 use crate::settled::settled_keys;
-use crate::uris::{wanted_uris, withdrawn};
-use crate::wanted::{certificates, points, roas};
+use crate::uris::{key_places, withdrawn};
+use crate::wanted::{certificates, points};
 use authority_book::Config;
 use entitle::{Owed, Tree, names_of};
 use items::Items;
@@ -117,24 +120,27 @@ struct Unfit {
     points: Vec<PointWork>,
 }
 
-// Of what is wanted, that which nothing fits.
+// Of what is wanted, that which nothing fits. `found` has for each owed origin the position of what stands at its place.
 fn anew(
     alloc: Global,
     standing: &Standing<'_>,
     certs: Vec<CertWork>,
-    roas: &[RoaWork],
+    keys: &[NextKey],
+    owed: &[Owed],
+    found: &[Option<usize>],
     points: &[PointWork],
 ) -> Result<Unfit, AllocError>
-    requires { Rise (λ row. row.uri) standing.now.issued.now }
+    requires rising { Rise (λ row. row.uri) standing.now.issued.now }
+    requires found { found.now ≡ owed_positions standing.now owed.now }
     ensures { IfOk result (λ anew. (plan_input : PlanInput) → IsOver plan_input standing.now
-        → certs.items ≡ all_certificates plan_input → roas.now ≡ all_roas plan_input
+        → certs.items ≡ all_certificates plan_input → wanted_roas keys.now owed.now ≡ all_roas plan_input
         → IsAnew plan_input points.now anew) }
 {
     let mut kept = Vec::new(alloc);
     let settled = settled_keys(alloc, standing, &certs)?;
     let settled: &[LiveKey] = &settled;
     let certs = certificates_anew(alloc, standing, settled, certs, &mut kept)?;
-    let roas = roas_anew(alloc, standing, settled, roas, &mut kept)?;
+    let roas = roas_anew(alloc, standing, settled, keys, owed, found, &mut kept)?;
     let changed = changed_keys(alloc, standing.issued, &kept, &certs, &roas)?;
     let points = points_anew(alloc, standing, settled, &changed, points)?;
     Ok(Unfit {
@@ -186,14 +192,17 @@ pub fn plan(
         moment,
     };
     let certs = certificates(alloc, rows, configs, tree, &keys)?;
+    let found = owed_positions(alloc, &standing, owed)?;
     let anew = anew(
         alloc,
         &standing,
         certs,
-        &roas(alloc, &keys, owed)?,
+        &keys,
+        owed,
+        &found,
         &points(alloc, &keys)?,
     )?;
-    let wanted = wanted_uris(alloc, site, names, configs, &keys, owed)?;
+    let wanted = key_places(alloc, site, names, configs, &keys)?;
     Ok(Work {
         moment,
         new_keys: Items::new(new_keys(alloc, &keys)?),
@@ -201,7 +210,7 @@ pub fn plan(
         certs: Items::new(anew.certs),
         roas: Items::new(anew.roas),
         points: Items::new(anew.points),
-        withdrawn: Items::new(withdrawn(alloc, &wanted, standing.issued)?),
+        withdrawn: Items::new(withdrawn(alloc, &wanted, &found, standing.issued)?),
         dropped: Items::new(dropped(alloc, &keys, rows, tree)?),
     })
 }

@@ -1,17 +1,17 @@
 //! Where what is wanted stands, and what stands elsewhere (RFC 6481 section 2).
 
-ghost use Rattle.std.specs.Prelude.{◌≡◌, ◌++◌, IfOk, OnOk, slice_get};
-ghost use Rattle.std.specs.List.{flat_map};
+ghost use Rattle.std.specs.Prelude.{◌≡◌, ◌++◌, ℕ, List, IfOk, OnOk, slice_get};
+ghost use Rattle.std.specs.List.{flat_map, filter_map};
 ghost use Rattle.pub_set.specs.Objects.{Rise};
 ghost use Rattle.entitle.specs.Certified.{settings_of, names_of};
 ghost use Rattle.issue_plan.specs.Uris as spec;
-ghost use Rattle.issue_plan.specs.Uris.{key_uris, owed_uris, wanted_uris};
+ghost use Rattle.issue_plan.specs.Uris.{key_uris};
+ghost use Rattle.issue_plan.specs.inner.Positions.{position_in};
 
 use crate::keys::NextKey;
 use crate::lookups::{name_at, parent_at};
 use crate::positions::{marks, positions_of, unmarked_uris};
 use authority_book::{Config, NameRow};
-use entitle::Owed;
 use key_ids::Site;
 use key_roll::{IssuedRow, KeyName};
 use pub_set::Uri;
@@ -78,25 +78,6 @@ fn push_key_uris(
     push_point_uris(alloc, uris, site, names, key)
 }
 
-// Puts the place of an owed origin's ROA behind the others.
-fn push_roa_uri(
-    alloc: Global,
-    uris: &mut Vec<Uri>,
-    site: &Site,
-    names: &[NameRow],
-    owed: &Owed,
-) -> Result<(), AllocError>
-    ensures { OnOk result (uris.new.items
-        ≡ uris.old.items ++ spec.roa_uris site.now owed.now.origin (slice_get names.now owed.now.desk)) }
-{
-    if let Some(row) = name_at(names, owed.desk) {
-        let file = owed.origin.file_name(alloc)?;
-        let uri = site.file_uri(alloc, row.name.as_str(), file.as_str())?;
-        uris.push(Uri::new(uri))?;
-    }
-    Ok(())
-}
-
 fn push_all_key_uris(
     alloc: Global,
     uris: &mut Vec<Uri>,
@@ -115,53 +96,50 @@ fn push_all_key_uris(
     Ok(())
 }
 
-fn push_all_roa_uris(
-    alloc: Global,
-    uris: &mut Vec<Uri>,
-    site: &Site,
-    names: &[NameRow],
-    configs: &[Config],
-    owed: &[Owed],
-) -> Result<(), AllocError>
-    requires { names.now ≡ names_of (settings_of configs.now) }
-    ensures { OnOk result (uris.new.items
-        ≡ uris.old.items ++ flat_map (owed_uris site.now (settings_of configs.now)) owed.now) }
-{
-    for each in owed {
-        push_roa_uri(alloc, uris, site, names, each)?;
-    }
-    Ok(())
-}
-
-/// All places that are wanted and known.
-pub fn wanted_uris(
+/// The places of keys' certificates and points that are wanted and known.
+pub fn key_places(
     alloc: Global,
     site: &Site,
     names: &[NameRow],
     configs: &[Config],
     keys: &[NextKey],
-    owed: &[Owed],
 ) -> Result<Vec<Uri>, AllocError>
     requires { names.now ≡ names_of (settings_of configs.now) }
     ensures { IfOk result (λ uris. uris.items
-        ≡ wanted_uris site.now (settings_of configs.now) keys.now owed.now) }
+        ≡ flat_map (key_uris site.now (settings_of configs.now)) keys.now) }
 {
     let mut uris = Vec::new(alloc);
     push_all_key_uris(alloc, &mut uris, site, names, configs, keys)?;
-    push_all_roa_uris(alloc, &mut uris, site, names, configs, owed)?;
     Ok(uris)
 }
 
-/// The places of what stands and isn't wanted.
+// Puts the positions that there are behind the others.
+fn push_found(positions: &mut Vec<usize>, found: &[Option<usize>]) -> Result<(), AllocError>
+    ensures { OnOk result (positions.new.items ≡ positions.old.items ++ filter_map (λ p. p) found.now) }
+{
+    for position in found {
+        if let Some(position) = position {
+            positions.push(*position)?;
+        }
+    }
+    Ok(())
+}
+
+/// The places of what stands and isn't wanted, where these places are wanted, and others of which it was found at
+/// which positions something stands there.
 pub fn withdrawn(
     alloc: Global,
     wanted: &[Uri],
+    found: &[Option<usize>],
     issued: &[IssuedRow],
 ) -> Result<Vec<Uri>, AllocError>
     requires { Rise (λ row. row.uri) issued.now }
-    ensures { IfOk result (λ withdrawn. withdrawn.items ≡ spec.withdrawn wanted.now issued.now) }
+    ensures { IfOk result (λ withdrawn. (others : List (List ℕ))
+        → filter_map (λ p. p) found.now ≡ filter_map (position_in issued.now) others
+        → withdrawn.items ≡ spec.withdrawn (wanted.now ++ others) issued.now) }
 {
-    let positions = positions_of(alloc, issued, wanted)?;
+    let mut positions = positions_of(alloc, issued, wanted)?;
+    push_found(&mut positions, found)?;
     let marks = marks(alloc, issued.len(), &positions)?;
     let uris = unmarked_uris(alloc, issued, &marks)?;
     Ok(uris)

@@ -2,21 +2,20 @@
 //! RFC 9286).
 
 ghost use Rattle.std.specs.Prelude.{◌≡◌, IfOk};
-ghost use Rattle.std.specs.List.{filter_map};
 ghost use Rattle.entitle.specs.Certified.{settings_of, names_of};
 ghost use Rattle.issue_plan.specs.Wanted as spec;
-ghost use Rattle.issue_plan.specs.Wanted.{wanted_certificates, wanted_roas, wanted_points};
+ghost use Rattle.issue_plan.specs.Wanted.{wanted_certificates, wanted_points};
 
 use crate::keys::NextKey;
 use crate::lookups::{parent_at, set_at};
 use crate::requests::certified_for;
 use authority_book::Config;
-use entitle::{Owed, Tree};
-use key_roll::{CertWork, KeyName, KeyRow, PointWork, RoaWork, Role, is_role};
+use entitle::Tree;
+use key_roll::{CertWork, KeyName, KeyRow, PointWork, Role, is_role};
 use std::alloc::{AllocError, Global};
 
-// The current key of a desk.
-fn current_of(keys: &[NextKey], desk: usize) -> Option<KeyName>
+/// The current key of a desk.
+pub fn current_of(keys: &[NextKey], desk: usize) -> Option<KeyName>
     ensures { result ≡ spec.current_of keys.now desk }
 {
     let key = keys.iter().find(|key| key.desk as usize == desk
@@ -86,29 +85,6 @@ pub fn certificates(
         }
     }
     Ok(certificates)
-}
-
-fn roa_of(keys: &[NextKey], owed: &Owed) -> Option<RoaWork>
-    ensures { result ≡ spec.roa_of keys.now owed.now }
-{
-    let issuer = current_of(keys, owed.desk as usize)?;
-    Some(RoaWork {
-        issuer,
-        origin: owed.origin,
-    })
-}
-
-/// A ROA for each owed origin (RFC 9582 section 4).
-pub fn roas(alloc: Global, keys: &[NextKey], owed: &[Owed]) -> Result<Vec<RoaWork>, AllocError>
-    ensures { IfOk result (λ roas. roas.items ≡ wanted_roas keys.now owed.now) }
-{
-    let mut roas = Vec::new(alloc);
-    for each in owed {
-        if let Some(roa) = roa_of(keys, each) {
-            roas.push(roa)?;
-        }
-    }
-    Ok(roas)
 }
 
 fn point_of(key: &NextKey) -> PointWork

@@ -1,11 +1,20 @@
-use Rattle.std.proofs.Common.{Bool, List, length, refl, sym, subst, ◌∙◌}
-use Rattle.issue_plan.specs.inner.Positions.{AreMarks}
+use Rattle.std.proofs.Common.{◌≡◌, ℕ, Bool, List, ◌++◌, length, refl, sym, ap, subst, ◌∙◌}
+use Rattle.std.specs.List.{filter_map}
+use Rattle.std.proofs.lemmas.List.Elements.{filter_map-append}
+use Rattle.issue_plan.specs.inner.Positions.{AreMarks, position_in}
 use Rattle.issue_plan.proofs.PositionLemmas.{withdrawn-are}
 use Rattle.issue_plan.proofs.uris.withdrawn.Goals as goal
 
 pub returns : goal.returns
-returns c =
-    withdrawn-are c.args.issued.now c.args.wanted.now (length c.args.issued.now) c.deref.result.now c.deref-2.result.now c.in_ok-uris.uris.items
-    c.requires refl (c.deref.ensures.value ∙ c.in_ok-positions.ensures)
-    (subst (λ (l : List Bool). AreMarks (length c.args.issued.now) c.deref.result.now l) (sym c.deref-2.ensures.value) c.in_ok-marks.ensures)
+returns c = λ others same.
+    let issued = c.args.issued.now in
+    let wanted = c.args.wanted.now in
+    let all : c.push_found.new.positions.items ≡ filter_map (position_in issued) (wanted ++ others) =
+    c.in_ok-push_found.ensures
+    ∙ (ap (λ (l : List ℕ). l ++ filter_map (λ p. p) c.args.found.now) c.in_ok-positions.ensures
+    ∙ (ap (λ (l : List ℕ). filter_map (position_in issued) wanted ++ l) same
+    ∙ sym (filter_map-append (position_in issued) wanted others))) in
+    withdrawn-are issued (wanted ++ others) (length issued) c.deref.result.now c.deref-2.result.now c.in_ok-uris.uris.items
+    c.requires refl (c.deref.ensures.value ∙ all)
+    (subst (λ (l : List Bool). AreMarks (length issued) c.deref.result.now l) (sym c.deref-2.ensures.value) c.in_ok-marks.ensures)
     c.in_ok-uris.ensures

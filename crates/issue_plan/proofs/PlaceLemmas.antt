@@ -1,0 +1,113 @@
+-- Where the ROAs of owed origins stand.
+use Rattle.std.proofs.Common.{◌≡◌, ℕ, ◌<◌, ◌⊎◌, inl, inr, Option, None, Some, List, [], ◌∷◌, ◌++◌, length, get_or, set, replicate, refl, sym, ap, ◌∙◌, arith}
+use Rattle.std.specs.Prelude.{slice_get, option_map, option_and_then}
+use Rattle.std.specs.Ordering.{on}
+use Rattle.std.proofs.lemmas.Map.Keys.{Less-from_sorted}
+use Rattle.std.specs.List.{filter_map, flat_map, cons_option}
+use Rattle.std.proofs.lemmas.List.{get_or_default, get_or-set_same, get_or-set_other, length-set, get_or-replicate, length-replicate}
+use Rattle.std.proofs.lemmas.List.Elements.{filter_map-append}
+use Rattle.std.proofs.lemmas.Bool.{cases_eq}
+use Rattle.authority_book.specs.declared.rows.NameRow.{NameRow}
+use Rattle.authority_book.specs.Settings.{Settings}
+use Rattle.entitle.specs.declared.trees.Owed.{Owed}
+use Rattle.entitle.specs.Certified.{names_of}
+use Rattle.key_ids.specs.Uris.{folder_of, file_uri}
+use Rattle.pub_set.specs.Objects.{Rise, uri_cmp}
+use Rattle.pub_set.specs.laws.UriLaws.{same_self, other_below}
+use Rattle.key_roll.specs.declared.issued.IssuedRow.{IssuedRow}
+use Rattle.issue_plan.specs.declared.anew.Standing.{Standing}
+use Rattle.issue_plan.specs.Uris.{owed_uris, roa_uris, roa_file}
+use Rattle.issue_plan.specs.inner.Positions.{position_in}
+use Rattle.issue_plan.proofs.PositionLemmas.{first-there}
+use Rattle.issue_plan.specs.inner.OwedPlaces.{folder_at, owed_place, owed_position, owed_positions, IsNoted, AreNoted}
+
+-- Nothing is noted yet.
+pub none-noted : (s : Standing) (owed : List Owed) (noted : List (Option ℕ))
+    → noted ≡ replicate (length owed) None → AreNoted s owed noted
+none-noted s owed noted all = record {
+  long = ap length all ∙ length-replicate (length owed) None;
+  each = λ i d inside position is.
+      let here : get_or noted i None ≡ None =
+      ap (λ (l : List (Option ℕ)). get_or l i None) all ∙ get_or-replicate (length owed) i None None inside in
+      let no : None ≡ Some position = sym here ∙ is in absurd cc;
+}
+
+-- One more is noted.
+pub one-noted : (s : Standing) (owed : List Owed) (noted : List (Option ℕ)) (index position : ℕ)
+    → index < length owed → ((d : Owed) → owed_position s (get_or owed index d) ≡ Some position)
+    → AreNoted s owed noted → AreNoted s owed (set noted index (Some position))
+one-noted s owed noted index position inside stands are = record {
+  long = length-set noted index (Some position) ∙ are.long;
+  each = λ i d within at is. by i d within at is (cases_eq i index);
+}
+  where
+    by : (i : ℕ) (d : Owed) → i < length owed → (at : ℕ)
+        → get_or (set noted index (Some position)) i None ≡ Some at
+        → (i ≡ index) ⊎ (i ≡ index → ⊥) → owed_position s (get_or owed i d) ≡ Some at
+    by i d within at is (inl same) =
+        let here : get_or (set noted index (Some position)) i None ≡ Some position =
+        ap (λ k. get_or (set noted index (Some position)) k None) same
+        ∙ get_or-set_same noted index (Some position) None (omega (arith, inside, are.long)) in
+        ap (λ k. owed_position s (get_or owed k d)) same ∙ (stands d ∙ (sym here ∙ is))
+    by i d within at is (inr other) =
+        are.each i d within at (sym (get_or-set_other noted index i (Some position) None other) ∙ is)
+
+-- What is found of owed origins is found of their places.
+of-place : (s : Standing) (names : List NameRow) (owed : Owed) (name : Option NameRow) (rest : List ℕ)
+    → cons_option (option_and_then (position_in s.issued.now)
+    (option_map (λ (row : NameRow). file_uri s.site.now row.name (roa_file owed.origin)) name)) rest
+    ≡ filter_map (position_in s.issued.now) (roa_uris s.site.now owed.origin name) ++ rest
+of-place s names owed None rest = refl
+of-place s names owed (Some row) rest =
+    found (position_in s.issued.now (file_uri s.site.now row.name (roa_file owed.origin)))
+  where
+    found : (position : Option ℕ) → cons_option position rest ≡ cons_option position [] ++ rest
+    found None = refl
+    found (Some n) = refl
+
+pub found-places : (s : Standing) (configs : List Settings) → s.names.now ≡ names_of configs → (owed : List Owed)
+    → filter_map (λ p. p) (owed_positions s owed)
+    ≡ filter_map (position_in s.issued.now) (flat_map (owed_uris s.site.now configs) owed)
+found-places s configs are [] = refl
+found-places s configs are (each ∷ owed) =
+    ap (cons_option (owed_position s each)) (found-places s configs are owed)
+    ∙ (of-place s s.names.now each (slice_get s.names.now each.desk)
+    (filter_map (position_in s.issued.now) (flat_map (owed_uris s.site.now configs) owed))
+    ∙ (ap (λ (names : List NameRow). filter_map (position_in s.issued.now)
+    (roa_uris s.site.now each.origin (slice_get names each.desk))
+    ++ filter_map (position_in s.issued.now) (flat_map (owed_uris s.site.now configs) owed)) are
+    ∙ sym (filter_map-append (position_in s.issued.now) (owed_uris s.site.now configs each)
+    (flat_map (owed_uris s.site.now configs) owed))))
+
+-- The place of an owed origin in the folder of its desk.
+pub place-in : (s : Standing) (owed : Owed) (desk : ℕ) (folder uri : List ℕ)
+    → folder_at s.site.now s.names.now desk ≡ Some folder → owed.desk ≡ desk
+    → uri ≡ folder ++ roa_file owed.origin
+    → owed_place s.site.now s.names.now owed ≡ Some uri
+place-in s owed desk folder uri is same at = by (slice_get s.names.now owed.desk)
+    (ap (folder_at s.site.now s.names.now) same ∙ is)
+  where
+    by : (name : Option NameRow) → option_map (λ (row : NameRow). folder_of s.site.now row.name) name ≡ Some folder
+        → option_map (λ (row : NameRow). file_uri s.site.now row.name (roa_file owed.origin)) name ≡ Some uri
+    by None wrong = absurd cc
+    by (Some row) here =
+        let there : folder_of s.site.now row.name ≡ folder = cc here in
+        ap (λ (l : List ℕ). Some (l ++ roa_file owed.origin)) there ∙ ap (λ (l : List ℕ). Some l) (sym at)
+
+-- Each row stands at its own position.
+pub own-position : (issued : List IssuedRow) (i : ℕ) (d : IssuedRow) → Rise (λ row. row.uri) issued → i < length issued
+    → position_in issued (get_or issued i d).uri ≡ Some i
+own-position issued i d up inside =
+    first-there issued (get_or issued i d).uri i d inside (same_self (get_or issued i d).uri)
+    (λ k e less. other_below (get_or issued k e).uri (get_or issued i d).uri
+    (ap (λ (r : IssuedRow). uri_cmp (get_or issued k e).uri r.uri) (get_or_default issued i d e inside)
+    ∙ Less-from_sorted (on (λ (r : IssuedRow). r.uri) uri_cmp) issued k i e up less inside))
+
+-- What is noted at an index is the position of what stands at its owed origin's place.
+pub noted-at : (s : Standing) (owed : List Owed) (noted : List (Option ℕ)) (index : ℕ) (each : Owed) (here : Option ℕ)
+    → AreNoted s owed noted → index < length owed → each ≡ get_or owed index each → here ≡ get_or noted index here
+    → IsNoted s each here
+noted-at s owed noted index each here are inside is-each is-here =
+    λ position is. ap (owed_position s) is-each
+    ∙ are.each index each inside position
+    (get_or_default noted index None here (omega (arith, inside, are.long)) ∙ (sym is-here ∙ is))

@@ -1,0 +1,210 @@
+//! Where the ROAs of owed origins stand, found by one pass over what stands.
+
+ghost use Rattle.std.specs.Prelude.{◌≡◌, ◌<◌, ◌++◌, Some, None, length, get_or, IfOk, IfSome, OnOk, true};
+ghost use Rattle.entitle.specs.declared.trees.Owed.{Owed};
+ghost use Rattle.pub_set.specs.Objects.{Rise};
+ghost use Rattle.issue_plan.specs.declared.anew.Standing.{Standing};
+ghost use Rattle.issue_plan.specs.Uris.{roa_file};
+ghost use Rattle.issue_plan.specs.inner.Positions.{position_in};
+ghost use Rattle.issue_plan.specs.inner.OwedPlaces as spec;
+ghost use Rattle.issue_plan.specs.inner.OwedPlaces.{owed_place, IsFolder, IsNoted, AreNoted};
+
+use crate::anew::Standing;
+use crate::guesses::Guesses;
+use crate::live::{LiveKey, live_at};
+use crate::lookups::name_at;
+use crate::positions::position_of;
+use crate::spellings::is_roa_in;
+use entitle::Owed;
+use key_ids::KeyId;
+use key_roll::{IssuedRow, KeyName, What};
+use pub_set::Uri;
+use std::alloc::{AllocError, Global};
+
+/// The folder of the authority whose key issued the rows that are looked at.
+#[derive(Drop)]
+pub struct Folder {
+    pub issuer: KeyId,
+    /// The authority's desk, numbered from 0.
+    pub desk: u32,
+    /// Nothing where the desk has no name.
+    pub uri: Option<String>,
+}
+
+// The desk of a live key, and whichever for another.
+fn desk_of(live: &[LiveKey], issuer: &KeyId) -> u32 {
+    match live_at(live, &KeyName::Live { id: *issuer }) {
+        Some(key) => key.desk,
+        None => 0,
+    }
+}
+
+// The folder of the key's authority.
+fn folder_of(alloc: Global, standing: &Standing<'_>, issuer: &KeyId) -> Result<Folder, AllocError>
+    ensures { IfOk result (IsFolder standing.now) }
+{
+    let desk = desk_of(standing.live, issuer);
+    let Some(row) = name_at(standing.names, desk) else {
+        return Ok(Folder {
+            issuer: *issuer,
+            desk,
+            uri: None,
+        });
+    };
+    Ok(Folder {
+        issuer: *issuer,
+        desk,
+        uri: Some(standing.site.folder(alloc, row.name.as_str())?),
+    })
+}
+
+// Makes the folder that of the key's authority, if the key isn't its issuer.
+fn move_to(
+    alloc: Global,
+    standing: &Standing<'_>,
+    folder: &mut Folder,
+    issuer: &KeyId,
+) -> Result<(), AllocError>
+    requires { IsFolder standing.now folder.old }
+    ensures { OnOk result (IsFolder standing.now folder.new) }
+{
+    if folder.issuer.bytes.as_slice() != issuer.bytes.as_slice() {
+        *folder = folder_of(alloc, standing, issuer)?;
+    }
+    Ok(())
+}
+
+// Whether the owed origin's place is known to be the row's.
+fn is_place_of(
+    alloc: Global,
+    folder: &Folder,
+    owed: &Owed,
+    row: &IssuedRow,
+) -> Result<bool, AllocError>
+    ensures { IfOk result (λ is. is ≡ true → (s : Standing) → IsFolder s folder.now
+        → owed_place s.site.now s.names.now owed.now ≡ Some row.now.uri) }
+{
+    let Some(uri) = &folder.uri else {
+        return Ok(false);
+    };
+    if owed.desk != folder.desk {
+        return Ok(false);
+    }
+    is_roa_in(alloc, uri.as_str(), &owed.origin, row.uri.as_str())
+}
+
+// The index of the owed origin whose place is known to be the row's.
+fn index_at(
+    alloc: Global,
+    folder: &Folder,
+    owed: &[Owed],
+    guesses: &Guesses,
+    row: &IssuedRow,
+) -> Result<Option<usize>, AllocError>
+    ensures { IfOk result (λ index. IfSome index (λ index. (index < length owed.now)
+        × ((s : Standing) (d : Owed) → IsFolder s folder.now
+        → owed_place s.site.now s.names.now (get_or owed.now index d) ≡ Some row.now.uri))) }
+{
+    let What::Route { origin } = &row.what else {
+        return Ok(None);
+    };
+    let Some(index) = guesses.index_of(owed, folder.desk, origin) else {
+        return Ok(None);
+    };
+    if index >= owed.len() {
+        return Ok(None);
+    }
+    if is_place_of(alloc, folder, &owed[index], row)? {
+        Ok(Some(index))
+    } else {
+        Ok(None)
+    }
+}
+
+// Notes at which position the row stands, for the owed origin whose place that is known to be.
+fn note(
+    alloc: Global,
+    folder: &Folder,
+    owed: &[Owed],
+    guesses: &Guesses,
+    row: &IssuedRow,
+    position: usize,
+    noted: &mut Vec<Option<usize>>,
+) -> Result<(), AllocError>
+    requires { length noted.old.items ≡ length owed.now }
+    ensures { OnOk result ((s : Standing) → IsFolder s folder.now
+        → position_in s.issued.now row.now.uri ≡ Some position
+        → AreNoted s owed.now noted.old.items → AreNoted s owed.now noted.new.items) }
+{
+    let Some(index) = index_at(alloc, folder, owed, guesses, row)? else {
+        return Ok(());
+    };
+    noted[index] = Some(position);
+    Ok(())
+}
+
+// The positions of what stands at the places of owed origins, as far as they are known from the rows.
+fn noted(
+    alloc: Global,
+    standing: &Standing<'_>,
+    owed: &[Owed],
+) -> Result<Vec<Option<usize>>, AllocError>
+    requires { Rise (λ row. row.uri) standing.now.issued.now }
+    ensures { IfOk result (λ noted. AreNoted standing.now owed.now noted.items) }
+{
+    let guesses = Guesses::of(alloc, owed)?;
+    let mut noted = vec![in alloc; None; owed.len()]?;
+    let mut folder = Folder {
+        issuer: KeyId { bytes: [0; 20] },
+        desk: 0,
+        uri: None,
+    };
+    for position in 0..standing.issued.len() {
+        let row = &standing.issued[position];
+        move_to(alloc, standing, &mut folder, &row.issuer)?;
+        note(alloc, &folder, owed, &guesses, row, position, &mut noted)?;
+    }
+    Ok(noted)
+}
+
+// The position of what stands at the owed origin's place, where this is noted of it.
+fn owed_position(
+    alloc: Global,
+    standing: &Standing<'_>,
+    owed: &Owed,
+    noted: Option<usize>,
+) -> Result<Option<usize>, AllocError>
+    requires rising { Rise (λ row. row.uri) standing.now.issued.now }
+    requires noted { IsNoted standing.now owed.now noted }
+    ensures { IfOk result (λ position. position ≡ spec.owed_position standing.now owed.now) }
+{
+    if let Some(position) = noted {
+        return Ok(Some(position));
+    }
+    let Some(row) = name_at(standing.names, owed.desk) else {
+        return Ok(None);
+    };
+    let file = owed.origin.file_name(alloc)?;
+    let uri = standing
+        .site
+        .file_uri(alloc, row.name.as_str(), file.as_str())?;
+    Ok(position_of(standing.issued, &Uri::new(uri)))
+}
+
+/// For each owed origin the position of what stands at its place. A URI is spelled and looked for only
+/// where no ROA of the origin stands there by a live key of its authority.
+pub fn owed_positions(
+    alloc: Global,
+    standing: &Standing<'_>,
+    owed: &[Owed],
+) -> Result<Vec<Option<usize>>, AllocError>
+    requires { Rise (λ row. row.uri) standing.now.issued.now }
+    ensures { IfOk result (λ positions. positions.items ≡ spec.owed_positions standing.now owed.now) }
+{
+    let noted = noted(alloc, standing, owed)?;
+    let mut positions = Vec::with_capacity(alloc, owed.len())?;
+    for index in 0..owed.len() {
+        positions.push(owed_position(alloc, standing, &owed[index], noted[index])?)?;
+    }
+    Ok(positions)
+}
