@@ -10,7 +10,7 @@ use Rattle.std.specs.Result.{IfOk}
 use Rattle.std.specs.Prelude.{nat_eq}
 use Rattle.std.specs.Str.{bytes_eq}
 use Rattle.std.specs.Str.Pattern.{FindsTextPrefix}
-use Rattle.std.proofs.lemmas.List.{map-append, take_more, length-map, get_or-map}
+use Rattle.std.proofs.lemmas.List.{append_assoc, map-append, take_more, length-map, get_or-map}
 use Rattle.std.proofs.lemmas.List.Elements.{All-head, All-tail, filter_map-append}
 use Rattle.std.proofs.lemmas.List.Sorted.{All-permutation, IsPermutation-map}
 use Rattle.std.proofs.lemmas.Option.{slice_get-get_or, get_or_from_slice_get}
@@ -89,6 +89,23 @@ file-more {A} f xs positions i d x start now after file lt at was all adds ok is
           i d (file ∷ []) now after lt was adds one;
       are = subst (AreAll IsFile) (sym more) (are-append IsFile (files_at f xs (take i positions)) (file ∷ [])
           all (ok, tt));
+    }
+
+-- The same of a list that is told item by item.
+pub record Listed {A : Type 0} (f : A → File) (xs : List A) (start now : List File) : Type 0 where
+  pub files : now ≡ start ++ map f xs
+  pub are : AreAll IsFile (map f xs)
+
+pub listed-more : {A : Type 0} (f : A → File) (xs more : List A) (x : A) (start now after : List File) (file : File)
+    → more ≡ xs ++ x ∷ [] → now ≡ start ++ map f xs → AreAll IsFile (map f xs) → after ≡ now ++ file ∷ []
+    → IsFile file → file ≡ f x → Listed f more start after
+listed-more {A} f xs more x start now after file is was all adds ok same =
+    let whole : map f more ≡ map f xs ++ file ∷ [] =
+    ap (map f) is ∙ (map-append f xs (x ∷ []) ∙ ap (λ (y : File). map f xs ++ y ∷ []) (sym same)) in
+    record {
+      files = adds ∙ (ap (λ (l : List File). l ++ file ∷ []) was
+          ∙ (append_assoc start (map f xs) (file ∷ []) ∙ ap (λ (l : List File). start ++ l) (sym whole)));
+      are = subst (AreAll IsFile) (sym whole) (are-append IsFile (map f xs) (file ∷ []) all (ok, tt));
     }
 
 -- ---- a draft and its hash

@@ -1,9 +1,12 @@
 pub mod Counting
+pub mod Ended
 pub mod Filed
 pub mod Firsts
+pub mod Foldered
 pub mod Found
 pub mod FoundDrafts
 pub mod Growing
+pub mod KeyPlaces
 pub mod Lists
 pub mod Merged
 pub mod Named

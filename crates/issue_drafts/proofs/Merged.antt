@@ -33,7 +33,7 @@ use Rattle.issue_drafts.specs.Revoking.{is_touched}
 use Rattle.issue_drafts.specs.Touching.{has_uri, AreTouched}
 use Rattle.issue_drafts.specs.Tables.{IsTable}
 use Rattle.issue_drafts.specs.inner.Positions.{items_at, AreInside}
-use Rattle.issue_drafts.specs.inner.Holdings.{stays, kept_key, made_key}
+use Rattle.issue_drafts.specs.inner.Holdings.{stays, is_kept_under, is_inside, made_key}
 use Rattle.issue_drafts.specs.Files.{name_in, names_of, is_kept, kept_file, made_file, kept_files}
 use Rattle.issue_drafts.specs.Files.{made_files, folder_at, is_made_under, AreMerged, IsListable}
 use Rattle.issue_drafts.specs.Files.{AreListable}
@@ -45,29 +45,18 @@ abbrev pub Made : Type 0
 Made = Draft × List ℕ
 
 abbrev pub kept_under : IssueInput → List (List ℕ) → KeyRow → List IssuedRow
-kept_under s touched key =
-    filter (λ row. bytes_eq row.issuer.bytes (id_of key) && stays (anchor_uri s.site) touched row) s.issued
+kept_under s touched key = filter (is_kept_under (id_of key) (anchor_uri s.site) touched) s.issued
 
 abbrev pub made_under : IssueInput → KeyRow → List Made → List Made
 made_under s key made = filter (λ m. is_made_under s key m.0) made
 
 -- ---- found under the key
 
-pub kept-found : (s : IssueInput) (touched : List (List ℕ)) (key : KeyRow) (id : List ℕ) (index positions : List KeyPosition)
-    → IsIndex (map (kept_key (anchor_uri s.site) touched) s.issued) index → id ≡ id_of key
-    → positions ≡ positions_under id index → items_at s.issued positions ≡ kept_under s touched key
-kept-found s touched key id index positions h same is =
-    found (kept_key (anchor_uri s.site) touched) s.issued index positions (id_of key) h
-    (is ∙ ap (λ (i : List ℕ). positions_under i index) same)
-    ∙ filter_agree (λ (row : IssuedRow). has_id (id_of key) (kept_key (anchor_uri s.site) touched row))
-    (λ (row : IssuedRow). bytes_eq row.issuer.bytes (id_of key) && stays (anchor_uri s.site) touched row)
-    (λ row. has-under (id_of key) row.issuer (stays (anchor_uri s.site) touched row)) s.issued
-
-pub kept-inside : (s : IssueInput) (touched : List (List ℕ)) (id : List ℕ) (index positions : List KeyPosition)
-    → IsIndex (map (kept_key (anchor_uri s.site) touched) s.issued) index → positions ≡ positions_under id index
-    → AreInside s.issued positions
-kept-inside s touched id index positions h is = inside (kept_key (anchor_uri s.site) touched) s.issued index
-    positions id h is
+pub kept-here : (s : IssueInput) (touched : List (List ℕ)) (key : KeyRow) (id : List ℕ) (rows : List IssuedRow)
+    → id ≡ id_of key → rows ≡ filter (is_kept_under id (anchor_uri s.site) touched) s.issued
+    → rows ≡ kept_under s touched key
+kept-here s touched key id rows same is =
+    is ∙ ap (λ (i : List ℕ). filter (is_kept_under i (anchor_uri s.site) touched) s.issued) same
 
 map-twice : {A B C : Type 0} (g : B → C) (f : A → B) (xs : List A) → map g (map f xs) ≡ map (λ x. g (f x)) xs
 map-twice g f [] = refl
@@ -117,14 +106,31 @@ keep-test : (b n t u : Bool) → t ≡ u → (b && (n && not t)) ≡ (b && n && 
 keep-test true n t u e = ap (λ (x : Bool). n && not x) e
 keep-test false n t u e = refl
 
+as-is-kept : (s : IssueInput) (puts : List Draft) (touched : List (List ℕ)) (key : KeyRow) (row : IssuedRow)
+    → AreTouched s puts touched
+    → is_kept_under (id_of key) (anchor_uri s.site) touched row ≡ is_kept s puts key row
+as-is-kept s puts touched key row are =
+    keep-test (bytes_eq row.issuer.bytes (id_of key)) (not (bytes_eq row.uri (anchor_uri s.site)))
+    (has_uri row.uri touched) (is_touched s puts row.uri) (are row.uri)
+
+-- What a key keeps lies in its folder.
+pub kept-lie : (s : IssueInput) (puts drafts : List Draft) (touched : List (List ℕ)) (key : KeyRow)
+    (folder id : List ℕ)
+    → AreTouched s puts touched → AreListable s puts drafts key → folder ≡ folder_at s key → id ≡ id_of key
+    → All (λ (row : IssuedRow). is_kept_under id (anchor_uri s.site) touched row ≡ true
+    → is_inside folder row ≡ true) s.issued
+kept-lie s puts drafts touched key folder id are listable is_folder same = λ k d lt e.
+    let row : IssuedRow = get_or s.issued k d in
+    let kept : is_kept s puts key row ≡ true =
+    sym (as-is-kept s puts touched key row are)
+    ∙ (sym (ap (λ (i : List ℕ). is_kept_under i (anchor_uri s.site) touched row) same) ∙ e) in
+    ap (λ (f : List ℕ). is_inside f row) is_folder ∙ (listable.kept k d lt kept).inside
+
 kept-is : (s : IssueInput) (puts : List Draft) (touched : List (List ℕ)) (key : KeyRow)
     → AreTouched s puts touched → kept_under s touched key ≡ filter (is_kept s puts key) s.issued
 kept-is s puts touched key are =
-    filter_agree (λ (row : IssuedRow). bytes_eq row.issuer.bytes (id_of key) && stays (anchor_uri s.site)
-    touched row) (is_kept s puts key)
-    (λ row. keep-test (bytes_eq row.issuer.bytes (id_of key)) (not (bytes_eq row.uri (anchor_uri s.site)))
-    (has_uri row.uri touched) (is_touched s puts row.uri) (are row.uri))
-    s.issued
+    filter_agree (is_kept_under (id_of key) (anchor_uri s.site) touched) (is_kept s puts key)
+    (λ row. as-is-kept s puts touched key row are) s.issued
 
 all-filtered : {X : Type 0} (p : X → Bool) (Q : X → Type 0) (xs : List X) → All (λ x. p x ≡ true → Q x) xs
     → All Q (filter p xs)
@@ -236,8 +242,7 @@ kept-untouched : (s : IssueInput) (touched : List (List ℕ)) (key : KeyRow) (u 
 kept-untouched s touched key u h =
     let r = in-map row_uri u (kept_under s touched key) h in
     let row : IssuedRow = r.0 in
-    let f = in-filter (λ (x : IssuedRow). bytes_eq x.issuer.bytes (id_of key) && stays (anchor_uri s.site)
-    touched x) row s.issued r.1 in
+    let f = in-filter (is_kept_under (id_of key) (anchor_uri s.site) touched) row s.issued r.1 in
     let stay = (and_parts (bytes_eq row.issuer.bytes (id_of key)) (stays (anchor_uri s.site) touched row) f.1).1 in
     let not_there = (and_parts (not (bytes_eq row.uri (anchor_uri s.site))) (not (has_uri row.uri touched)) stay).1 in
     ap (λ (x : List ℕ). has_uri x touched) r.2 ∙ not-true (has_uri row.uri touched) not_there
@@ -297,8 +302,7 @@ ready s drafts manifests hashes touched key standing rising are listable =
     let uris : IsDistinct bytes_eq (map row_uri rows ++ map made_uri come) =
     distinct-append (map row_uri rows) (map made_uri come)
     (sorted-distinct row_uri rows (IsStrictlySortedBy-filter (on row_uri uri_cmp)
-    (λ (row : IssuedRow). bytes_eq row.issuer.bytes (id_of key) && stays (anchor_uri s.site) touched row)
-    s.issued standing))
+    (is_kept_under (id_of key) (anchor_uri s.site) touched) s.issued standing))
     (sorted-distinct made_uri come (IsStrictlySortedBy-filter (on made_uri uri_cmp)
     (λ (m : Made). is_made_under s key m.0) made (rise-zip drafts hashes rising)))
     (λ x y k l. not-same x y (λ e.
@@ -440,35 +444,38 @@ key-more {M} s touched made key_at manifests i d key lists after list lt is was 
 -- ---- where the code finds them
 
 pub ready-here : (s : IssueInput) (drafts manifests : List Draft) (hashes : List (List ℕ))
-    (touched : List (List ℕ)) (key : KeyRow) (folder id : List ℕ) (kept made stay come : List KeyPosition)
+    (touched : List (List ℕ)) (key : KeyRow) (folder id : List ℕ) (rows : List IssuedRow)
+    (made come : List KeyPosition)
     → length hashes ≡ length drafts → Rise row_uri s.issued → Rise (λ (d : Draft). d.uri) drafts
     → AreTouched s (drafts ++ manifests) touched → AreListable s (drafts ++ manifests) drafts key
-    → IsIndex (map (kept_key (anchor_uri s.site) touched) s.issued) kept
-    → IsIndex (map (made_key (anchor_uri s.site)) drafts) made → id ≡ id_of key → stay ≡ positions_under id kept
+    → rows ≡ filter (is_kept_under id (anchor_uri s.site) touched) s.issued
+    → IsIndex (map (made_key (anchor_uri s.site)) drafts) made → id ≡ id_of key
     → come ≡ positions_under id made → folder ≡ folder_at s key
-    → Ready folder (items_at s.issued stay) (items_at (zip drafts hashes) come)
-ready-here s drafts manifests hashes touched key folder id kept made stay come long standing rising are
-    listable k m same is_stay is_come is_folder =
-    ready-at (folder_at s key) folder (kept_under s touched key) (items_at s.issued stay)
+    → Ready folder rows (items_at (zip drafts hashes) come)
+ready-here s drafts manifests hashes touched key folder id rows made come long standing rising are
+    listable is_rows m same is_come is_folder =
+    ready-at (folder_at s key) folder (kept_under s touched key) rows
     (made_under s key (zip drafts hashes)) (items_at (zip drafts hashes) come)
-    is_folder (kept-found s touched key id kept stay k same is_stay)
+    is_folder (kept-here s touched key id rows same is_rows)
     (made-found s drafts hashes key id made come long m same is_come)
     (ready s drafts manifests hashes touched key standing rising are listable)
 
 pub of-here : (s : IssueInput) (drafts : List Draft) (hashes : List (List ℕ)) (touched : List (List ℕ))
-    (key : KeyRow) (folder id : List ℕ) (kept made stay come : List KeyPosition) (list other : List ListedFile)
-    → length hashes ≡ length drafts → IsIndex (map (kept_key (anchor_uri s.site) touched) s.issued) kept
-    → IsIndex (map (made_key (anchor_uri s.site)) drafts) made → id ≡ id_of key → stay ≡ positions_under id kept
+    (key : KeyRow) (folder id : List ℕ) (rows : List IssuedRow) (made come : List KeyPosition)
+    (list other : List ListedFile)
+    → length hashes ≡ length drafts
+    → rows ≡ filter (is_kept_under id (anchor_uri s.site) touched) s.issued
+    → IsIndex (map (made_key (anchor_uri s.site)) drafts) made → id ≡ id_of key
     → come ≡ positions_under id made → folder ≡ folder_at s key
-    → Ready folder (items_at s.issued stay) (items_at (zip drafts hashes) come)
-    → AreMerged (map (kept_file folder) (items_at s.issued stay))
+    → Ready folder rows (items_at (zip drafts hashes) come)
+    → AreMerged (map (kept_file folder) rows)
     (map (made_file folder) (items_at (zip drafts hashes) come)) (map file_view list)
     → AreAll IsFile (map file_view list) → other ≡ list
     → OfKey s touched (zip drafts hashes) key (map file_view other)
-of-here s drafts hashes touched key folder id kept made stay come list other long k m same is_stay is_come
+of-here s drafts hashes touched key folder id rows made come list other long is_rows m same is_come
     is_folder r merged are now =
     subst (λ (l : List ListedFile). OfKey s touched (zip drafts hashes) key (map file_view l)) (sym now)
-    (of-key s touched (zip drafts hashes) key folder (items_at s.issued stay)
+    (of-key s touched (zip drafts hashes) key folder rows
     (items_at (zip drafts hashes) come) (map file_view list) is_folder
-    (kept-found s touched key id kept stay k same is_stay) (made-found s drafts hashes key id made come long m
+    (kept-here s touched key id rows same is_rows) (made-found s drafts hashes key id made come long m
     same is_come) r merged are)

@@ -1,12 +1,16 @@
-//! The objects of keys, those that stay and those that are made, under the keys that issue them.
+//! The objects of keys: those that stay, and those that are made, under the keys that issue them.
 
-ghost use Rattle.std.specs.Prelude.{◌≡◌, map, IfOk};
+ghost use Rattle.std.specs.Prelude.{◌≡◌, true, map, filter, All, IfOk};
+ghost use Rattle.std.specs.Ordering.{is_lt};
+ghost use Rattle.pub_set.specs.Objects.{uri_cmp, Rise};
 ghost use Rattle.issue_keys.specs.Indexes.{IsIndex};
+ghost use Rattle.issue_drafts.specs.WorkKeys.{key_of};
 ghost use Rattle.issue_drafts.specs.Views.{draft_of};
 ghost use Rattle.key_ids.specs.Uris.{anchor_uri};
-ghost use Rattle.issue_drafts.specs.inner.Holdings.{stays, kept_key, made_key};
+ghost use Rattle.issue_drafts.specs.inner.Holdings.{stays, is_kept_under, is_inside, made_key};
 
 use crate::draft::Draft;
+use crate::hashing::identify;
 use crate::touching::Touched;
 use issue_keys::{KeyIndex, index_of};
 use key_ids::{KeyId, Site};
@@ -20,55 +24,87 @@ fn stays(row: &IssuedRow, touched: &Touched, anchor: &str) -> bool
     row.uri.as_str() != anchor && !touched.has(row.uri.as_str())
 }
 
-/// The key that issued the object, if it stays.
-fn kept_key(row: &IssuedRow, touched: &Touched, anchor: &str) -> Option<KeyId>
-    ensures { result ≡ kept_key anchor.now touched.now row.now }
+/// Whether the key issued the object, and that stays.
+fn is_kept(row: &IssuedRow, id: &KeyId, touched: &Touched, anchor: &str) -> bool
+    ensures { result ≡ is_kept_under id.now.bytes anchor.now touched.now row.now }
 {
-    if stays(row, touched, anchor) {
-        Some(row.issuer)
-    } else {
-        None
-    }
+    row.issuer.bytes == id.bytes && stays(row, touched, anchor)
 }
 
-/// The keys of objects that stay.
-fn kept_keys(
+/// Whether the object's URI comes before that of the folder.
+fn is_before(row: &IssuedRow, folder: &str) -> bool
+    ensures { result ≡ is_lt (uri_cmp row.now.uri folder.now) }
+{
+    row.uri.as_str().cmp(folder).is_lt()
+}
+
+/// Whether the object lies in the folder.
+fn is_inside(row: &IssuedRow, folder: &str) -> bool
+    ensures { result ≡ is_inside folder.now row.now }
+{
+    row.uri.as_str().as_bytes().starts_with(folder.as_bytes())
+}
+
+/// The objects in the folder, which stand one behind the other, found by halving.
+fn in_folder<'a>(issued: &'a [IssuedRow], folder: &str) -> &'a [IssuedRow]
+    requires { Rise (λ row. row.uri) issued.now }
+    ensures { result.now ≡ filter (is_inside folder.now) issued.now }
+{
+    let from = issued.partition_point(|row| is_before(row, folder));
+    let rest = &issued[from..];
+    let count = rest.partition_point(|row| is_inside(row, folder));
+    &rest[..count]
+}
+
+/// Those objects that the key issued and that stay.
+fn kept_among<'a>(
     alloc: Global,
-    issued: &[IssuedRow],
+    rows: &'a [IssuedRow],
+    id: &KeyId,
     touched: &Touched,
     anchor: &str,
-) -> Result<Vec<Option<KeyId>>, AllocError>
-    ensures { IfOk result (λ keys. keys.items ≡ map (kept_key anchor.now touched.now) issued.now) }
+) -> Result<Vec<&'a IssuedRow>, AllocError>
+    ensures { IfOk result (λ kept. map (λ row. row.now) kept.items
+        ≡ filter (is_kept_under id.now.bytes anchor.now touched.now) rows.now) }
 {
-    issued
-        .iter()
-        .map(|row| kept_key(row, touched, anchor))
-        .collect(alloc)
+    let mut kept = Vec::new(alloc);
+    for row in rows {
+        if is_kept(row, id, touched, anchor) {
+            kept.push(row)?;
+        }
+    }
+    Ok(kept)
 }
 
-/// The positions of the objects that stay, under the keys that issued them.
-pub fn kept_index(
+/// The objects of the key that stay. They lie in the folder, and only what lies there is looked at.
+pub fn kept_rows<'a>(
     alloc: Global,
-    issued: &[IssuedRow],
+    issued: &'a [IssuedRow],
+    folder: &str,
+    id: &KeyId,
     touched: &Touched,
     site: &Site,
-) -> Result<KeyIndex, AllocError>
-    ensures { IfOk result (IsIndex (map (kept_key (anchor_uri site.now) touched.now) issued.now)) }
+) -> Result<Vec<&'a IssuedRow>, AllocError>
+    requires standing { Rise (λ row. row.uri) issued.now }
+    requires inside { All (λ row. is_kept_under id.now.bytes (anchor_uri site.now) touched.now row ≡ true
+        → is_inside folder.now row ≡ true) issued.now }
+    ensures { IfOk result (λ kept. map (λ row. row.now) kept.items
+        ≡ filter (is_kept_under id.now.bytes (anchor_uri site.now) touched.now) issued.now) }
 {
     let anchor = site.anchor_uri(alloc)?;
-    let keys = kept_keys(alloc, issued, touched, anchor.as_str())?;
-    let index = index_of(alloc, &keys)?;
-    Ok(index)
+    let inside = in_folder(issued, folder);
+    kept_among(alloc, inside, id, touched, anchor.as_str())
 }
 
 /// The key that issues an object, but of the trust anchor's certificate.
-fn made_key(draft: &Draft<'_>, anchor: &str) -> Option<KeyId>
+fn made_key(draft: &Draft<'_>, id: &KeyId, anchor: &str) -> Option<KeyId>
+    requires { id.now ≡ key_of draft.now.issuer.row.now }
     ensures { result ≡ made_key anchor.now (draft_of draft.now) }
 {
     if draft.uri.as_str() == anchor {
         None
     } else {
-        Some(KeyId::of(&draft.issuer.row.key.bytes))
+        Some(*id)
     }
 }
 
@@ -81,8 +117,11 @@ fn made_keys(
     ensures { IfOk result (λ keys. keys.items ≡ map (made_key anchor.now) (map draft_of drafts.now)) }
 {
     let mut keys = Vec::with_capacity(alloc, drafts.len())?;
+    let mut before = None;
     for draft in drafts {
-        keys.push(made_key(draft, anchor))?;
+        let issuer = identify(before, draft.issuer.row);
+        keys.push(made_key(draft, &issuer.id, anchor))?;
+        before = Some(issuer);
     }
     Ok(keys)
 }

@@ -1,7 +1,7 @@
 //! Where the keys of an edition publish (RFC 6481 section 2).
 
-ghost use Rattle.std.specs.Prelude.{◌≡◌, ◌<◌, length, map, All, Some, None, IfOk, option_map, option_copied, string_bytes};
-ghost use Rattle.issue_keys.specs.Indexes.{IsIndex};
+ghost use Rattle.std.specs.Prelude.{◌≡◌, ◌<◌, ◌++◌, ◌∷◌, [], length, map, All, Some, None, IfOk, OnOk, option_map, option_copied, string_bytes};
+ghost use Rattle.issue_keys.specs.Indexes.{IsIndex, key_positions};
 ghost use Rattle.issue_values.specs.Publishers.{publishing};
 ghost use Rattle.issue_drafts.specs.WorkKeys.{key_of, key_named, keys_at, Finds};
 ghost use Rattle.issue_drafts.specs.IssueInput.{input_of};
@@ -10,7 +10,7 @@ ghost use Rattle.issue_drafts.specs.Publishers.{name_at, made_uri, subject_key, 
 use crate::issue_parts::IssueParts;
 use crate::key_finder::KeyFinder;
 use authority_book::NameRow;
-use issue_keys::{KeyIndex, index_of};
+use issue_keys::{KeyIndex, KeyPosition, index_of};
 use issue_values::Publisher;
 use key_ids::{KeyId, Site};
 use key_roll::{CertWork, IssuedRow, KeyName, KeyRow, What};
@@ -101,34 +101,43 @@ fn made_certificates(
     Ok(index)
 }
 
-/// The key that an object certifies.
-fn certified_key(what: &What) -> Option<KeyId>
-    ensures { result ≡ certified_key what.now }
+/// Appends the position of an object under the key that it certifies, if it certifies one.
+fn push_certified(
+    certified: &mut Vec<KeyPosition>,
+    what: &What,
+    position: usize,
+) -> Result<(), AllocError>
+    ensures { OnOk result (certified.new.items
+        ≡ certified.old.items ++ key_positions position (certified_key what.now ∷ [])) }
 {
     match what {
-        What::Authority { key, .. } => Some(*key),
-        What::Route { .. } => None,
-        What::Point => None,
+        What::Authority { key, .. } => certified.push(KeyPosition {
+            key: *key,
+            position,
+        })?,
+        What::Route { .. } | What::Point => {}
     }
+    Ok(())
 }
 
-/// The keys that objects certify.
-fn certified_keys(alloc: Global, issued: &[IssuedRow]) -> Result<Vec<Option<KeyId>>, AllocError>
-    ensures { IfOk result (λ keys. keys.items ≡ map (λ row. certified_key row.what) issued.now) }
+/// The positions of the certificates that stand, in their order: a few for each authority.
+fn certified_positions(alloc: Global, issued: &[IssuedRow]) -> Result<Vec<KeyPosition>, AllocError>
+    ensures { IfOk result (λ certified.
+        key_positions 0 (map (λ row. certified_key row.what) issued.now) ≡ certified.items) }
 {
-    let mut keys = Vec::with_capacity(alloc, issued.len())?;
-    for row in issued {
-        keys.push(certified_key(&row.what))?;
+    let mut certified = Vec::new(alloc);
+    for (position, row) in issued.iter().enumerate() {
+        push_certified(&mut certified, &row.what, position)?;
     }
-    Ok(keys)
+    Ok(certified)
 }
 
 /// The positions of the certificates that stand, by their subjects.
 fn standing_certificates(alloc: Global, issued: &[IssuedRow]) -> Result<KeyIndex, AllocError>
     ensures { IfOk result (IsIndex (map (λ row. certified_key row.what) issued.now)) }
 {
-    let keys = certified_keys(alloc, issued)?;
-    let index = index_of(alloc, &keys)?;
+    let certified = certified_positions(alloc, issued)?;
+    let index = KeyIndex::new(certified)?;
     Ok(index)
 }
 

@@ -6,6 +6,7 @@
 mod draft;
 mod draft_input;
 mod first_entries;
+mod hashing;
 mod holdings;
 mod issue_parts;
 mod key_finder;
@@ -22,6 +23,7 @@ mod work_drafts;
 pub use draft::{Draft, DraftKind, KeyAt, ManifestDraft};
 pub use draft_input::DraftInput;
 pub use first_entries::first_of_each;
+pub use hashing::{Identified, identify};
 pub use issue_parts::IssueParts;
 pub use key_finder::KeyFinder;
 pub use key_publishers::{made_uri, name_of, publishers};

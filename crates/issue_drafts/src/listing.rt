@@ -17,7 +17,7 @@ ghost use Rattle.issue_drafts.specs.inner.Positions.{items_at, AreInside};
 ghost use Rattle.issue_drafts.specs.Files.{name_in, names_of, folder_at, kept_file, made_file, kept_files, made_files, AreMerged, IsListable, AreListable};
 
 use crate::draft::{Draft, ManifestDraft};
-use crate::holdings::{kept_index, made_index};
+use crate::holdings::{kept_rows, made_index};
 use crate::issue_parts::IssueParts;
 use crate::key_publishers::name_of;
 use crate::touching::Touched;
@@ -61,17 +61,14 @@ fn push_kept(
     alloc: Global,
     files: &mut Vec<ListedFile>,
     folder: &str,
-    issued: &[IssuedRow],
-    positions: &[KeyPosition],
+    rows: &[&IssuedRow],
 ) -> Result<(), AllocError>
-    requires inside { AreInside issued.now positions.now }
-    requires listable { All (λ row. IsListable folder.now row.uri) (items_at issued.now positions.now) }
+    requires { All (λ row. IsListable folder.now row.uri) (map (λ row. row.now) rows.now) }
     ensures files { OnOk result (map file_view files.new.items ≡ map file_view files.old.items
-        ++ map (kept_file folder.now) (items_at issued.now positions.now)) }
-    ensures are { OnOk result (AreAll IsFile (map (kept_file folder.now) (items_at issued.now positions.now))) }
+        ++ map (kept_file folder.now) (map (λ row. row.now) rows.now)) }
+    ensures are { OnOk result (AreAll IsFile (map (kept_file folder.now) (map (λ row. row.now) rows.now))) }
 {
-    for entry in positions {
-        let row = &issued[entry.position];
+    for row in rows {
         push_file(alloc, files, folder, row.uri.as_str(), &row.hash)?;
     }
     Ok(())
@@ -126,27 +123,25 @@ fn by_name(files: Vec<ListedFile>) -> Result<Vec<ListedFile>, AllocError>
 fn merged(
     alloc: Global,
     folder: &str,
-    issued: &[IssuedRow],
-    kept: &[KeyPosition],
+    kept: &[&IssuedRow],
     drafts: &[Draft<'_>],
     hashes: &[[u8; 32]],
     made: &[KeyPosition],
 ) -> Result<Vec<ListedFile>, AllocError>
     requires each { length hashes.now ≡ length drafts.now }
-    requires kept_inside { AreInside issued.now kept.now }
-    requires kept_listable { All (λ row. IsListable folder.now row.uri) (items_at issued.now kept.now) }
+    requires kept_listable { All (λ row. IsListable folder.now row.uri) (map (λ row. row.now) kept.now) }
     requires made_inside { AreInside (zip (map draft_of drafts.now) hashes.now) made.now }
     requires made_listable { All (λ m. IsListable folder.now m.0.uri)
         (items_at (zip (map draft_of drafts.now) hashes.now) made.now) }
-    requires apart { IsDistinct bytes_eq (names_of (map (kept_file folder.now) (items_at issued.now kept.now)
+    requires apart { IsDistinct bytes_eq (names_of (map (kept_file folder.now) (map (λ row. row.now) kept.now)
         ++ map (made_file folder.now) (items_at (zip (map draft_of drafts.now) hashes.now) made.now))) }
-    ensures merged { IfOk result (λ files. AreMerged (map (kept_file folder.now) (items_at issued.now kept.now))
+    ensures merged { IfOk result (λ files. AreMerged (map (kept_file folder.now) (map (λ row. row.now) kept.now))
         (map (made_file folder.now) (items_at (zip (map draft_of drafts.now) hashes.now) made.now))
         (map file_view files.items)) }
     ensures are { IfOk result (λ files. AreAll IsFile (map file_view files.items)) }
 {
     let mut files = Vec::new(alloc);
-    push_kept(alloc, &mut files, folder, issued, kept)?;
+    push_kept(alloc, &mut files, folder, kept)?;
     push_made(alloc, &mut files, folder, drafts, hashes, made)?;
     by_name(files)
 }
@@ -185,24 +180,16 @@ pub fn files(
         (map (λ m. m.issuer.row.now) manifests.now) (map (map file_view) lists.items)) }
     ensures listed { IfOk result (λ lists. All (λ list. AreListed (map file_view list)) lists.items) }
 {
-    let kept = kept_index(alloc, at.issued, touched, at.site)?;
     let made = made_index(alloc, drafts, at.site)?;
     let mut lists = Vec::with_capacity(alloc, manifests.len())?;
     for manifest in manifests {
         let key = manifest.issuer.row;
         let id = KeyId::of(&key.key.bytes);
         let folder = folder_of(alloc, at, key)?;
-        let stay = kept.positions(&id);
+        let path = folder.as_str();
+        let stay = kept_rows(alloc, at.issued, path, &id, touched, at.site)?;
         let come = made.positions(&id);
-        let list = merged(
-            alloc,
-            folder.as_str(),
-            at.issued,
-            stay,
-            drafts,
-            hashes,
-            come,
-        )?;
+        let list = merged(alloc, path, &stay, drafts, hashes, come)?;
         lists.push(Items::new(list))?;
     }
     Ok(lists)

@@ -1,7 +1,9 @@
 //! What the CRLs of an edition list (RFC 5280 section 5.1.2.6).
 
 ghost use Rattle.std.specs.Prelude.{◌≡◌, ◌≤◌, ◌++◌, ◌∷◌, [], List, length, map, filter, All, IfOk, OnOk};
-ghost use Rattle.issue_keys.specs.Indexes.{IsIndex};
+ghost use Rattle.std.specs.List.Sorted.{IsBinarySearchResult, IsSearchInRange};
+ghost use Rattle.pub_set.specs.Objects.{uri_cmp, Rise};
+ghost use Rattle.issue_keys.specs.Indexes.{IsIndex, key_positions};
 ghost use Rattle.issue_drafts.specs.WorkKeys.{Keys};
 ghost use Rattle.issue_drafts.specs.IssueInput.{input_of};
 ghost use Rattle.issue_drafts.specs.Drafts.{Draft as Put};
@@ -9,52 +11,97 @@ ghost use Rattle.key_ids.specs.Uris.{anchor_uri};
 ghost use Rattle.issue_values.specs.Bodies.{AreRevoked};
 ghost use Rattle.issue_drafts.specs.Firsts.{AreFirsts};
 ghost use Rattle.issue_drafts.specs.Revoking.{revoked_row, has_point, candidates};
-ghost use Rattle.issue_drafts.specs.Touching.{AreTouched};
+ghost use Rattle.issue_drafts.specs.Touching.{AreByUri, AreTouched};
 ghost use Rattle.issue_drafts.specs.Tables.{IsTable};
 ghost use Rattle.issue_drafts.specs.inner.Positions.{items_at, AreInside};
-ghost use Rattle.issue_drafts.specs.inner.Entries.{ends, ended_key, cutoff_of, lasts, listed};
+ghost use Rattle.issue_drafts.specs.inner.Entries.{is_counted, counted_key, ended_key, IsLook, cutoff_of, lasts, listed};
 
 use crate::first_entries::first_of_each;
 use crate::issue_parts::IssueParts;
 use crate::touching::Touched;
-use issue_keys::{KeyIndex, KeyPosition, index_of};
+use issue_keys::{KeyIndex, KeyPosition};
 use items::Items;
 use key_ids::{KeyId, Site};
 use key_roll::{IssuedRow, KeyRow, RevokedRow};
+use pub_set::Uri;
 use std::alloc::{AllocError, Global};
 
-/// Whether a row is of a certificate that ends: its object is put anew or withdrawn. A CRL has none, and the
+/// Whether a row is of a certificate that ends where its object is put anew or withdrawn. A CRL has none, and the
 /// trust anchor's own isn't counted.
-fn ends(row: &IssuedRow, touched: &Touched, anchor: &str) -> bool
-    ensures { result ≡ ends anchor.now touched.now row.now }
+fn is_counted(row: &IssuedRow, anchor: &str) -> bool
+    ensures { result ≡ is_counted anchor.now row.now }
 {
-    row.serial != 0 && row.uri.as_str() != anchor && touched.has(row.uri.as_str())
+    row.serial != 0 && row.uri.as_str() != anchor
 }
 
-/// The key that issued the certificate, if it ends.
-fn ended_key(row: &IssuedRow, touched: &Touched, anchor: &str) -> Option<KeyId>
-    ensures { result ≡ ended_key anchor.now touched.now row.now }
+/// Appends the position of a row under the key that issued it, if it is of a certificate that ends.
+fn push_counted(
+    ended: &mut Vec<KeyPosition>,
+    row: &IssuedRow,
+    position: usize,
+    anchor: &str,
+) -> Result<(), AllocError>
+    ensures { OnOk result (ended.new.items
+        ≡ ended.old.items ++ key_positions position (counted_key anchor.now row.now ∷ [])) }
 {
-    if ends(row, touched, anchor) {
-        Some(row.issuer)
-    } else {
-        None
+    if is_counted(row, anchor) {
+        ended.push(KeyPosition {
+            key: row.issuer,
+            position,
+        })?;
+    }
+    Ok(())
+}
+
+/// Where a URI stands among rows, or else where it would stand.
+fn search(rows: &[IssuedRow], uri: &str) -> Result<usize, usize>
+    ensures bound { IsSearchInRange result (length rows.now) }
+    ensures found { IsBinarySearchResult (λ row. uri_cmp row.uri uri.now) rows.now result }
+{
+    rows.binary_search_by(|row| row.uri.as_str().cmp(uri))
+}
+
+/// Looks for a URI that is touched among the rows from that position on, and appends the position of its row, if
+/// that is of a certificate that ends. Answers from where the next URI is looked for.
+fn push_at(
+    ended: &mut Vec<KeyPosition>,
+    issued: &[IssuedRow],
+    from: usize,
+    uri: &str,
+    anchor: &str,
+) -> Result<usize, AllocError>
+    requires { from ≤ length issued.now }
+    ensures { IfOk result (λ next.
+        IsLook anchor.now uri.now issued.now from next ended.old.items ended.new.items) }
+{
+    let rest = &issued[from..];
+    match search(rest, uri) {
+        Ok(at) => {
+            push_counted(ended, &rest[at], from + at, anchor)?;
+            Ok(from + at + 1)
+        }
+        Err(at) => Ok(from + at),
     }
 }
 
-/// The keys of certificates that end.
-fn ended_keys(
+/// The positions of the certificates that end, under the keys that issued them. Each URI that is touched is looked
+/// for by halving.
+fn ended_positions(
     alloc: Global,
     issued: &[IssuedRow],
-    touched: &Touched,
+    uris: &[Uri],
     anchor: &str,
-) -> Result<Vec<Option<KeyId>>, AllocError>
-    ensures { IfOk result (λ keys. keys.items ≡ map (ended_key anchor.now touched.now) issued.now) }
+) -> Result<Vec<KeyPosition>, AllocError>
+    requires standing { Rise (λ row. row.uri) issued.now }
+    requires rising { AreByUri uris.now }
+    ensures { IfOk result (λ ended. key_positions 0 (map (ended_key anchor.now uris.now) issued.now) ≡ ended.items) }
 {
-    issued
-        .iter()
-        .map(|row| ended_key(row, touched, anchor))
-        .collect(alloc)
+    let mut ended = Vec::new(alloc);
+    let mut from = 0;
+    for uri in uris {
+        from = push_at(&mut ended, issued, from, uri.as_str(), anchor)?;
+    }
+    Ok(ended)
 }
 
 /// The positions of the certificates that end, under the keys that issued them.
@@ -64,11 +111,12 @@ fn superseded(
     touched: &Touched,
     site: &Site,
 ) -> Result<KeyIndex, AllocError>
+    requires { Rise (λ row. row.uri) issued.now }
     ensures { IfOk result (IsIndex (map (ended_key (anchor_uri site.now) touched.now) issued.now)) }
 {
     let anchor = site.anchor_uri(alloc)?;
-    let keys = ended_keys(alloc, issued, touched, anchor.as_str())?;
-    let index = index_of(alloc, &keys)?;
+    let ended = ended_positions(alloc, issued, touched.uris(), anchor.as_str())?;
+    let index = KeyIndex::new(ended)?;
     Ok(index)
 }
 
@@ -164,7 +212,8 @@ pub fn entries(
     points: &[bool],
     touched: &Touched,
 ) -> Result<Vec<Items<RevokedRow>>, AllocError>
-    requires { length points.now ≡ length rows.now }
+    requires standing { Rise (λ row. row.uri) at.now.issued.now }
+    requires points { length points.now ≡ length rows.now }
     ensures firsts { IfOk result (λ lists. (keys : Keys) (puts : List Put)
         → AreTouched (input_of at.now) puts touched.now
         → points.now ≡ map (has_point (input_of at.now) keys) rows.now

@@ -70,7 +70,7 @@ impl Touched {
     ghost use Rattle.issue_drafts.specs.IssueInput.{input_of};
     ghost use Rattle.issue_drafts.specs.Drafts.{Draft as Put};
     ghost use Rattle.issue_drafts.specs.Views.{draft_of, manifest_of};
-    ghost use Rattle.issue_drafts.specs.Touching.{AreTouched, has_uri};
+    ghost use Rattle.issue_drafts.specs.Touching.{AreByUri, AreTouched, has_uri};
 
     /// Those of an edition that puts these objects.
     pub fn new(
@@ -89,6 +89,14 @@ impl Touched {
         push_uris(alloc, &mut uris, at.work.withdrawn.as_slice())?;
         uris.sort_by(|a, b| a.as_str().cmp(b.as_str()))?;
         Ok(Touched { uris })
+    }
+
+    /// The URIs themselves.
+    pub fn uris(&self) -> &[Uri]
+        ensures are { result.now ≡ self.now }
+        ensures rising { AreByUri result.now }
+    {
+        &self.uris
     }
 
     /// Whether a URI is one of them.

@@ -111,4 +111,5 @@ can-plan s live rows n signers finder work are finds =
       serials = serials-of s live rows n signers work are;
       moment = work.moment.from;
       revoked = revoked-of s live rows n signers work are;
+      standing = work.standing;
     }

@@ -1,5 +1,6 @@
 -- The objects of an edition before they are signed.
 use Rattle.std.specs.Prelude.{◌≡◌, ◌≢◌, ◌<◌, ◌≤◌, ◌^◌, List, ◌++◌, map, length, All, AllPairs}
+use Rattle.pub_set.specs.Objects.{Rise}
 use Rattle.issue_values.specs.Publishers.{publishing}
 use Rattle.issue_values.specs.Bodies.{AreRevoked}
 use Rattle.key_roll.specs.declared.rows.KeyRow.{KeyRow}
@@ -22,7 +23,7 @@ use Rattle.issue_make.specs.declared.plans.ObjectPlan.{ObjectPlan}
 abbrev pub puts : IssueInput → Keys → List Draft
 puts s keys = words.drafts s keys ++ words.manifests s keys
 
--- What the planning asks of the rows of the edition's keys.
+-- What the planning asks of the rows of the edition's keys and of what stands.
 pub record CanPlanObjects (s : IssueInput) (keys : Keys) (rows : List KeyRow) (finder : KeyFinder)
     : Type 0 where
   pub names : All (λ row. row.desk < length s.names) rows
@@ -32,6 +33,7 @@ pub record CanPlanObjects (s : IssueInput) (keys : Keys) (rows : List KeyRow) (f
   pub serials : All (λ row. row.next_serial < 2 ^ 62) rows
   pub moment : 946_684_800 ≤ s.work.moment
   pub revoked : All (λ row. AreRevoked s.work.moment row.revoked) rows
+  pub standing : Rise (λ row. row.uri) s.issued
 
 -- It is the plan of that work over those rows.
 pub record IsObjectPlan (s : IssueInput) (keys : Keys) (rows : List KeyRow) (plan : ObjectPlan)

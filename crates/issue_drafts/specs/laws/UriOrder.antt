@@ -209,7 +209,7 @@ search-found {X} {V} key told xs uri i d up inside at =
     sym (subst (λ (u : List ℕ). found_at key told xs u ≡ Some (told (get_or xs i d))) same
     (found-position key told xs i d (apart-from-rise key xs up) inside))
 
-sorted-from-rise : {X : Type 0} (key : X → List ℕ) (xs : List X)
+pub sorted-from-rise : {X : Type 0} (key : X → List ℕ) (xs : List X)
     → Rise key xs → IsSortedBy (λ a b. is_lt (uri_cmp (key a) (key b))) xs
 sorted-from-rise key xs up k d low high =
     let below : uri_cmp (key (get_or xs k d)) (key (get_or xs (k + 1) d)) ≡ Less =

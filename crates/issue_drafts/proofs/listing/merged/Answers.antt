@@ -1,7 +1,9 @@
 use Rattle.std.proofs.Common.{[], ◌++◌, List, map, ap, ◌∙◌}
+use denote.Ref.{Bor}
 use Rattle.std.specs.List.{zip}
 use Rattle.std.specs.List.Sorted.{IsPermutation}
 use Rattle.der.specs.Forms.{AreAll}
+use Rattle.key_roll.specs.declared.issued.IssuedRow.{IssuedRow}
 use Rattle.payloads.specs.ManifestFormats.{IsFile, file_view}
 use Rattle.payloads.specs.declared.values.ListedFile.{ListedFile}
 use Rattle.issue_drafts.specs.Views.{draft_of}
@@ -12,7 +14,7 @@ use Rattle.issue_drafts.proofs.listing.merged.Goals as goal
 
 pub returns-clause-are : goal.returns-clause-are
 returns-clause-are c =
-    let kept = map (kept_file c.args.folder.now) (items_at c.args.issued.now c.args.kept.now) in
+    let kept = map (kept_file c.args.folder.now) (map (λ (row : Bor IssuedRow). row.now) c.args.kept.now) in
     let made = map (made_file c.args.folder.now) (items_at (zip (map draft_of c.args.drafts.now)
     c.args.hashes.now) c.args.made.now) in
     let first : AreAll IsFile (map file_view c.push_kept.new.files.items) =

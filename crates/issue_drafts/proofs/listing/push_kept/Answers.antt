@@ -1,40 +1,41 @@
-use Rattle.std.proofs.Common.{◌≡◌, ℕ, List, Some, length, get_or, map, refl, sym, ap, subst}
-use Rattle.std.specs.List.{slice_get}
-use Rattle.std.proofs.lemmas.Option.{slice_get_read}
+use Rattle.std.proofs.Common.{◌≡◌, ℕ, ◌+◌, List, [], ◌∷◌, ◌++◌, length, get_or, map, take, sym, ap, subst, ◌∙◌, arith}
+use denote.Ref.{Bor}
+use Rattle.std.proofs.lemmas.List.{get_or-map, length-map, map-append, take_more}
 use Rattle.key_roll.specs.declared.issued.IssuedRow.{IssuedRow}
 use Rattle.payloads.specs.ManifestFormats.{file_view}
 use Rattle.issue_drafts.specs.Files.{name_in, kept_file, IsListable}
-use Rattle.issue_drafts.proofs.Filed.{no_position, at-listed, file-more}
+use Rattle.issue_drafts.proofs.Filed.{listed-more}
 use Rattle.issue_drafts.proofs.listing.push_kept.Goals as goal
 
 pub push_file-requires : goal.push_file-requires
 push_file-requires c =
-    let issued = c.args.issued.now in
-    let i = c.loop-entry.entry-index in
-    let position = (get_or c.args.positions.now i no_position).position in
-    let here : slice_get issued position ≡ Some c.index-issued-entry.result =
-    slice_get_read issued (length issued) position c.index-issued-entry.result refl
-    (c.requires.inside i no_position c.loop-entry-test.true) c.index-issued-entry.is in
+    let now : Bor IssuedRow → IssuedRow = λ row. row.now in
+    let rows = c.args.rows.now in
+    let i = c.loop-row.row-index in
+    let row = c.row-item.result in
+    let here : get_or (map now rows) i row.now ≡ row.now =
+    get_or-map now rows i row row.now c.loop-row-test.true ∙ sym (ap now c.row-item.is) in
+    let long : length (map now rows) ≡ length rows = length-map rows now in
     subst (IsListable c.args.folder.now) (sym c.as_str.ensures)
-    (at-listed (λ (row : IssuedRow). IsListable c.args.folder.now row.uri) issued c.args.positions.now i no_position
-    c.index-issued-entry.result c.requires.listable c.loop-entry-test.true here)
+    (subst (λ (r : IssuedRow). IsListable c.args.folder.now r.uri) here
+    (c.requires i row.now (omega (arith, long, c.loop-row-test.true))))
 
-pub loop-entry-preserved : goal.loop-entry-preserved
-loop-entry-preserved c =
-    let issued = c.args.issued.now in
+pub loop-row-preserved : goal.loop-row-preserved
+loop-row-preserved c =
+    let now : Bor IssuedRow → IssuedRow = λ row. row.now in
+    let rows = c.args.rows.now in
     let folder = c.args.folder.now in
-    let i = c.loop-entry.entry-index in
-    let row = c.index-issued-entry.result in
-    let position = (get_or c.args.positions.now i no_position).position in
-    let here : slice_get issued position ≡ Some row =
-    slice_get_read issued (length issued) position row refl (c.requires.inside i no_position c.loop-entry-test.true)
-    c.index-issued-entry.is in
+    let i = c.loop-row.row-index in
+    let row = c.row-item.result in
+    let more : map now (take (i + 1) rows) ≡ map now (take i rows) ++ row.now ∷ [] =
+    ap (map now) (take_more rows i row c.loop-row-test.true
+    ∙ ap (λ (r : Bor IssuedRow). take i rows ++ r ∷ []) (sym c.row-item.is))
+    ∙ map-append now (take i rows) (row ∷ []) in
     let h =
-    file-more (kept_file folder) issued c.args.positions.now i no_position row
-    (map file_view c.args.files.now.items) (map file_view c.loop-entry.files.items)
-    (map file_view c.push_file.new.files.items) (name_in folder c.as_str.result.now, row.hash)
-    c.loop-entry-test.true here
-    c.loop-entry.invariant.files c.loop-entry.invariant.are c.in_ok-push_file.ensures.files
+    listed-more (kept_file folder) (map now (take i rows)) (map now (take (i + 1) rows)) row.now
+    (map file_view c.args.files.now.items) (map file_view c.loop-row.files.items)
+    (map file_view c.push_file.new.files.items) (name_in folder c.as_str.result.now, row.now.hash)
+    more c.loop-row.invariant.files c.loop-row.invariant.are c.in_ok-push_file.ensures.files
     c.in_ok-push_file.ensures.is
-    (ap (λ (u : List ℕ). (name_in folder u, row.hash)) c.as_str.ensures) in
+    (ap (λ (u : List ℕ). (name_in folder u, row.now.hash)) c.as_str.ensures) in
     record { files = h.files; are = h.are }

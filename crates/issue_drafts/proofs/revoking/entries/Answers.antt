@@ -19,7 +19,7 @@ loop-position-preserved c =
     row-more s c.args.touched.now c.args.rows.now c.args.points.now c.loop-position.position
     c.index-rows-position.result c.index-rows-position.result point false c.loop-position.lists.items
     c.push.new.self.items c.new.result
-    c.requires c.loop-position-test.true c.index-rows-position.is refl c.loop-position.invariant
+    c.requires.points c.loop-position-test.true c.index-rows-position.is refl c.loop-position.invariant
     (as-row s c.args.touched.now c.index-rows-position.result point c.of.result.bytes c.in_ok-ended.ended
     c.positions-positions.result.now c.in_ok-entries.entries.items c.new.result
     c.in_ok-ended.ensures c.of.ensures c.positions-positions.ensures c.in_ok-entries.ensures c.new.ensures)
@@ -30,11 +30,11 @@ returns-clause-firsts c = λ keys puts are is.
     let s = input_of c.args.at.now in
     table s keys puts c.args.touched.now c.args.rows.now c.args.points.now c.loop-position.lists.items
     (all-rows s c.args.touched.now c.args.rows.now c.args.points.now c.loop-position.position
-    c.loop-position.lists.items c.requires c.loop-position-test.false c.loop-position.invariant) are is
+    c.loop-position.lists.items c.requires.points c.loop-position-test.false c.loop-position.invariant) are is
 
 pub returns-clause-revoked : goal.returns-clause-revoked
 returns-clause-revoked c = λ from all.
     let s = input_of c.args.at.now in
     all-dated s c.args.touched.now c.args.rows.now c.args.points.now c.loop-position.lists.items
     (all-rows s c.args.touched.now c.args.rows.now c.args.points.now c.loop-position.position
-    c.loop-position.lists.items c.requires c.loop-position-test.false c.loop-position.invariant) from all
+    c.loop-position.lists.items c.requires.points c.loop-position-test.false c.loop-position.invariant) from all

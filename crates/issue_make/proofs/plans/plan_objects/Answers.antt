@@ -27,8 +27,8 @@ manifest_drafts-requires-clause-once c =
     let keys = keys_at c.args.rows.now c.args.finder.now.first_fresh in
     behind-once (words.drafts s keys) (words.manifests s keys) c.requires.once
 
-pub entries-requires : goal.entries-requires
-entries-requires c =
+pub entries-requires-clause-points : goal.entries-requires-clause-points
+entries-requires-clause-points c =
     let s = input_of c.args.input.now in
     let rows = c.args.rows.now in
     let keys = keys_at rows c.args.finder.now.first_fresh in
