@@ -3,6 +3,7 @@ pub mod Reaching
 pub mod Ends
 pub mod Folds
 pub mod Carried
+pub mod Tabled
 pub mod Growing
 pub mod Dues
 pub mod Shown

@@ -5,7 +5,9 @@ use Rattle.pub_set.specs.declared.objects.Object.{Object}
 use Rattle.pub_set.specs.declared.steps.Change.{Change}
 use Rattle.pub_set.specs.declared.steps.Change.TheVariants.{Put, Withdraw}
 use Rattle.pub_set.specs.Objects.{Rise}
-use Rattle.pub_set.specs.Changes.{change_at}
+use Rattle.pub_set.specs.Changes.{uri_of, change_at}
+use Rattle.editions.specs.declared.standing.NextRow.{NextRow}
+use Rattle.editions.specs.declared.standing.NextRow.TheVariants.{Issued, Gone}
 use Rattle.editions.specs.Joining.{at_uri}
 
 -- ---- objects
@@ -39,12 +41,18 @@ pub record IsTableAfter (old : List IssuedRow) (changes : List Change)
 
 -- ---- the two steps of it
 
--- A row goes on where nothing is put or withdrawn.
-abbrev pub kept_row : Option IssuedRow → Option Change → Option IssuedRow
-kept_row row None = row
-kept_row row (Some change) = None
+abbrev pub next_uri : NextRow → List ℕ
+next_uri (Issued row) = row.uri
+next_uri (Gone uri) = uri
 
--- The row of what was issued goes before one that goes on.
-abbrev pub issued_row : Option IssuedRow → Option IssuedRow → Option IssuedRow
-issued_row row None = row
-issued_row row (Some issued) = Some issued
+-- What was issued comes, and what is changed otherwise goes.
+abbrev pub coming_row : Option IssuedRow → Option Change → Option NextRow
+coming_row (Some issued) change = Some (Issued issued)
+coming_row None None = None
+coming_row None (Some change) = Some (Gone (uri_of change))
+
+-- A row goes on where nothing comes.
+abbrev pub next_row : Option IssuedRow → Option NextRow → Option IssuedRow
+next_row row None = row
+next_row row (Some (Issued issued)) = Some issued
+next_row row (Some (Gone uri)) = None

@@ -92,7 +92,7 @@ pub fn join_all<A: AtUri, B: AtUri, C: Joins<A, B>>(
     ensures { IfOk result (λ all. IsJoined A.place B.place C.place C.joined left.now right.now all.items) }
 {
     let (mut stands, mut comes) = (left, right);
-    let mut all = Vec::new(alloc);
+    let mut all = Vec::with_capacity(alloc, left.len().saturating_add(right.len()))?;
     'pairs: while !(stands.is_empty() && comes.is_empty()) {
         let (one, other) = first_pair(stands, comes);
         push_joined(alloc, &mut all, one, other)?;

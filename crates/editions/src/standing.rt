@@ -3,7 +3,8 @@
 ghost use Rattle.std.specs.Prelude.{◌≡◌, refl, IfOk};
 ghost use Rattle.pub_set.specs.Objects.{Rise, IsAscending};
 ghost use Rattle.pub_set.specs.Changes.{uri_of, IsApplied};
-ghost use Rattle.editions.specs.Standing.{object_after, kept_row, issued_row, IsTableAfter};
+ghost use Rattle.editions.specs.Joining.{IsJoined};
+ghost use Rattle.editions.specs.Standing.{object_after, next_uri, coming_row, next_row, IsTableAfter};
 ghost use Rattle.editions.specs.laws.StandingLaws as laws;
 
 use crate::joining::{AtUri, Joins, join_all};
@@ -60,44 +61,69 @@ impl Joins<Object, Change> for Object {
     ghost stays = { laws.object_stays };
 }
 
-// A row goes on where nothing changes.
-impl Joins<IssuedRow, Change> for IssuedRow {
-    ghost joined = { kept_row };
+/// What comes to a URI in the table: the row of what was issued there, or none.
+#[derive(Drop)]
+pub enum NextRow {
+    Issued { row: IssuedRow },
+    Gone { uri: Uri },
+}
+
+impl AtUri for NextRow {
+    ghost place = { next_uri };
+
+    fn uri(&self) -> &Uri {
+        match self {
+            NextRow::Issued { row } => &row.uri,
+            NextRow::Gone { uri } => uri,
+        }
+    }
+}
+
+// What was issued comes, and what is changed otherwise goes.
+impl Joins<IssuedRow, Change> for NextRow {
+    ghost joined = { coming_row };
 
     fn join(
         alloc: Global,
         stands: Option<&IssuedRow>,
         comes: Option<&Change>,
-    ) -> Result<Option<IssuedRow>, AllocError> {
+    ) -> Result<Option<NextRow>, AllocError> {
         match (stands, comes) {
-            (Some(row), None) => Ok(Some(copy_row(alloc, row)?)),
-            _ => Ok(None),
-        }
-    }
-
-    ghost nothing = { refl };
-
-    ghost stays = { laws.kept_stays };
-}
-
-// The row of what was issued goes before one that stands.
-impl Joins<IssuedRow, IssuedRow> for IssuedRow {
-    ghost joined = { issued_row };
-
-    fn join(
-        alloc: Global,
-        stands: Option<&IssuedRow>,
-        comes: Option<&IssuedRow>,
-    ) -> Result<Option<IssuedRow>, AllocError> {
-        match (stands, comes) {
-            (_, Some(row)) | (Some(row), None) => Ok(Some(copy_row(alloc, row)?)),
+            (Some(row), _) => Ok(Some(NextRow::Issued {
+                row: copy_row(alloc, row)?,
+            })),
+            (None, Some(change)) => Ok(Some(NextRow::Gone {
+                uri: change.uri().copy(alloc)?,
+            })),
             (None, None) => Ok(None),
         }
     }
 
     ghost nothing = { refl };
 
-    ghost stays = { laws.issued_stays };
+    ghost stays = { laws.coming_stays };
+}
+
+// A row goes on where nothing comes.
+impl Joins<IssuedRow, NextRow> for IssuedRow {
+    ghost joined = { next_row };
+
+    fn join(
+        alloc: Global,
+        stands: Option<&IssuedRow>,
+        comes: Option<&NextRow>,
+    ) -> Result<Option<IssuedRow>, AllocError> {
+        match (stands, comes) {
+            (_, Some(NextRow::Issued { row })) | (Some(row), None) => {
+                Ok(Some(copy_row(alloc, row)?))
+            }
+            (_, Some(NextRow::Gone { .. })) | (None, None) => Ok(None),
+        }
+    }
+
+    ghost nothing = { refl };
+
+    ghost stays = { laws.next_stays };
 }
 
 // What the object says, once more.
@@ -151,7 +177,22 @@ pub fn next_set(alloc: Global, old: &ObjectSet, changes: &[Change]) -> Result<Ob
     Ok(set)
 }
 
-/// The table of what stands after the changes, of which these rows tell what was issued. Linear in all three.
+/// What comes to the table: the rows of what was issued, and none where something is changed otherwise.
+pub(crate) fn coming_rows(
+    alloc: Global,
+    changes: &[Change],
+    issued: &[IssuedRow],
+) -> Result<Vec<NextRow>, AllocError>
+    requires changes { Rise uri_of changes.now }
+    requires issued { Rise (λ row. row.uri) issued.now }
+    ensures { IfOk result (λ coming. IsJoined (λ row. row.uri) uri_of next_uri coming_row
+        issued.now changes.now coming.items) }
+{
+    join_all::<IssuedRow, Change, NextRow>(alloc, issued, changes)
+}
+
+/// The table of what stands after the changes, of which these rows tell what was issued. Linear in all three; a row
+/// that stays is copied once.
 pub fn next_table(
     alloc: Global,
     old: &[IssuedRow],
@@ -163,7 +204,7 @@ pub fn next_table(
     requires issued { Rise (λ row. row.uri) issued.now }
     ensures { IfOk result (λ rows. IsTableAfter old.now changes.now issued.now rows.items) }
 {
-    let kept = join_all::<IssuedRow, Change, IssuedRow>(alloc, old, changes)?;
-    let rows = join_all::<IssuedRow, IssuedRow, IssuedRow>(alloc, &kept, issued)?;
+    let coming = coming_rows(alloc, changes, issued)?;
+    let rows = join_all::<IssuedRow, NextRow, IssuedRow>(alloc, old, &coming)?;
     Ok(rows)
 }

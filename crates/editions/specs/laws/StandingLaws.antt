@@ -6,7 +6,9 @@ use Rattle.pub_set.specs.declared.steps.Change.{Change}
 use Rattle.pub_set.specs.declared.steps.Change.TheVariants.{Put, Withdraw}
 use Rattle.pub_set.specs.Changes.{uri_of}
 use Rattle.editions.specs.Joining.{IsAt}
-use Rattle.editions.specs.Standing.{object_after, kept_row, issued_row}
+use Rattle.editions.specs.declared.standing.NextRow.{NextRow}
+use Rattle.editions.specs.declared.standing.NextRow.TheVariants.{Issued, Gone}
+use Rattle.editions.specs.Standing.{object_after, next_uri, coming_row, next_row}
 
 pub object_stays : (stands : Option Object) (comes : Option Change) (uri : List ℕ)
     → IsAt (λ object. object.uri) uri stands → IsAt uri_of uri comes
@@ -15,14 +17,16 @@ object_stays held None uri there comes = there
 object_stays held (Some (Put at bytes replaces)) uri there comes = comes
 object_stays held (Some (Withdraw at hash)) uri there comes = tt
 
-pub kept_stays : (stands : Option IssuedRow) (comes : Option Change) (uri : List ℕ)
+pub coming_stays : (stands : Option IssuedRow) (comes : Option Change) (uri : List ℕ)
     → IsAt (λ row. row.uri) uri stands → IsAt uri_of uri comes
-    → IsAt (λ row. row.uri) uri (kept_row stands comes)
-kept_stays row None uri there comes = there
-kept_stays row (Some change) uri there comes = tt
+    → IsAt next_uri uri (coming_row stands comes)
+coming_stays (Some issued) change uri there comes = there
+coming_stays None None uri there comes = tt
+coming_stays None (Some change) uri there comes = comes
 
-pub issued_stays : (stands comes : Option IssuedRow) (uri : List ℕ)
-    → IsAt (λ row. row.uri) uri stands → IsAt (λ row. row.uri) uri comes
-    → IsAt (λ row. row.uri) uri (issued_row stands comes)
-issued_stays row None uri there comes = there
-issued_stays row (Some issued) uri there comes = comes
+pub next_stays : (stands : Option IssuedRow) (comes : Option NextRow) (uri : List ℕ)
+    → IsAt (λ row. row.uri) uri stands → IsAt next_uri uri comes
+    → IsAt (λ row. row.uri) uri (next_row stands comes)
+next_stays row None uri there comes = there
+next_stays row (Some (Issued issued)) uri there comes = comes
+next_stays row (Some (Gone at)) uri there comes = tt

@@ -7,7 +7,7 @@ use Rattle.editions.proofs.joining.join_all.Goals.{then-is_empty, else-is_empty}
 
 pub pairs-init : goal.pairs-init
 pairs-init g c =
-    rw c.new-all.ensures.items
+    rw c.in_ok-all.ensures.items
     (reached_none g.A.AtUri.place g.B.AtUri.place g.C.AtUri.place g.C.Joins.joined c.args.left.now c.args.right.now c.requires.left c.requires.right)
 
 pub pairs-preserved : goal.pairs-preserved
