@@ -1,5 +1,5 @@
 -- What desks and press come to, once no other thread has them.
-use Rattle.std.specs.Prelude.{Bool, Result}
+use Rattle.std.specs.Prelude.{Bool, Result, IfErr}
 use Rattle.std.specs.Prelude.{Some, slice_get}
 use Rattle.std.proofs.Common.{◌≡◌, ℕ, zero, suc, ◌≤◌, List, [], ◌∷◌, ◌++◌, length, get_or, sym, ◌∙◌, subst, arith}
 use Rattle.std.proofs.lemmas.Option.{none-some, slice_get_within, get_or_from_slice_get}
@@ -20,6 +20,7 @@ use Rattle.manager.specs.Run.{editions_of}
 use Rattle.manager.specs.Locked.{LockedValue}
 use Rattle.manager.specs.Closing.{IsClosed}
 use Rattle.manager.specs.Answers.{IsRepeated}
+use Rattle.manager.specs.Risen.{IsRisenPress, IsExportRise}
 use Rattle.manager.specs.Ended.{IsAllMade, AreEnded}
 use Rattle.manager.specs.Ends.{IsHeld, HaveSeen, AreEnds}
 use Rattle.manager.specs.inner.Gathering.{SeeAlike}
@@ -67,8 +68,9 @@ get_front (y ∷ xs) rest (suc place) x is = get_front xs rest place x is
 
 pub ends_are : {D O : Type 0} (disk_of : DiskGhosts D) (outlet_of : OutletGhosts O) (named : Named) (locked : LockedValue D O) (shown : List ShownEdition) (desks : List (View D)) (disk : D) (ring : List SignerState) (outlet : O) (repeated : Result Bool (ExportFault O))
     → IsClosed disk_of outlet_of named locked → IsPrefix shown locked.board.shown → HaveSeen locked.seats desks → disk ≡ locked.press.journal.disk → ring ≡ locked.press.press.ring → outlet ≡ locked.outlet
-    → IsRepeated locked.press.press.last_export locked.press.press.at.serial repeated → AreEnds disk_of outlet_of named shown desks disk ring outlet repeated
-ends_are disk_of outlet_of named locked shown desks disk ring outlet repeated closed told begin disk_is ring_is outlet_is again =
+    → IsRepeated locked.press.press.last_export locked.press.press.at.serial repeated → IfErr repeated (IsExportRise named.faults.outlet (outlet_of.fault_count locked.outlet)) → IsRisenPress disk_of outlet_of named locked.press.journal locked.outlet
+    → AreEnds disk_of outlet_of named shown desks disk ring outlet repeated
+ends_are disk_of outlet_of named locked shown desks disk ring outlet repeated closed told begin disk_is ring_is outlet_is again cause faults =
     let is = over outlet_of named locked closed.is in
     let hold = held (length named.signers) closed.is.lists locked.seats desks is.seen begin in
     record {
@@ -78,6 +80,8 @@ ends_are disk_of outlet_of named locked shown desks disk ring outlet repeated cl
       ring_is = ring_is;
       outlet_is = outlet_is;
       exported = again;
+      cause = subst (λ (o : _). IfErr repeated (IsExportRise named.faults.outlet (outlet_of.fault_count o))) (sym outlet_is) cause;
+      faults = faults;
       shown = told;
       seen = begin;
       stands = hold locked.press.press.at.cut is.made.left.taken_in;

@@ -17,7 +17,7 @@ use Rattle.press_core.specs.Stored.{store_of}
 use Rattle.manager.specs.Named.{Named}
 use Rattle.manager.specs.Found.{AreFound}
 use Rattle.manager.specs.Locked.{LockedValue, IsInDoubt, IsLocked, all_of}
-use Rattle.manager.specs.Closing.{FindsBehind, FindsAll, IsClosed}
+use Rattle.manager.specs.Closing.{doubted_edition, FindsInDoubt, FindsAll, IsClosed}
 
 -- one record more is that of one edition more
 abbrev pub RecordsLaw : Type 0
@@ -32,12 +32,13 @@ module _ {D O : Type 0} (law : RecordsLaw) (outlet_of : OutletGhosts O) (named :
 
   -- what a file is that recovers to the journal's records, and perhaps to the one in doubt
   finds : (editions : List Edition) (found : AreFound named editions) (known : Option (List (List ℕ))) (doubt : Option (List ℕ)) (file : List ℕ) → IsSome known → IfSome known (AreRecords store (all_of editions is.run))
-      → IfSome doubt (IsInDoubt named editions is.lists is.run is.calls locked.press.press.ring locked.press.press.at) → RecoversToInDoubt press_limit known doubt file → FindsBehind outlet_of named locked is file editions
+      → (has : IfSome doubt (IsInDoubt named editions is.lists is.run is.calls locked.press.press.ring locked.press.press.at)) → RecoversToInDoubt press_limit known doubt file
+      → FindsInDoubt store (all_of editions is.run) (doubted_edition named editions is.lists is.run is.calls locked.press.press.ring locked.press.press.at doubt has) file
   finds editions found None doubt file some are has recovers = absurd (false≢true some)
-  finds editions found (Some records) None file some are has recovers = inl (record { records = records; whole = recovers; are = are })
+  finds editions found (Some records) None file some are has recovers = record { records = records; whole = recovers; are = are }
   finds editions found (Some records) (Some entry) file some are has (inl whole) = inl (record { records = records; whole = whole; are = are })
   finds editions found (Some records) (Some entry) file some are has (inr whole) =
-      inr (entry, has, record { records = records ++ entry ∷ []; whole = whole; are = law is.lists (all_of editions is.run) locked.press.press.at has.prepared store records entry (is.each editions found).made.left are has.recorded })
+      inr (record { records = records ++ entry ∷ []; whole = whole; are = law is.lists (all_of editions is.run) locked.press.press.at has.prepared store records entry (is.each editions found).made.left are has.recorded })
 
   finds_here : (file : List ℕ) → IsSome locked.press.journal.records → RecoversToInDoubt locked.press.journal.limit locked.press.journal.records locked.press.journal.doubt file → FindsAll outlet_of named locked is file
   finds_here file some recovers editions found =

@@ -17,6 +17,8 @@ pub mod Refused
 pub mod Placed
 pub mod Knowing
 pub mod Taking
+pub mod Risen
+pub mod Doubted
 pub mod Making
 pub mod Reading
 pub mod Seating

@@ -1,8 +1,9 @@
 -- What was made ready can be put behind its locks.
 use Rattle.std.proofs.Common.{◌≡◌, ◌<◌, ◌+◌, ℕ, zero, suc, List, [], ◌∷◌, length, map, get_or, refl, sym, ap, ◌∙◌, subst, arith}
-use Rattle.std.specs.Prelude.{⊤, All, IfSome, OnOk, Result, Ok, Err}
+use Rattle.std.specs.Prelude.{⊤, All, Option, None, IfSome, OnOk, Result, Ok, Err}
 use Rattle.std.proofs.lemmas.List.{length-map}
 use Rattle.atomic_table.specs.Seated.{TableId}
+use Rattle.disk_api.specs.declared.disk.Disk.{Ghosts as DiskGhosts}
 use Rattle.outlet_api.specs.declared.outlet.Outlet.{Ghosts as OutletGhosts}
 use Rattle.outlet_api.specs.declared.exports.ExportFault.{ExportFault}
 use Rattle.authority_book.specs.declared.commands.Command.{Command}
@@ -41,7 +42,8 @@ use Rattle.manager.specs.Pressing.{exported_as}
 use Rattle.manager.specs.Resumed.{IsDeskOf, AreDesksOf, IsResumed}
 use Rattle.manager.specs.Run.{shown_at}
 use Rattle.manager.specs.Starting.{AreOpenedDesks, AreCounted, first_seat}
-use Rattle.manager.specs.Ready.{word_in, desk_in, records_in, words_of, named_of, ShowsItsLast, IsReady, CanStart}
+use Rattle.manager.specs.Risen.{IsRise, IsRisenDesk, AreRisenDesks, IsRisenPress}
+use Rattle.manager.specs.Ready.{word_in, desk_in, records_in, faults_in, words_of, named_of, ShowsItsLast, IsReady, CanStart}
 use Rattle.manager.proofs.Anchored.{names_below}
 use Rattle.manager.proofs.Counting.{desks_of}
 use Rattle.manager.proofs.Exporting.{FilesLaw, IsExportOf, shows_newest}
@@ -102,10 +104,32 @@ module _ {D : Type 0} (words : ℕ → TableId) (named : Named) where
           found = sym (ap (λ (n : ℕ). get_or named.records n []) here ∙ found 0 (omega arith));
           recovered = head_of (λ (c : CountedView D). c.recovered ≡ length c.desk.records) one opened counted;
           listed = record { commands = list; has = are.0.is.has; signed = are.0.signed };
+          is_open = are.0.is.is_open;
         },
         opened_from (suc from) lists opened are.1 (tail_of (λ (c : CountedView D). c.recovered ≡ length c.desk.records) one opened counted)
             (λ k within. let next : suc from + k ≡ from + suc k = omega arith in ap words next ∙ word (suc k) (omega (arith, within)))
             (λ k within. let next : suc from + k ≡ from + suc k = omega arith in ap (λ (n : ℕ). get_or named.records n []) next ∙ found (suc k) (omega (arith, within))),
+      )
+
+-- none of their disks failed since then
+module _ {D : Type 0} (disk_of : DiskGhosts D) (named : Named) where
+  risen_desk : (desk : View D) → desk.shut ≡ None → get_or named.faults.desks desk.number 0 ≡ disk_of.fault_count desk.disk → IsRisenDesk disk_of named desk
+  risen_desk desk is_open count = record {
+    later = omega (arith, count);
+    shut = subst (λ (s : Option (ℕ × ℕ)). IfSome s (IsRise (get_or named.faults.desks desk.number 0) (disk_of.fault_count desk.disk))) (sym is_open) tt;
+  }
+
+  risen_from : (signers from : ℕ) (lists : List (List Command)) (opened : List (CountedView D)) → AreSigned signers from lists (map desk_in opened)
+      → ((k : ℕ) → k < length opened → get_or named.faults.desks (from + k) 0 ≡ get_or (map (faults_in disk_of) opened) k 0)
+      → AreRisenDesks disk_of named (map desk_in opened)
+  risen_from signers from [] [] are count = tt
+  risen_from signers from [] (one ∷ opened) are count = absurd are
+  risen_from signers from (list ∷ lists) [] are count = absurd are
+  risen_from signers from (list ∷ lists) (one ∷ opened) are count =
+      let here : one.desk.number ≡ from + 0 = are.0.is.number_is ∙ omega arith in (
+        risen_desk one.desk are.0.is.is_open (ap (λ (n : ℕ). get_or named.faults.desks n 0) here ∙ count 0 (omega arith)),
+        risen_from signers (suc from) lists opened are.1
+            (λ k within. let next : suc from + k ≡ from + suc k = omega arith in ap (λ (n : ℕ). get_or named.faults.desks n 0) next ∙ count (suc k) (omega (arith, within))),
       )
 
 abbrev seen_in : FollowerSeat → List (List ℕ)
@@ -198,13 +222,13 @@ kept_session : (repository : Repository) (editions : List RrdpEdition) → (kept
 kept_session repository [] = refl
 kept_session repository (edition ∷ older) = refl
 
-module _ {D O : Type 0} (law : OneList) (outlet_of : OutletGhosts O) (opened : List (CountedView D)) (first : StoredValue D) (last : LastExport) (board : BoardSeat) (outlet : O)
+module _ {D O : Type 0} (law : OneList) (disk_of : DiskGhosts D) (outlet_of : OutletGhosts O) (opened : List (CountedView D)) (first : StoredValue D) (last : LastExport) (board : BoardSeat) (outlet : O)
     (is : IsResumed (map desk_in opened) first) where
   abbrev stored : StoredValue D
   stored = exported_as last first
 
   abbrev named : Named
-  named = named_of outlet_of opened stored board outlet
+  named = named_of disk_of outlet_of opened stored board outlet
 
   abbrev locked : LockedValue D O
   locked = lock stored (map first_seat opened) board outlet
@@ -265,7 +289,7 @@ module _ {D O : Type 0} (law : OneList) (outlet_of : OutletGhosts O) (opened : L
         shows = shows is.lists editions found.count (left editions found) (record { kept = found.files; set = found.set });
       }
 
-    can_start_exported : CanStart outlet_of opened stored board outlet
+    can_start_exported : CanStart disk_of outlet_of opened stored board outlet
     can_start_exported = record {
       count = sym (length-map opened desk_in) ∙ (desks_long 0 is.lists (map desk_in opened) is.are ∙ is.long);
       desks = opened_from (words_of opened) named 0 is.lists opened signed counted
@@ -291,13 +315,23 @@ module _ {D O : Type 0} (law : OneList) (outlet_of : OutletGhosts O) (opened : L
         limit = ap (λ (j : JournalView D). j.limit) is.goes_on.journal ∙ is.order.limit;
         settled = ap (λ (j : JournalView D). j.doubt) is.goes_on.journal ∙ is.order.settled;
       };
+      desk_faults = risen_from disk_of named (length first.press.ring) 0 is.lists opened signed
+          (λ k within. let same : 0 + k ≡ k = omega arith in ap (λ (n : ℕ). get_or (map (faults_in disk_of) opened) n 0) same);
+      press_faults = record {
+        disk = record {
+          later = omega arith;
+          shut = subst (λ (s : Option (ℕ × ℕ)). IfSome s (IsRise (disk_of.fault_count first.journal.disk) (disk_of.fault_count first.journal.disk)))
+              (sym (ap (λ (j : JournalView D). j.shut) is.goes_on.journal ∙ is.order.is_open)) tt;
+        };
+        outlet_later = omega arith;
+      };
     }
 
-pub can_start : {D O : Type 0} → OneList → (outlet_of : OutletGhosts O) (opened : List (CountedView D)) (stored : StoredValue D) (board : BoardSeat) (outlet : O)
-    → IsReady outlet_of opened stored board outlet → CanStart outlet_of opened stored board outlet
-can_start law outlet_of opened stored board outlet is =
+pub can_start : {D O : Type 0} → OneList → (disk_of : DiskGhosts D) (outlet_of : OutletGhosts O) (opened : List (CountedView D)) (stored : StoredValue D) (board : BoardSeat) (outlet : O)
+    → IsReady outlet_of opened stored board outlet → CanStart disk_of outlet_of opened stored board outlet
+can_start law disk_of outlet_of opened stored board outlet is =
     let last = stored.press.last_export in
-    subst (λ (s : StoredValue _). CanStart outlet_of opened s board outlet) (sym is.press)
-    (can_start_exported law outlet_of opened is.first last board outlet is.resumed is.recovered
+    subst (λ (s : StoredValue _). CanStart disk_of outlet_of opened s board outlet) (sym is.press)
+    (can_start_exported law disk_of outlet_of opened is.first last board outlet is.resumed is.recovered
     (is.shown ∙ ap (λ (s : StoredValue _). shown_at s.press.at ∷ []) is.press)
     (subst (λ (s : StoredValue _). ShowsItsLast outlet_of s outlet) is.press is.shows))

@@ -27,7 +27,7 @@ use Rattle.desk_core.specs.declared.faults.DeskFault.TheVariants.{Shut, Verdict,
 use Rattle.manager.specs.Lists.{IsListed}
 use Rattle.manager.specs.Passes.{IsMore}
 use Rattle.manager.specs.Commanding.{CanCome, IsTaken, IsGivenBy, IsRefusedAt}
-use Rattle.manager.proofs.Knowing.{prefix_on, more_on, fold_append}
+use Rattle.manager.proofs.Knowing.{prefix_none, prefix_on, more_on, fold_append}
 
 -- ---- the signers of the names
 
@@ -94,10 +94,10 @@ module _ {D : Type 0} (signers : ℕ) (command : Command) (old new : View D) (wa
     fits = subst (λ (l : List (List ℕ)). held_by l + needed_for command ≤ journal_limit) was.has.recorded.spelled can.fits;
   }
 
-  pub taken_is : (count : ℕ) (f next : FollowerSeat) → next.seen ≡ new.records → IsPrefix f.seen next.seen → new.records ≡ old.records ++ spelling command ∷ []
+  pub taken_is : (count : ℕ) (f next : FollowerSeat) → f.seen ≡ old.records → next.seen ≡ new.records → IsPrefix f.seen next.seen → new.records ≡ old.records ++ spelling command ∷ []
       → next.mine ≡ f.mine ++ (length old.records, spelling command) ∷ [] → (next.word ≡ f.word) × (next.recovered ≡ f.recovered) → count ≡ length new.records
       → IsTaken old.number command signers count f next
-  taken_is count f next seen grows recorded made kept counted =
+  taken_is count f next whole seen grows recorded made kept counted =
       let spelled : old.records ≡ map spelling was.commands = was.has.recorded.spelled in
       let long : length old.records ≡ length was.commands = ap length spelled ∙ length-map was.commands spelling in
       record {
@@ -107,6 +107,7 @@ module _ {D : Type 0} (signers : ℕ) (command : Command) (old new : View D) (wa
         can_come = can_come;
         counted = counted ∙ (ap length recorded ∙ (length_push old.records (spelling command) ∙ ap (λ (n : ℕ). n + 1) long));
         grows = grows;
+        behind = subst (λ (l : List (List ℕ)). IsPrefix f.seen l) (whole ∙ spelled) (prefix_none f.seen);
         made = same_seat next (record f {
           seen = map spelling was.commands ++ spelling command ∷ [];
           mine = f.mine ++ (length was.commands, spelling command) ∷ [];
@@ -174,6 +175,7 @@ taken_from desk command signers count a b c more is = record {
   can_come = is.can_come;
   counted = is.counted;
   grows = prefix_on a.seen b.seen c.seen more.grows is.grows;
+  behind = prefix_on a.seen b.seen (map spelling is.before) more.grows is.behind;
   made = is.made ∙ ap (λ (s : FollowerSeat). record s {
     seen = map spelling is.before ++ spelling command ∷ [];
     mine = s.mine ++ (length is.before, spelling command) ∷ [];

@@ -30,7 +30,7 @@ pub record CanCome (desk : ℕ) (before : List Command) (command : Command) (sig
 
 -- The command was accepted: it stands behind all others of the desk, and is counted. What was
 -- seen grows by all that the desk has then; what was made is the record of the command, at its
--- place, and nothing else.
+-- place, which is behind all that was seen before, and nothing else.
 pub record IsTaken (desk : ℕ) (command : Command) (signers count : ℕ) (old new : FollowerSeat)
     : Type 0 where
   pub before : List Command
@@ -38,6 +38,7 @@ pub record IsTaken (desk : ℕ) (command : Command) (signers count : ℕ) (old n
   pub can_come : CanCome desk before command signers
   pub counted : count ≡ length before + 1
   pub grows : IsPrefix old.seen new.seen
+  pub behind : IsPrefix old.seen (map spelling before)
   pub made : new ≡ record old {
     seen = map spelling before ++ spelling command ∷ [];
     mine = old.mine ++ (length before, spelling command) ∷ [];

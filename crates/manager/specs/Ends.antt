@@ -1,5 +1,5 @@
 -- What desks and press come to, once no other thread has them.
-use Rattle.std.specs.Prelude.{◌≡◌, ◌≤◌, ℕ, Bool, List, Some, Result, All, length, slice_get}
+use Rattle.std.specs.Prelude.{◌≡◌, ◌≤◌, ℕ, Bool, List, Some, Result, All, IfErr, length, slice_get}
 use mathlib.Core.List.{IsPrefix}
 use Rattle.disk_api.specs.declared.disk.Disk.{Ghosts as DiskGhosts}
 use Rattle.outlet_api.specs.declared.outlet.Outlet.{Ghosts as OutletGhosts}
@@ -18,6 +18,7 @@ use Rattle.manager.specs.Found.{AreFound}
 use Rattle.manager.specs.Locked.{LockedValue, AreFoundSteps, IsInDoubt}
 use Rattle.manager.specs.Closing.{IsClosed}
 use Rattle.manager.specs.Answers.{IsRepeated}
+use Rattle.manager.specs.Risen.{IsRisenPress, IsExportRise}
 
 -- This cut takes in no more commands of a desk than the desk has.
 abbrev pub IsHeld : {D : Type 0} → List (View D) → List ℕ → Type 0
@@ -41,7 +42,8 @@ AreFoundHeld named calls desks = (editions : List Edition) (vouched : Vouched)
 -- its editions were made are what the desks' lists begin with; the editions that were seen are
 -- among those that it showed, which are the one found last and those of this run. So neither the
 -- edition that stands nor any other of this run takes in a command that its desk hasn't, and so
--- of one in doubt. The last edition was brought to the outlet, before or now, or couldn't be.
+-- of one in doubt. The last edition was brought to the outlet, before or now, or couldn't be; where the
+-- outlet failed then, or the disk before, its count of faults rose since the start.
 pub record AreEnds {D O : Type 0} (disk_of : DiskGhosts D) (outlet_of : OutletGhosts O)
     (named : Named) (viewed : List ShownEdition) (desks : List (View D)) (disk : D)
     (ring : List SignerState) (outlet : O) (repeated : Result Bool (ExportFault O)) : Type 0 where
@@ -51,6 +53,8 @@ pub record AreEnds {D O : Type 0} (disk_of : DiskGhosts D) (outlet_of : OutletGh
   pub ring_is : ring ≡ locked.press.press.ring
   pub outlet_is : outlet ≡ locked.outlet
   pub exported : IsRepeated locked.press.press.last_export locked.press.press.at.serial repeated
+  pub cause : IfErr repeated (IsExportRise named.faults.outlet (outlet_of.fault_count outlet))
+  pub faults : IsRisenPress disk_of outlet_of named locked.press.journal locked.outlet
   pub shown : IsPrefix viewed locked.board.shown
   pub seen : HaveSeen locked.seats desks
   pub stands : IsHeld desks locked.press.press.at.cut

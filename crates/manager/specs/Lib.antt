@@ -1,6 +1,7 @@
 pub mod Named
 pub mod Lists
 pub mod Found
+pub mod Risen
 pub mod Gathered
 pub mod Run
 pub mod Locked

@@ -1,9 +1,10 @@
 -- The commands of the desks, as those know them who follow the desks' words.
-use Rattle.std.specs.Prelude.{◌≡◌, ◌<◌, ⊤, ℕ, suc, List, [], ◌∷◌, map, All, Some, slice_get, get_or}
+use Rattle.std.specs.Prelude.{◌≡◌, ◌↔◌, ◌<◌, ⊤, ℕ, suc, List, [], ◌∷◌, ◌++◌, map, All, None, Some, IfSome, slice_get, get_or}
 use Rattle.atomic_table.specs.Seated.{TableId}
 use Rattle.commit_word.specs.Seats.{FollowerSeat}
 use Rattle.authority_book.specs.declared.commands.Command.{Command}
 use Rattle.authority_book.specs.Fold.{fold_of}
+use Rattle.cmd_codec.specs.Spelling.{spelling}
 use Rattle.desk_core.specs.View.{View}
 use Rattle.desk_core.specs.Commands.{Records, HasCommands}
 
@@ -52,3 +53,17 @@ pub record IsListed {D : Type 0} (signers : ℕ) (desk : View D) : Type 0 where
   pub commands : List Command
   pub has : HasCommands desk commands
   pub signed : All (λ name. name.signer < signers) desk.settings.names
+
+-- The entry is the record of a command that may stand next: whatever commands the desk has, its records
+-- and this one are those of these commands and that one.
+pub record IsNextEntry {D : Type 0} (desk : View D) (entry : List ℕ) : Type 0 where
+  pub command : Command
+  pub spelled : entry ≡ spelling command
+  pub next : (commands : List Command) → HasCommands desk commands
+      → Records desk.number (desk.records ++ entry ∷ []) (commands ++ command ∷ [])
+
+-- Where a record is in doubt it is that of a command which may stand next; and the desk is shut just
+-- where one is.
+pub record IsDoubted {D : Type 0} (desk : View D) : Type 0 where
+  pub shut : (desk.shut ≡ None) ↔ (desk.doubt ≡ None)
+  pub doubt : IfSome desk.doubt (IsNextEntry desk)

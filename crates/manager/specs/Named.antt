@@ -8,9 +8,16 @@ use Rattle.notice_board.specs.declared.shown.ListId.{ListId}
 use Rattle.editions.specs.PublishedState.{PublishedStateValue}
 use Rattle.rrdp_state.specs.Kept.{Kept}
 
+-- How many calls of the disks of the desks, of the press's disk and of the outlet had failed.
+pub record FaultCounts : Type 0 where
+  pub desks : List ℕ
+  pub press : ℕ
+  pub outlet : ℕ
+
 -- The bases of the repository and the session of its RRDP files; the records of each desk; what stands
 -- after the last edition, the RRDP files that are kept of the editions, and the records of the press's
--- journal, where its disk tells; the signers, what the outlet showed, and the board's list.
+-- journal, where its disk tells; the signers, what the outlet showed, the board's list, and the counts
+-- of faults.
 pub record Named : Type 0 where
   pub site : Bases
   pub session : List ℕ
@@ -21,6 +28,7 @@ pub record Named : Type 0 where
   pub signers : List SignerState
   pub files : Option Files
   pub list : ListId
+  pub faults : FaultCounts
 
 abbrev pub nothing_at : PublishedStateValue
 nothing_at = record {
@@ -56,4 +64,5 @@ nothing_named = record {
   signers = [];
   files = None;
   list = record { number = 0; log_name = 0; cells_name = 0 };
+  faults = record { desks = []; press = 0; outlet = 0 };
 }

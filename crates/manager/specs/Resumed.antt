@@ -1,5 +1,5 @@
 -- A press as opening leaves it, behind desks that were opened.
-use Rattle.std.specs.Prelude.{◌≡◌, ◌<◌, ⊤, ℕ, suc, List, [], ◌∷◌, All, IfSome, length, get_or}
+use Rattle.std.specs.Prelude.{◌≡◌, ◌<◌, ⊤, ℕ, suc, List, [], ◌∷◌, None, All, IfSome, length, get_or}
 use Rattle.authority_book.specs.declared.commands.Command.{Command}
 use Rattle.authority_book.specs.Fold.{fold_of}
 use Rattle.desk_core.specs.View.{View}
@@ -13,10 +13,11 @@ use Rattle.press_core.specs.Resuming.{GoOnFrom, GoesOn}
 use Rattle.press_core.specs.Stored.{StoredValue}
 use Rattle.manager.specs.Passes.{anchor_desk}
 
--- The desk of that number has these commands.
+-- The desk of that number has these commands, and its journal is open.
 pub record IsDeskOf {D : Type 0} (number : ℕ) (list : List Command) (desk : View D) : Type 0 where
   pub number_is : desk.number ≡ number
   pub has : HasCommands desk list
+  pub is_open : desk.shut ≡ None
 
 -- So of each desk, from this number on.
 abbrev pub AreDesksOf : {D : Type 0} → ℕ → List (List Command) → List (View D) → Type 0

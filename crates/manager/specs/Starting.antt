@@ -1,5 +1,5 @@
 -- What lies behind the desks' locks at first, and what the first pass knows.
-use Rattle.std.specs.Prelude.{◌≡◌, ◌<◌, ⊤, ℕ, suc, List, [], ◌∷◌, length, get_or}
+use Rattle.std.specs.Prelude.{◌≡◌, ◌<◌, ⊤, ℕ, suc, List, [], ◌∷◌, None, length, get_or}
 use Rattle.atomic_table.specs.Seated.{TableId}
 use Rattle.commit_word.specs.Seats.{FollowerSeat}
 use Rattle.authority_book.specs.Verdict.{most_authorities}
@@ -9,8 +9,8 @@ use Rattle.manager.specs.Named.{Named}
 use Rattle.manager.specs.Lists.{seat_at, IsListed}
 use Rattle.manager.specs.Passes.{PassValue}
 
--- A desk that was opened: it has that number, and the word of that number begins to count at the
--- records that were found there. The names that its commands list have their signers.
+-- A desk that was opened, and is open: it has that number, and the word of that number begins to count at
+-- the records that were found there. The names that its commands list have their signers.
 pub record IsOpenedDesk {D : Type 0} (words : ℕ → TableId) (named : Named) (number : ℕ)
     (desk : CountedView D) : Type 0 where
   pub number_is : desk.desk.number ≡ number
@@ -18,6 +18,7 @@ pub record IsOpenedDesk {D : Type 0} (words : ℕ → TableId) (named : Named) (
   pub found : desk.desk.records ≡ get_or named.records number []
   pub recovered : desk.recovered ≡ length desk.desk.records
   pub listed : IsListed (length named.signers) desk.desk
+  pub is_open : desk.desk.shut ≡ None
 
 -- So is each of these, from that number on.
 abbrev pub AreOpenedDesks : {D : Type 0} → (ℕ → TableId) → Named → ℕ → List (CountedView D) → Type 0

@@ -6,6 +6,7 @@ ghost use Rattle.authority_book.specs.declared.commands.Command.{Command};
 ghost use Rattle.desk_core.specs.Answers.{IsDeskFault};
 ghost use Rattle.desk_core.specs.Commands.{HasCommands};
 ghost use Rattle.manager.specs.Commanding.{IsTaken, IsRefusedAt};
+ghost use Rattle.manager.specs.Risen.{IsRisenDesk};
 
 use crate::Names;
 use authority_book::{Command, Config};
@@ -25,23 +26,27 @@ pub struct LockedDesk<N: Names, D: Disk> {
 impl<N: Names, D: Disk> Model for LockedDesk<N, D> {
     ghost use Rattle.std.specs.Prelude.{◌≡◌, length};
     ghost use Rattle.desk_core.specs.Counted.{CountedView};
-    ghost use Rattle.manager.specs.Lists.{IsListed};
+    ghost use Rattle.manager.specs.Lists.{IsListed, IsDoubted};
+    ghost use Rattle.manager.specs.Risen.{IsRisenDesk};
 
     ghost Value = { CountedView D };
 
     ghost view = { λ l. l.desk };
 
-    ghost invariant = { λ l. (l.desk.word ≡ N.words l.desk.desk.number) × IsListed (length N.named.signers) l.desk.desk };
+    ghost invariant = { λ l. (l.desk.word ≡ N.words l.desk.desk.number) × IsListed (length N.named.signers) l.desk.desk
+        × IsRisenDesk D.Disk N.named l.desk.desk × IsDoubted l.desk.desk };
 }
 
 impl<N: Names, D: Disk> LockedDesk<N, D> {
     ghost use Rattle.std.specs.Prelude.{◌≡◌, length};
-    ghost use Rattle.manager.specs.Lists.{IsListed};
+    ghost use Rattle.manager.specs.Lists.{IsListed, IsDoubted};
 
     /// A desk to be put behind a lock.
     pub fn new(desk: CountedDesk<D>) -> LockedDesk<N, D>
         requires word { desk.word ≡ N.words desk.desk.number }
         requires listed { IsListed (length N.named.signers) desk.desk }
+        requires faults { IsRisenDesk D.Disk N.named desk.desk }
+        requires doubted { IsDoubted desk.desk }
         ensures { result ≡ desk }
     {
         LockedDesk {
@@ -112,6 +117,8 @@ impl<N: Names, D: Disk> LockedDesk<N, D> {
         ensures number { self.new.desk.number ≡ self.old.desk.number }
         ensures word_kept { self.new.word ≡ self.old.word }
     {
+        // It goes behind all that the follower had seen.
+        self.tell(alloc, word, follower);
         let count = match self.desk.commit(alloc, word, follower, command, signers) {
             Ok(count) => count,
             Err(fault) => return Err(fault),
@@ -132,6 +139,8 @@ impl<N: Names, D: Disk> LockedDesk<N, D> {
         ensures desk { result ≡ self }
         ensures word { result.word ≡ N.words result.desk.number }
         ensures listed { IsListed (length N.named.signers) result.desk }
+        ensures faults { IsRisenDesk D.Disk N.named result.desk }
+        ensures doubted { IsDoubted result.desk }
     {
         self.desk
     }

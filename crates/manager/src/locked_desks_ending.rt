@@ -3,7 +3,8 @@ ghost use Rattle.std.specs.Prelude.{◌≡◌, ◌≤◌, [], length, vec_capaci
 ghost use Rattle.authority_book.specs.Verdict.{most_authorities};
 ghost use Rattle.manager.specs.inner.AtPlaces.{AreWords};
 ghost use Rattle.manager.specs.Passes.{AreSeatsOf};
-ghost use Rattle.manager.specs.Ended.{IsEndedDesk, AreEnded};
+ghost use Rattle.manager.specs.Ended.{IsEndedDesk, AreEnded, IsLeftDesk, AreLeftDesks};
+ghost use Rattle.manager.specs.Risen.{IsRisenDesk, AreRisenDesks};
 
 use crate::{DeskSeat, LockedDesk, LockedDesks, Names, Pass};
 use commit_word::Word;
@@ -20,7 +21,9 @@ impl<N: Names, D: Disk> LockedDesks<N, D> {
     pub fn close<R: Wait>(self, rt: &R, alloc: Global, pass: Pass<N>, into: &mut Vec<Desk<D>>)
         requires empty { into.old.items ≡ [] }
         requires room { most_authorities ≤ vec_capacity into.old }
-        ensures { AreEnded pass.seats into.new.items }
+        ensures ended { AreEnded pass.seats into.new.items }
+        ensures left { AreLeftDesks (length N.named.signers) into.new.items }
+        ensures faults { AreRisenDesks D.Disk N.named into.new.items }
     {
         let (words, locks) = self.into_parts();
         end_all(rt, alloc, words.into_vec(), locks, pass.into_seats(), into);
@@ -42,7 +45,9 @@ fn end_all<N: Names, D: Disk, R: Wait>(
     requires seats { AreSeatsOf N.words N.named seats.items }
     requires empty { into.old.items ≡ [] }
     requires room { length seats.items ≤ vec_capacity into.old }
-    ensures { AreEnded seats.items (reverse into.new.items) }
+    ensures ended { AreEnded seats.items (reverse into.new.items) }
+    ensures left { AreLeftDesks (length N.named.signers) (reverse into.new.items) }
+    ensures faults { AreRisenDesks D.Disk N.named (reverse into.new.items) }
 {
     let mut words = words;
     let mut locks = locks;
@@ -73,12 +78,15 @@ fn end<N: Names, D: Disk, R: Wait>(
 ) -> Desk<D>
     requires word { word ≡ N.words number }
     requires seat { seat.word ≡ N.words number }
-    ensures { IsEndedDesk number seat result }
+    ensures ended { IsEndedDesk number seat result }
+    ensures left { IsLeftDesk (length N.named.signers) result }
+    ensures faults { IsRisenDesk D.Disk N.named result }
 {
     let mut desk = numbered(rt, lock.into_inner(), number);
     let mut seat = seat;
     seat.end(rt, alloc, &word, &mut desk);
-    desk.into_inner().into_desk(word)
+    let counted = desk.into_inner();
+    counted.into_desk(word)
 }
 
 // The desk, where it is the one of that number. It waits for ever where it isn't, which never comes.

@@ -1,9 +1,11 @@
 //! The desks are put behind their locks.
-ghost use Rattle.std.specs.Prelude.{◌≡◌, ◌<◌, ◌≤◌, ◌+◌, ◌++◌, [], ◌∷◌, All, map, length, vec_capacity, IfOk, IfErr, List};
+ghost use Rattle.std.specs.Prelude.{◌≡◌, ◌<◌, ◌≤◌, ◌+◌, ◌++◌, [], ◌∷◌, None, All, map, length, vec_capacity, IfOk, IfErr, List};
 ghost use Rattle.authority_book.specs.Verdict.{most_authorities};
 ghost use Rattle.notice_board.specs.declared.shown.ShownEdition.{ShownEdition};
 ghost use Rattle.manager.specs.Lists.{IsListed};
 ghost use Rattle.manager.specs.Starting.{AreOpenedDesks, IsFirstPass, first_seat, first_places};
+ghost use Rattle.manager.specs.Ready.{desk_in};
+ghost use Rattle.manager.specs.Risen.{IsRisenDesk, AreRisenDesks};
 
 use crate::{DeskSeat, Followers, LockedDesk, LockedDesks, Names, OpenedDesk, Pass, Words};
 use commit_word::{Follower, Word};
@@ -47,6 +49,7 @@ impl<N: Names, D: Disk> LockedDesks<N, D> {
         viewers: Vec<Viewer>,
     ) -> Result<StartedDesks<N, D>, UnstartedDesks<D>>
         requires desks { (length desks.items ≡ most_authorities) × AreOpenedDesks N.words N.named 0 desks.items }
+        requires faults { AreRisenDesks D.Disk N.named (map desk_in desks.items) }
         requires signers { signers ≡ length N.named.signers }
         requires viewers { (length viewers.items ≡ first_places + 1) × All (λ viewer. viewer.list ≡ N.named.list) viewers.items }
         ensures first { IfOk result (λ started. IsFirstPass N.named started.pass) }
@@ -98,6 +101,7 @@ fn reserved<N: Names, D: Disk>(alloc: Global, count: usize) -> Result<Parts<N, D
 // Puts these desks, from the first number on, into empty parts with room for them.
 fn put_all<N: Names, D: Disk>(alloc: Global, desks: Vec<OpenedDesk<D>>, parts: &mut Parts<N, D>)
     requires desks { AreOpenedDesks N.words N.named 0 desks.items }
+    requires faults { AreRisenDesks D.Disk N.named (map desk_in desks.items) }
     requires words { (parts.old.words.items ≡ []) × (length desks.items ≤ vec_capacity parts.old.words) }
     requires locks { (parts.old.locks.items ≡ []) × (length desks.items ≤ vec_capacity parts.old.locks) }
     requires seats { (parts.old.seats.items ≡ []) × (length desks.items ≤ vec_capacity parts.old.seats) }
@@ -117,6 +121,8 @@ fn put_all<N: Names, D: Disk>(alloc: Global, desks: Vec<OpenedDesk<D>>, parts: &
 fn put<N: Names, D: Disk>(alloc: Global, desk: CountedDesk<D>, word: Word, parts: &mut Parts<N, D>)
     requires word { (desk.word ≡ word) × (word ≡ N.words desk.desk.number) }
     requires listed { IsListed (length N.named.signers) desk.desk }
+    requires is_open { desk.desk.shut ≡ None }
+    requires faults { IsRisenDesk D.Disk N.named desk.desk }
     requires recovered { desk.recovered ≡ length desk.desk.records }
     requires words { length parts.old.words.items < vec_capacity parts.old.words }
     requires locks { length parts.old.locks.items < vec_capacity parts.old.locks }

@@ -17,6 +17,8 @@ ghost use Rattle.manager.specs.Pressing.{exported_as};
 ghost use Rattle.manager.specs.Made.{HasMade, HasMadeNone, MayHaveMade};
 ghost use Rattle.manager.specs.Closing.{IsClosed};
 ghost use Rattle.press_core.specs.Exports.{ended_by};
+ghost use Rattle.outlet_api.specs.Faults.{IsCauseOf};
+ghost use Rattle.manager.specs.Risen.{IsRisenPress, IsExportRise};
 ghost use Rattle.press_core.specs.declared.last_export.LastExport.TheVariants.{Done, Failed};
 
 use crate::pressing::{commit_shown, make_ready};
@@ -59,12 +61,14 @@ pub struct LockedPress<N: Names, D: Disk, S: Signer, O: Outlet> {
 
 impl<N: Names, D: Disk, S: Signer, O: Outlet> Model for LockedPress<N, D, S, O> {
     ghost use Rattle.manager.specs.Locked.{LockedValue, IsLocked};
+    ghost use Rattle.manager.specs.Risen.{IsRisenPress};
 
     ghost Value = { LockedValue D O };
 
     ghost view = { λ l. record { press = l.press; seats = l.followers; board = l.board; outlet = l.outlet } };
 
-    ghost invariant = { λ l. IsLocked O.Outlet N.named (record { press = l.press; seats = l.followers; board = l.board; outlet = l.outlet }) };
+    ghost invariant = { λ l. IsLocked O.Outlet N.named (record { press = l.press; seats = l.followers; board = l.board; outlet = l.outlet })
+        × IsRisenPress D.Disk O.Outlet N.named l.press.journal l.outlet };
 }
 
 impl<N: Names, D: Disk, S: Signer, O: Outlet> LockedPress<N, D, S, O> {
@@ -77,7 +81,8 @@ impl<N: Names, D: Disk, S: Signer, O: Outlet> LockedPress<N, D, S, O> {
         board: Board,
         outlet: O,
     ) -> LockedPress<N, D, S, O>
-        requires { IsOpened O.Outlet N.named (record { press = press; seats = followers; board = board; outlet = outlet }) }
+        requires opened { IsOpened O.Outlet N.named (record { press = press; seats = followers; board = board; outlet = outlet }) }
+        requires faults { IsRisenPress D.Disk O.Outlet N.named press.journal outlet }
         ensures { result ≡ record { press = press; seats = followers; board = board; outlet = outlet } }
     {
         LockedPress {
@@ -236,6 +241,9 @@ impl<N: Names, D: Disk, S: Signer, O: Outlet> LockedPress<N, D, S, O> {
         ensures seats { self.new.seats ≡ self.old.seats }
         ensures board { self.new.board ≡ self.old.board }
         ensures ended { self.new.press ≡ exported_as (ended_by result self.old.press.press.at.serial) self.old.press }
+        ensures counts { O.fault_count self.old.outlet ≤ O.fault_count self.new.outlet }
+        ensures cause { IfErr result (IsCauseOf (O.fault_count self.old.outlet) (O.fault_count self.new.outlet)) }
+        ensures since { IfErr result (IsExportRise N.named.faults.outlet (O.fault_count self.new.outlet)) }
     {
         more_editions_stay_shown();
         self.press.export_to(alloc, &mut self.outlet)
@@ -247,6 +255,9 @@ impl<N: Names, D: Disk, S: Signer, O: Outlet> LockedPress<N, D, S, O> {
         ensures board { self.new.board ≡ self.old.board }
         ensures press { self.new.press ≡ exported_as self.new.press.press.last_export self.old.press }
         ensures repeated { IsRepeated self.new.press.press.last_export self.new.press.press.at.serial result }
+        ensures counts { O.fault_count self.old.outlet ≤ O.fault_count self.new.outlet }
+        ensures cause { IfErr result (IsCauseOf (O.fault_count self.old.outlet) (O.fault_count self.new.outlet)) }
+        ensures since { IfErr result (IsExportRise N.named.faults.outlet (O.fault_count self.new.outlet)) }
     {
         if self.is_exported() {
             return Ok(false);
@@ -260,6 +271,7 @@ impl<N: Names, D: Disk, S: Signer, O: Outlet> LockedPress<N, D, S, O> {
     /// The parts, once no other thread has the press.
     pub fn close<R: Wait>(self, rt: &R) -> Closed<N, D, S, O>
         ensures closed { IsClosed D.Disk O.Outlet N.named self }
+        ensures faults { IsRisenPress D.Disk O.Outlet N.named self.press.journal self.outlet }
         ensures disk { result.disk ≡ self.press.journal.disk }
         ensures ring { result.ring ≡ self.press.press.ring }
         ensures seats { result.followers ≡ self.seats }

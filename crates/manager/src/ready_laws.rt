@@ -18,10 +18,10 @@ use outlet_api::Outlet;
 /// that were found by these names, whether the last one was exported or not.
 pub fn ready_stores_can_start<D: Disk, O: Outlet>()
     ensures start { (opened : List (CountedView D)) (stored : StoredValue D) (board : BoardSeat) (outlet : O)
-        → IsReady O.Outlet opened stored board outlet → CanStart O.Outlet opened stored board outlet }
+        → IsReady O.Outlet opened stored board outlet → CanStart D.Disk O.Outlet opened stored board outlet }
     ensures found { (opened : List (CountedView D)) (first : StoredValue D) (last : LastExport) (board : BoardSeat) (outlet : O)
         → (is : IsResumed (map desk_in opened) first)
-        → AreFound (named_of O.Outlet opened (exported_as last first) board outlet) is.editions }
+        → AreFound (named_of D.Disk O.Outlet opened (exported_as last first) board outlet) is.editions }
 {
     commands_are_determined();
 }

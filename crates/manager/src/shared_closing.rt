@@ -1,8 +1,9 @@
 //! Desks and press out of their locks again, once no other thread has them.
-ghost use Rattle.std.specs.Prelude.{◌≡◌, ◌≤◌, [], vec_capacity};
+ghost use Rattle.std.specs.Prelude.{◌≡◌, ◌≤◌, [], length, vec_capacity};
 ghost use Rattle.authority_book.specs.Verdict.{most_authorities};
-ghost use Rattle.manager.specs.Ended.{AreEnded};
+ghost use Rattle.manager.specs.Ended.{AreEnded, AreLeftDesks};
 ghost use Rattle.manager.specs.Ends.{AreEnds};
+ghost use Rattle.manager.specs.Risen.{AreRisenDesks};
 
 use crate::{Closed, Manager, Names, Pass};
 use desk_core::Desk;
@@ -38,6 +39,8 @@ impl<N: Names, D: Disk, S: Signer, O: Outlet> Manager<N, D, S, O> {
         requires empty { into.old.items ≡ [] }
         requires room { most_authorities ≤ vec_capacity into.old }
         ensures ended { AreEnded pass.seats into.new.items }
+        ensures left { AreLeftDesks (length N.named.signers) into.new.items }
+        ensures faults { AreRisenDesks D.Disk N.named into.new.items }
         ensures ends { AreEnds D.Disk O.Outlet N.named pass.shown into.new.items result.disk result.ring result.outlet result.repeated }
     {
         let (desks, press) = self.into_parts();

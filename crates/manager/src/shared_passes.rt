@@ -4,7 +4,9 @@ ghost use mathlib.Core.List.{IsPrefix};
 ghost use Rattle.authority_book.specs.Verdict.{most_authorities};
 ghost use Rattle.notice_board.specs.declared.shown.ShownEdition.{ShownEdition};
 ghost use Rattle.manager.specs.Passes.{IsSplitOff};
+ghost use Rattle.manager.specs.Ended.{AreLeftDesks};
 ghost use Rattle.manager.specs.Ends.{AreEnds};
+ghost use Rattle.manager.specs.Risen.{AreRisenDesks};
 ghost use Rattle.manager.specs.Sharing.{pass_at, IsOfAll, AreShared};
 
 use crate::{ClosedStore, Manager, Names, Pass};
@@ -75,6 +77,8 @@ impl<N: Names, D: Disk, S: Signer, O: Outlet> Manager<N, D, S, O> {
         requires empty { into.old.items ≡ [] }
         requires room { most_authorities ≤ vec_capacity into.old }
         ensures shared { AreShared (pass ∷ others.items) into.new.items }
+        ensures left { AreLeftDesks (length N.named.signers) into.new.items }
+        ensures faults { AreRisenDesks D.Disk N.named into.new.items }
         ensures ends { (viewed : List ShownEdition) × ((number : ℕ) → IsPrefix (pass_at (pass ∷ others.items) number).shown viewed)
             × AreEnds D.Disk O.Outlet N.named viewed into.new.items result.disk result.ring result.outlet result.repeated }
     {

@@ -3,6 +3,8 @@ ghost use Rattle.std.specs.Prelude.{◌≡◌, ◌+◌, All, map, length, IfOk, 
 ghost use Rattle.authority_book.specs.Verdict.{most_authorities};
 ghost use Rattle.notice_board.specs.Seats.{viewer_seat};
 ghost use Rattle.manager.specs.Opening.{IsOpened};
+ghost use Rattle.manager.specs.Ready.{desk_in};
+ghost use Rattle.manager.specs.Risen.{AreRisenDesks, IsRisenPress};
 ghost use Rattle.manager.specs.Starting.{AreOpenedDesks, IsFirstPass, first_seat, first_places};
 
 use crate::{
@@ -40,6 +42,8 @@ pub fn start<N: Names, D: Disk, S: Signer, O: Outlet>(
 ) -> Result<(Manager<N, D, S, O>, Pass<N>), UnstartedStore<D, S, O>>
     requires desks { (length opened.desks.items ≡ most_authorities) × AreOpenedDesks N.words N.named 0 opened.desks.items }
     requires press { IsOpened O.Outlet N.named (record { press = opened.press; seats = map first_seat opened.desks.items; board = opened.board; outlet = opened.outlet }) }
+    requires desk_faults { AreRisenDesks D.Disk N.named (map desk_in opened.desks.items) }
+    requires press_faults { IsRisenPress D.Disk O.Outlet N.named opened.press.journal opened.outlet }
     requires signers { signers ≡ length N.named.signers }
     requires viewers { (length viewers.items ≡ first_places + 1) × All (λ viewer. viewer ≡ viewer_seat opened.board) viewers.items }
     ensures first { IfOk result (λ started. IsFirstPass N.named started.1) }
@@ -74,7 +78,8 @@ fn started_with<N: Names, D: Disk, S: Signer, O: Outlet>(
     board: Board,
     outlet: O,
 ) -> (Manager<N, D, S, O>, Pass<N>)
-    requires { IsOpened O.Outlet N.named (record { press = press; seats = started.followers; board = board; outlet = outlet }) }
+    requires opened { IsOpened O.Outlet N.named (record { press = press; seats = started.followers; board = board; outlet = outlet }) }
+    requires faults { IsRisenPress D.Disk O.Outlet N.named press.journal outlet }
     ensures { result.1 ≡ started.pass }
 {
     let StartedDesks {

@@ -1,5 +1,5 @@
 -- Sessions that were served at their seats, told of their passes and ends.
-use Rattle.std.proofs.Common.{◌≡◌, ℕ, suc, ◌<◌, List, [], ◌∷◌, ◌++◌, length, reverse, refl, ap, ◌∙◌, sym, subst, arith}
+use Rattle.std.proofs.Common.{◌≡◌, ℕ, suc, ◌<◌, ◌≤◌, List, [], ◌∷◌, ◌++◌, length, reverse, refl, ap, ◌∙◌, sym, subst, arith}
 use Rattle.std.specs.Prelude.{slice_index_or}
 use Rattle.std.proofs.lemmas.List.{reverse-append}
 use Rattle.host_calls.specs.Rise.{HasRisen}
@@ -85,6 +85,10 @@ module _ {N D O S K C : Type 0} (disk_of : DiskGhosts D) (signers : ℕ) (source
             (subst (λ (s : S). HasRisen (source_of.fault_count seat.source) (source_of.fault_count s)) (sym rises.source_is) (is.source_fault stopped));
         sink_fault = λ stopped. subst (λ (k : K). HasRisen (sink_of.fault_count k) (sink_of.fault_count new.sink)) sits.sink_is
             (subst (λ (k : K). HasRisen (sink_of.fault_count seat.sink) (sink_of.fault_count k)) (sym rises.sink_is) (is.sink_fault stopped));
+        source_later = subst (λ (s : S). source_of.fault_count s ≤ source_of.fault_count new.source) sits.source_is
+            (subst (λ (s : S). source_of.fault_count seat.source ≤ source_of.fault_count s) (sym rises.source_is) is.source_later);
+        sink_later = subst (λ (k : K). sink_of.fault_count k ≤ sink_of.fault_count new.sink) sits.sink_is
+            (subst (λ (k : K). sink_of.fault_count seat.sink ≤ sink_of.fault_count k) (sym rises.sink_is) is.sink_later);
       }
 
   pub all_served_with : (given left : List PassValue) (olds news : List (SessionEnds S K C)) (outcomes : List (SessionOutcome D O)) (seats risen : List (ServedSession N D O S K C))

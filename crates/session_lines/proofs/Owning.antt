@@ -26,6 +26,7 @@ use Rattle.session_lines.specs.Texts.{commanded_text, changes_a_desk}
 use Rattle.session_lines.specs.Replies.{SessionState, IsRead, IsTold, IsCommanded, IsCommandText, IsSaidText, IsReadText, IsText, IsReply}
 use Rattle.session_lines.specs.Own.{OwnCommand, IsAcceptedOwn, IsOwnOf, AreOwnOf, AreMadeAt, GrowsBy, MakesOwn, MakesOneMore, SessionMakes}
 use Rattle.session_lines.proofs.Answering.{prefix_same, knows_same}
+use Rattle.session_lines.proofs.Rising.{GoesUp, rising_of, up_none, up_one, up_both}
 
 -- what one line made
 record LineMakes (line reply : List ℕ) (changed : Bool) (old new : List FollowerSeat) : Type 0 where
@@ -33,14 +34,18 @@ record LineMakes (line reply : List ℕ) (changed : Bool) (old new : List Follow
   own : IsOwnOf line reply made
   grows : GrowsBy made old new
   unchanged : changed ≡ false → made ≡ []
+  rises : (desk : ℕ) → GoesUp (seat_at old desk) (seat_at new desk)
 
 -- ---- nothing, or one command
 
 none_grows : (old new : List FollowerSeat) → KnowsMore old new → GrowsBy [] old new
 none_grows old new more = λ desk. ([], refl, ap (λ (s : FollowerSeat). s.mine) (more.each desk).rest ∙ sym (append-nil (seat_at old desk).mine))
 
+none_rises : (old new : List FollowerSeat) → KnowsMore old new → (desk : ℕ) → GoesUp (seat_at old desk) (seat_at new desk)
+none_rises old new more desk = up_none (seat_at old desk) (seat_at new desk) (more.each desk)
+
 nothing : (line reply : List ℕ) (changed : Bool) (old new : List FollowerSeat) → KnowsMore old new → LineMakes line reply changed old new
-nothing line reply changed old new more = record { made = []; own = inl refl; grows = none_grows old new more; unchanged = λ no. refl }
+nothing line reply changed old new more = record { made = []; own = inl refl; grows = none_grows old new more; unchanged = λ no. refl; rises = none_rises old new more }
 
 module _ (name : List ℕ) (given : Command) (signers count : ℕ) (old new : List FollowerSeat) (is : IsAccepted name given signers count old new) where
   own_of : OwnCommand
@@ -61,6 +66,12 @@ module _ (name : List ℕ) (given : Command) (signers count : ℕ) (old new : Li
       ))
       (cases_eq desk is.desk)
 
+  one_rises : (desk : ℕ) → GoesUp (seat_at old desk) (seat_at new desk)
+  one_rises desk = ⊎_elim
+      (λ (same : desk ≡ is.desk). subst (λ (n : ℕ). GoesUp (seat_at old n) (seat_at new n)) (sym same) (up_one is.desk given signers count (seat_at old is.desk) (seat_at new is.desk) is.taken))
+      (λ (away : desk ≢ is.desk). up_none (seat_at old desk) (seat_at new desk) (is.others desk away))
+      (cases_eq desk is.desk)
+
   accepted_makes : (line text : List ℕ) (changed : Bool) → ReadsLine line (Ok (said.Command name given)) → text ≡ accepted_spelling name count → changed ≡ true
       → LineMakes line (text ++ 10 ∷ []) changed old new
   unfolding own_of
@@ -79,6 +90,7 @@ module _ (name : List ℕ) (given : Command) (signers count : ℕ) (old new : Li
     );
     grows = one_grows;
     unchanged = λ (no : changed ≡ false). absurd (true≢false (sym change ∙ no));
+    rises = one_rises;
   }
 
 -- ---- a command
@@ -167,6 +179,13 @@ module _ {D : Type 0} (O : Type 0) (disk_of : DiskGhosts D) (signers : ℕ) wher
         grows = grows_both one.made rest.made before.pass.seats is.3.pass.seats after.pass.seats one.grows rest.grows;
       }
 
+  answers_rise : (before : SessionState) (lines : List (List ℕ)) (replies : List ℕ) (after : SessionState) → Answers (IsReply O disk_of signers) before lines replies after
+      → (desk : ℕ) → GoesUp (seat_at before.pass.seats desk) (seat_at after.pass.seats desk)
+  answers_rise before [] replies after is =
+      none_rises before.pass.seats after.pass.seats (subst (λ (s : SessionState). KnowsMore before.pass.seats s.pass.seats) (sym is.1) (knows_same before.pass.seats))
+  answers_rise before (line ∷ lines) replies after is = λ desk. up_both (seat_at before.pass.seats desk) (seat_at is.3.pass.seats desk) (seat_at after.pass.seats desk)
+      ((reply_makes O disk_of signers line before is.0 is.2 is.3 is.5).rises desk) (answers_rise is.3 lines is.1 after is.6 desk)
+
   -- ---- a session
 
   one_more : (line reply : List ℕ) (changed : Bool) (old new : List FollowerSeat) → LineMakes line reply changed old new → MakesOneMore old new
@@ -193,6 +212,14 @@ module _ {D : Type 0} (O : Type 0) (disk_of : DiskGhosts D) (signers : ℕ) wher
       (subst (λ (l : List OwnCommand). GrowsBy l before.pass.seats is.2.pass.seats) (one.unchanged refl) one.grows)
       (last_makes is.2 (next ∷ lines) is.1 after is.5)
 
+  last_rises : (before : SessionState) (lines : List (List ℕ)) (replies : List ℕ) (after : SessionState) → AnswersAtMostOne (IsReply O disk_of signers) before lines replies after
+      → (desk : ℕ) → GoesUp (seat_at before.pass.seats desk) (seat_at after.pass.seats desk)
+  last_rises before [] replies after is =
+      none_rises before.pass.seats after.pass.seats (subst (λ (s : SessionState). KnowsMore before.pass.seats s.pass.seats) (sym is.1) (knows_same before.pass.seats))
+  last_rises before (line ∷ []) replies after is = (reply_makes O disk_of signers line before replies is.0 after is.1).rises
+  last_rises before (line ∷ next ∷ lines) replies after is = λ desk. up_both (seat_at before.pass.seats desk) (seat_at is.2.pass.seats desk) (seat_at after.pass.seats desk)
+      ((reply_makes O disk_of signers line before is.0 false is.2 is.4).rises desk) (last_rises is.2 (next ∷ lines) is.1 after is.5 desk)
+
   all_make : (before : SessionState) (given : List ℕ) (lines : List (List ℕ)) (written : List ℕ) (after : SessionState) → IsPrefix lines (all_lines given) ⊎ IsPrefix lines (ended_lines given)
       → Answers (IsReply O disk_of signers) before lines written after → SessionMakes given written before.pass.seats after.pass.seats
   all_make before given lines written after came is = record {
@@ -203,6 +230,7 @@ module _ {D : Type 0} (O : Type 0) (disk_of : DiskGhosts D) (signers : ℕ) wher
     between = after.pass.seats;
     own = answers_make before lines written after is;
     last = inl (none_grows after.pass.seats after.pass.seats (knows_same after.pass.seats));
+    rises = λ desk. rising_of (seat_at before.pass.seats desk) (seat_at after.pass.seats desk) (answers_rise before lines written after is desk);
   }
 
   off_makes : (before : SessionState) (given : List ℕ) (lines : List (List ℕ)) (written : List ℕ) (after : SessionState)
@@ -216,6 +244,9 @@ module _ {D : Type 0} (O : Type 0) (disk_of : DiskGhosts D) (signers : ℕ) wher
     between = is.mid.pass.seats;
     own = answers_make before is.heard is.replies is.mid is.answered;
     last = last_makes is.mid is.unheard is.more after is.last;
+    rises = λ desk. rising_of (seat_at before.pass.seats desk) (seat_at after.pass.seats desk)
+        (up_both (seat_at before.pass.seats desk) (seat_at is.mid.pass.seats desk) (seat_at after.pass.seats desk)
+        (answers_rise before is.heard is.replies is.mid is.answered desk) (last_rises is.mid is.unheard is.more after is.last desk));
   }
 
   breaks_make : (before : SessionState) (given : List ℕ) (at_end : Type 0) (written : List ℕ) (after : SessionState) → Breaks (IsReply O disk_of signers) before given at_end written after

@@ -1,6 +1,7 @@
 -- What a session made: the commands of its lines that were accepted.
-use Rattle.std.specs.Prelude.{◌≡◌, ◌≢◌, ◌⊎◌, ◌+◌, ℕ, List, [], ◌∷◌, ◌++◌, Ok}
+use Rattle.std.specs.Prelude.{◌≡◌, ◌≢◌, ◌⊎◌, ◌+◌, ℕ, List, [], ◌∷◌, ◌++◌, Ok, length}
 use mathlib.Core.List.{IsPrefix}
+use Rattle.commit_word.specs.Entries.{Rises, IsPast}
 use Rattle.commit_word.specs.Seats.{FollowerSeat}
 use Rattle.authority_book.specs.declared.commands.Command.{Command}
 use Rattle.cmd_codec.specs.Spelling.{spelling}
@@ -65,8 +66,16 @@ MakesOneMore old new = GrowsBy [] old new
     ⊎ ((line : List ℕ) × (reply : List ℕ) × (own : OwnCommand) × IsAcceptedOwn line reply own
     × GrowsBy (own ∷ []) old new)
 
+-- What was made of a desk stands at rising places, behind all that was seen of the desk before.
+pub record MakesRising (old new : FollowerSeat) : Type 0 where
+  pub mine : List (ℕ × List ℕ)
+  pub made : new.mine ≡ old.mine ++ mine
+  pub rises : Rises mine
+  pub past : IsPast (length old.seen) mine
+
 -- Of the lines that came, these were answered with these replies, which stand whole at the front
--- of what was written. What they made was made, and at most one command more, the last one.
+-- of what was written. What they made was made, and at most one command more, the last one; of each
+-- desk at rising places.
 pub record SessionMakes (given written : List ℕ) (old new : List FollowerSeat) : Type 0 where
   pub heard : List (List ℕ)
   pub came : IsPrefix heard (all_lines given) ⊎ IsPrefix heard (ended_lines given)
@@ -75,3 +84,4 @@ pub record SessionMakes (given written : List ℕ) (old new : List FollowerSeat)
   pub between : List FollowerSeat
   pub own : MakesOwn heard replies old between
   pub last : MakesOneMore between new
+  pub rises : (desk : ℕ) → MakesRising (seat_at old desk) (seat_at new desk)

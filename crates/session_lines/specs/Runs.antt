@@ -1,5 +1,5 @@
 -- What a run of sessions over one store comes to.
-use Rattle.std.specs.Prelude.{◌≡◌, ◌⊎◌, ⊤, ℕ, List, [], ◌∷◌, All, Some, length}
+use Rattle.std.specs.Prelude.{◌≡◌, ◌⊎◌, ◌≤◌, ⊤, ℕ, List, [], ◌∷◌, All, Some, length}
 use mathlib.Core.List.{IsPrefix}
 use Rattle.host_calls.specs.Rise.{HasRisen}
 use Rattle.disk_api.specs.declared.disk.Disk.{Ghosts as DiskGhosts}
@@ -15,7 +15,9 @@ use Rattle.manager.specs.Named.{Named}
 use Rattle.manager.specs.Passes.{PassValue, IsSplitOff}
 use Rattle.manager.specs.Starting.{IsFirstPass}
 use Rattle.manager.specs.Sharing.{pass_at, AreShared}
+use Rattle.manager.specs.Ended.{AreLeftDesks}
 use Rattle.manager.specs.Ends.{AreEnds}
+use Rattle.manager.specs.Risen.{AreRisenDesks}
 use Rattle.session_lines.specs.Keeping.{KeptValue, nothing_kept}
 use Rattle.session_lines.specs.Replies.{SessionState}
 use Rattle.session_lines.specs.Sessions.{Streams, Converses}
@@ -35,7 +37,7 @@ state_with clock_of pass ends kept =
     record { pass = pass; clock = clock_of.readings ends.clock; kept = kept }
 
 -- It was served between its ends: the pass that it was given became the one that is left. At first
--- nothing was kept.
+-- nothing was kept. Its ends' counts of faults never fell.
 pub record IsServedWith {D O S K C : Type 0} (disk_of : DiskGhosts D) (signers : ℕ)
     (source_of : SourceGhosts S) (sink_of : SinkGhosts K) (clock_of : ClockGhosts C)
     (given left : PassValue) (old new : SessionEnds S K C) (outcome : SessionOutcome D O)
@@ -48,6 +50,8 @@ pub record IsServedWith {D O S K C : Type 0} (disk_of : DiskGhosts D) (signers :
       → HasRisen (source_of.fault_count old.source) (source_of.fault_count new.source)
   pub sink_fault : end ≡ SinkFault
       → HasRisen (sink_of.fault_count old.sink) (sink_of.fault_count new.sink)
+  pub source_later : source_of.fault_count old.source ≤ source_of.fault_count new.source
+  pub sink_later : sink_of.fault_count old.sink ≤ sink_of.fault_count new.sink
 
 -- So was each of them, in their order, each with a pass of its own.
 abbrev pub AreServedWith : {D O S K C : Type 0} → DiskGhosts D → ℕ → SourceGhosts S → SinkGhosts K
@@ -80,7 +84,8 @@ pub record NoneServed {D O S K C : Type 0} (left : List PassValue)
 
 -- The sessions were served, or none was. The first pass knew what was found, and made nothing; so
 -- each command that a desk accepted in the run was given in one of the sessions. The desks, the
--- press's disk and the outlet are those of a store that was closed.
+-- press's disk and the outlet are those of a store that was closed; a desk is shut only by a fault of its
+-- disk in this run, and just where the record of a command that may stand next is in doubt.
 pub record IsRun {D G O S K C : Type 0} (disk_of : DiskGhosts D) (outlet_of : OutletGhosts O)
     (source_of : SourceGhosts S) (sink_of : SinkGhosts K) (clock_of : ClockGhosts C)
     (named : Named) (shown : List ShownEdition) (old new : List (SessionEnds S K C)) (desks : List (View D))
@@ -93,6 +98,8 @@ pub record IsRun {D G O S K C : Type 0} (disk_of : DiskGhosts D) (outlet_of : Ou
       old new run.outcomes.items ⊎ NoneServed left old new run.outcomes.items
   pub places : ℕ
   pub shared : AreShared (record first { places = places } ∷ left) desks
+  pub kept : AreLeftDesks (length named.signers) desks
+  pub faults : AreRisenDesks disk_of named desks
   pub viewed : List ShownEdition
   pub seen : (number : ℕ)
       → IsPrefix (pass_at (record first { places = places } ∷ left) number).shown viewed

@@ -1,5 +1,5 @@
 -- What a session does from one state on.
-use Rattle.std.specs.Prelude.{◌≡◌, ℕ, List, Some}
+use Rattle.std.specs.Prelude.{◌≡◌, ◌≤◌, ℕ, List, Some}
 use Rattle.std.specs.Io.KnownBytes.{Consumes, Appends, IsAtEnd}
 use Rattle.disk_api.specs.declared.disk.Disk.{Ghosts as DiskGhosts}
 use Rattle.line_loop.specs.declared.traits.Source.{Ghosts as SourceGhosts}
@@ -38,7 +38,8 @@ pub record Converses {D S K : Type 0} (O : Type 0) (disk_of : DiskGhosts D) (sig
   pub replies : Serves (IsReply O disk_of signers) begun given (IsAtEnd (source_of.left new.source))
       written ended end
 
--- A session was served: it ended so, and its ends were blamed only where they failed.
+-- A session was served: it ended so, and its ends were blamed only where they failed. Their counts of faults
+-- never fell.
 pub record IsServed {N D O S K C : Type 0} (disk_of : DiskGhosts D) (signers : ℕ)
     (source_of : SourceGhosts S) (sink_of : SinkGhosts K) (clock_of : ClockGhosts C)
     (old new : ServedSession N D O S K C) : Type 0 where
@@ -50,3 +51,5 @@ pub record IsServed {N D O S K C : Type 0} (disk_of : DiskGhosts D) (signers : �
       → HasRisen (source_of.fault_count old.source) (source_of.fault_count new.source)
   pub sink_fault : end ≡ SinkFault
       → HasRisen (sink_of.fault_count old.sink) (sink_of.fault_count new.sink)
+  pub source_later : source_of.fault_count old.source ≤ source_of.fault_count new.source
+  pub sink_later : sink_of.fault_count old.sink ≤ sink_of.fault_count new.sink

@@ -4,6 +4,8 @@ ghost use Rattle.std.specs.Prelude.{◌≡◌, ◌⊎◌, ◌≤◌, ◌<◌, �
 ghost use Rattle.authority_book.specs.Verdict.{most_authorities};
 ghost use Rattle.notice_board.specs.Seats.{viewer_seat};
 ghost use Rattle.manager.specs.Opening.{IsOpened};
+ghost use Rattle.manager.specs.Ready.{desk_in};
+ghost use Rattle.manager.specs.Risen.{AreRisenDesks, IsRisenPress};
 ghost use Rattle.manager.specs.Starting.{AreOpenedDesks, first_seat, first_places};
 ghost use Rattle.session_lines.specs.Sessions.{IsServed};
 ghost use Rattle.session_lines.specs.Runs.{AreServedWith, AllServed, NoneServed, IsRun};
@@ -81,6 +83,8 @@ pub fn serve_store<
 ) -> Result<ServedStore<D, G, O>, UnstartedStore<D, G, O>>
     requires desks { (length ready.opened.desks.items ≡ most_authorities) × AreOpenedDesks N.words N.named 0 ready.opened.desks.items }
     requires press { IsOpened O.Outlet N.named (record { press = ready.opened.press; seats = map first_seat ready.opened.desks.items; board = ready.opened.board; outlet = ready.opened.outlet }) }
+    requires desk_faults { AreRisenDesks D.Disk N.named (map desk_in ready.opened.desks.items) }
+    requires press_faults { IsRisenPress D.Disk O.Outlet N.named ready.opened.press.journal ready.opened.outlet }
     requires signers { signers ≡ length N.named.signers }
     requires viewers { (length ready.viewers.items ≡ first_places + 1) × All (λ viewer. viewer ≡ viewer_seat ready.opened.board) ready.viewers.items }
     requires sessions { length sessions.old.items ≤ first_places }

@@ -1,7 +1,8 @@
-use Rattle.std.proofs.Common.{◌≡◌, ◌∙◌, ℕ, List, length, reverse, refl, ap, sym, subst, arith}
-use Rattle.std.proofs.lemmas.List.{take_all, length_push}
+use Rattle.std.proofs.Common.{◌≡◌, ◌∙◌, ℕ, List, [], ◌∷◌, length, reverse, refl, ap, sym, subst, arith}
+use Rattle.std.proofs.lemmas.List.{take_all, length_push, reverse-append}
 use Rattle.desk_core.specs.View.{View}
-use Rattle.manager.specs.Ended.{IsEndedDesk}
+use Rattle.manager.specs.Ended.{IsEndedDesk, AreLeftDesks}
+use Rattle.manager.specs.Risen.{AreRisenDesks}
 use Rattle.manager.proofs.Seating.{popped}
 use Rattle.manager.proofs.Ending.{EndedFrom, ended_start, ended_all, ended_popped, word_popped, seat_popped}
 use Rattle.manager.proofs.locked_desks_ending.end_all.Goals as goal
@@ -15,6 +16,8 @@ loop-init g c = (
   c.requires.locks,
   refl,
   ended_start c.args.seats.items c.args.into.now.items c.requires.empty,
+  subst (λ (l : List (View _)). AreRisenDesks g.D.Disk g.N.Names.named (reverse l)) (sym c.requires.empty) tt,
+  subst (λ (l : List (View _)). AreLeftDesks (length g.N.Names.named.signers) (reverse l)) (sym c.requires.empty) tt,
 )
 
 pub end-desk-requires-clause-word : goal.end-desk-requires-clause-word
@@ -40,7 +43,7 @@ loop-preserved g c =
     let locks = ap length c.in-Some-pop.ensures.items ∙ length_push c.pop-in-loop.new.self.items c.in-Some-pop.lock in
     let seats = ap length c.in-Some-pop-2.ensures.items ∙ length_push new seat in
     let here : c.len.result ≡ length new = c.len.ensures ∙ c.pop-in-loop-2.new.self.ok.0 in
-    let ended : IsEndedDesk (length new) seat c.end-desk.result = subst (λ (n : ℕ). IsEndedDesk n seat c.end-desk.result) here c.end-desk.ensures in (
+    let ended : IsEndedDesk (length new) seat c.end-desk.result = subst (λ (n : ℕ). IsEndedDesk n seat c.end-desk.result) here c.end-desk.ensures.ended in (
       omega (arith, seats, c.loop.invariant.0),
       (popped all c.loop.seats.items new seat c.loop.invariant.1 c.in-Some-pop-2.ensures.items).0,
       omega (arith, words, seats, c.loop.invariant.2),
@@ -49,10 +52,20 @@ loop-preserved g c =
       c.push_reserved.ensures.capacity ∙ c.loop.invariant.5,
       subst (λ (l : List (View _)). EndedFrom (length new) all (reverse l)) (sym c.push_reserved.ensures.items)
           (ended_popped all c.loop.seats.items new seat c.loop.into.items c.end-desk.result c.loop.invariant.1 c.in-Some-pop-2.ensures.items c.loop.invariant.6 ended),
+      subst (λ (l : List (View _)). AreRisenDesks g.D.Disk g.N.Names.named l) (sym (ap reverse c.push_reserved.ensures.items ∙ reverse-append c.loop.into.items (c.end-desk.result ∷ [])))
+          (c.end-desk.ensures.faults, c.loop.invariant.7),
+      subst (λ (l : List (View _)). AreLeftDesks (length g.N.Names.named.signers) l) (sym (ap reverse c.push_reserved.ensures.items ∙ reverse-append c.loop.into.items (c.end-desk.result ∷ [])))
+          (c.end-desk.ensures.left, c.loop.invariant.8),
     )
 
-pub returns : goal.returns
-returns g c =
+pub returns-clause-faults : goal.returns-clause-faults
+returns-clause-faults g c = c.loop.invariant.7
+
+pub returns-clause-left : goal.returns-clause-left
+returns-clause-left g c = c.loop.invariant.8
+
+pub returns-clause-ended : goal.returns-clause-ended
+returns-clause-ended g c =
     let none : length c.loop.seats.items ≡ 0 = omega (arith, c.loop.invariant.0, c.loop-test.false, c.loop.auto.counter-end, c.args.seats.ok.0) in
     ended_all c.args.seats.items (reverse c.loop.into.items)
     (subst (λ (n : ℕ). EndedFrom n c.args.seats.items (reverse c.loop.into.items)) none c.loop.invariant.6)

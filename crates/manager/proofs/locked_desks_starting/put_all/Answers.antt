@@ -1,11 +1,24 @@
-use Rattle.std.proofs.Common.{◌≡◌, ◌∙◌, ◌++◌, ◌∷◌, [], ℕ, List, length, ap, sym, subst, arith}
+use Rattle.std.specs.Prelude.{None}
+use Rattle.std.proofs.Common.{◌≡◌, ◌∙◌, ◌++◌, ◌∷◌, [], ℕ, List, length, map, ap, sym, subst, arith}
 use Rattle.std.specs.Vec.Iter.{into_iter_items}
 use Rattle.std.proofs.lemmas.List.{nil_from_length, length_push}
 use Rattle.atomic_table.specs.Seated.{TableId}
 use Rattle.desk_core.specs.Counted.{CountedView}
 use Rattle.manager.specs.Starting.{AreOpenedDesks, first_seat}
+use Rattle.manager.specs.Ready.{desk_in}
+use Rattle.manager.specs.Risen.{IsRisenDesk, AreRisenDesks}
 use Rattle.manager.proofs.Starting.{moved, moved_all}
 use Rattle.manager.proofs.locked_desks_starting.put_all.Goals as goal
+
+pub put-requires-clause-faults : goal.put-requires-clause-faults
+put-requires-clause-faults g c =
+    let here = subst (λ (l : List (CountedView _)). AreRisenDesks g.D.Disk g.N.Names.named (map desk_in l)) c.in-Some.ensures.steps.0 c.loop-desk.invariant.faults in
+    subst (λ (d : CountedView _). IsRisenDesk g.D.Disk g.N.Names.named d.desk) (sym c.into_parts-counted.ensures.desk) here.0
+
+pub put-requires-clause-is_open : goal.put-requires-clause-is_open
+put-requires-clause-is_open g c =
+    let here = subst (λ (l : List (CountedView _)). AreOpenedDesks g.N.Names.words g.N.Names.named (length c.loop-desk.parts.words.items) l) c.in-Some.ensures.steps.0 c.loop-desk.invariant.desks in
+    subst (λ (d : CountedView _). d.desk.shut ≡ None) (sym c.into_parts-counted.ensures.desk) here.0.is_open
 
 pub loop-desk-preserved : goal.loop-desk-preserved
 loop-desk-preserved g c =
@@ -29,6 +42,7 @@ loop-desk-preserved g c =
     let followers_long = ap length follower ∙ length_push parts.followers.items (first_seat desk) in
     record {
       desks = subst (λ (n : ℕ). AreOpenedDesks g.N.Names.words g.N.Names.named n rest) (omega (arith, words_long)) opened.1;
+      faults = (subst (λ (l : List (CountedView _)). AreRisenDesks g.D.Disk g.N.Names.named (map desk_in l)) step before.faults).1;
       count = omega (arith, shorter, before.count, c.in-Some.ensures.steps.1);
       words = moved (λ (d : CountedView _). d.word) parts.words.items still _ before.words next.words.items desk rest word step;
       locks = omega (arith, c.put.ensures.locks.0, shorter, before.locks);

@@ -12,8 +12,8 @@ start-requires-clause-viewers g c = (
   λ k d within. ap (λ (v : ViewerSeat). v.list) (c.requires.viewers.1 k d within) ∙ c.requires.press.list,
 )
 
-pub started_with-requires : goal.started_with-requires
-started_with-requires g c =
+pub started_with-requires-clause-opened : goal.started_with-requires-clause-opened
+started_with-requires-clause-opened g c =
     subst (λ (s : List FollowerSeat). IsOpened g.O.Outlet g.N.Names.named (lock c.args.opened.press s c.args.opened.board c.args.opened.outlet)) (sym c.in-Ok.ensures.followers) c.requires.press
 
 pub returns-in-Ok-clause-shown : goal.returns-in-Ok-clause-shown

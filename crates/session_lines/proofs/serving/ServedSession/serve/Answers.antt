@@ -8,4 +8,6 @@ returns g c = record {
   session = c.serve.ensures.session;
   source_fault = c.serve.ensures.source_fault;
   sink_fault = c.serve.ensures.sink_fault;
+  source_later = c.serve.ensures.source_later;
+  sink_later = c.serve.ensures.sink_later;
 }
