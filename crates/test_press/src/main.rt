@@ -13,6 +13,7 @@ use anyhow::{Result, bail};
 use pub_set::ObjectSet;
 use std::alloc::Global;
 use std::thread::Threads;
+use std::time::CpuClock;
 
 fn main(rt: HostRuntime) -> Result<()> {
     let mut part = String::new(rt.alloc());
@@ -36,7 +37,7 @@ fn main(rt: HostRuntime) -> Result<()> {
 }
 
 /// The name of a case and its answer, by the part that it is of. Audits are of the set before them.
-fn told<R: Threads + Sync>(
+fn told<R: Threads + Sync + CpuClock>(
     rt: &R,
     alloc: Global,
     audited: &mut ObjectSet,

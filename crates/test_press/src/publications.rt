@@ -13,14 +13,16 @@ mod signers;
 mod stage;
 mod steps;
 mod superseded;
+mod times;
 mod trials;
 
 use anyhow::{Context, Result, bail};
 use std::alloc::Global;
 use std::thread::Threads;
+use std::time::CpuClock;
 
 /// The answers to a case: the kind of the signers, the starts, the numbers of calls that fail, and the steps.
-fn answer<R: Threads + Sync>(rt: &R, alloc: Global, fields: &[&str]) -> Result<String> {
+fn answer<R: Threads + Sync + CpuClock>(rt: &R, alloc: Global, fields: &[&str]) -> Result<String> {
     match fields {
         [_, "Rehearsal", starts, _, steps @ ..] => {
             steps::answers(rt, alloc, signers::rehearsals(alloc, starts)?, steps)
@@ -33,7 +35,7 @@ fn answer<R: Threads + Sync>(rt: &R, alloc: Global, fields: &[&str]) -> Result<S
 }
 
 /// The name of a case, and its answers.
-pub fn told<R: Threads + Sync>(rt: &R, alloc: Global, line: &str) -> Result<String> {
+pub fn told<R: Threads + Sync + CpuClock>(rt: &R, alloc: Global, line: &str) -> Result<String> {
     let fields: Vec<&str> = line.split('\t').collect(alloc)?;
     let name = fields.first().copied().unwrap_or("");
     let answer = answer(rt, alloc, &fields).context(format_args!("{name}"))?;

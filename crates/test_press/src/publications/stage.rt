@@ -3,11 +3,11 @@
 use crate::publications::audits::audited;
 use crate::publications::desks::Desks;
 use crate::publications::exports::shown;
-use crate::publications::hours;
 use crate::publications::numbered::{adding, removing};
 use crate::publications::shown::{edition_text, fault_text};
 use crate::publications::superseded::Kept;
 use crate::publications::trials::{Edition, Trial};
+use crate::publications::{hours, times};
 use anyhow::{Result, bail};
 use key_ids::Site;
 use outlet_api::MemoryOutlet;
@@ -15,6 +15,7 @@ use signer_api::Signer;
 use signer_ring::Ring;
 use std::alloc::Global;
 use std::thread::Threads;
+use std::time::CpuClock;
 use test_support::digest_text;
 
 /// A press, the desks, the repository, the last edition's changes as a text, an outlet, and the certificates of the
@@ -161,5 +162,15 @@ impl<S: Signer + Send> Stage<S> {
     ) -> Result<String> {
         let (trial, desks) = (&mut self.trial, &mut self.desks);
         hours::run(rt, alloc, trial, desks, &self.site, count, clock)
+    }
+
+    /// Publishes, and tells how much of the processor's time that took.
+    pub fn times<R: Threads + Sync + CpuClock>(
+        &mut self,
+        rt: &R,
+        alloc: Global,
+        clock: u64,
+    ) -> Result<String> {
+        times::told(rt, alloc, &mut self.trial, &self.desks, &self.site, clock)
     }
 }

@@ -8,13 +8,15 @@
 //! - `changes`: the changes of the last edition are printed;
 //! - `outlet NUMBER`: an outlet without a file, of which the call of that number fails;
 //! - `export`: the last edition is exported, and what the outlet shows is printed;
-//! - `hours COUNT CLOCK`: so many editions, one each hour.
+//! - `hours COUNT CLOCK`: so many editions, one each hour;
+//! - `times CLOCK`: an edition, of which the processor's time is printed.
 
 use crate::publications::stage::Stage;
 use anyhow::{Context, Result, bail};
 use signer_api::Signer;
 use std::alloc::Global;
 use std::thread::Threads;
+use std::time::CpuClock;
 use test_support::number_of;
 
 /// A step that is no line with a command.
@@ -29,6 +31,7 @@ enum Step {
     Outlet { fails: u64 },
     Export,
     Hours { count: u64, clock: u64 },
+    Times { clock: u64 },
 }
 
 fn read(words: &[&str]) -> Result<Step> {
@@ -52,13 +55,14 @@ fn read_one(word: &str, number: u64) -> Result<Step> {
         "publish" => Ok(Step::Publish { clock: number }),
         "count" => Ok(Step::Count { clock: number }),
         "listed" => Ok(Step::Listed { clock: number }),
+        "times" => Ok(Step::Times { clock: number }),
         "outlet" => Ok(Step::Outlet { fails: number }),
         _ => bail!("no such step: {word}"),
     }
 }
 
 /// What the steps come to, each answer behind a tab.
-pub fn answers<S: Signer + Send, R: Threads + Sync>(
+pub fn answers<S: Signer + Send, R: Threads + Sync + CpuClock>(
     rt: &R,
     alloc: Global,
     signers: Vec<S>,
@@ -76,7 +80,7 @@ pub fn answers<S: Signer + Send, R: Threads + Sync>(
 }
 
 // What a step comes to, and nothing where it tells nothing.
-fn told<S: Signer + Send, R: Threads + Sync>(
+fn told<S: Signer + Send, R: Threads + Sync + CpuClock>(
     rt: &R,
     alloc: Global,
     stage: &mut Stage<S>,
@@ -97,5 +101,6 @@ fn told<S: Signer + Send, R: Threads + Sync>(
         Step::Outlet { fails } => stage.set_outlet(alloc, fails),
         Step::Export => stage.export(alloc),
         Step::Hours { count, clock } => stage.hours(rt, alloc, count, clock),
+        Step::Times { clock } => stage.times(rt, alloc, clock),
     }
 }

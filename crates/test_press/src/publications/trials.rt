@@ -1,6 +1,8 @@
 //! A press that is tried, over a disk in memory.
 
-ghost use Rattle.std.specs.Prelude.{◌≡◌, ◌<◌, [], All, IsTrue, IfOk};
+ghost use Rattle.std.specs.Prelude.{◌≡◌, ◌<◌, [], All, IsTrue, IfOk, length};
+ghost use Rattle.entitle.specs.Certified.{names_of};
+ghost use Rattle.editions.specs.Gathering.{configs_with, AreGathered, AreAccepted};
 ghost use Rattle.press_core.specs.Resuming.{AreFirsts};
 
 use crate::publications::desks::Desks;
@@ -21,6 +23,7 @@ use signer_ring::Ring;
 use std::alloc::Global;
 use std::marker::Model;
 use std::thread::Threads;
+use std::time::{CpuClock, Duration};
 use uuid::Uuid;
 
 /// The session of the press's files, 00000000-0000-4000-8000-000000000000.
@@ -84,14 +87,14 @@ impl<S: Signer + Send> Trial<S> {
         }
     }
 
-    /// Publishes at that clock what the desks accepted.
-    pub fn publish<R: Threads + Sync>(
-        &mut self,
-        rt: &R,
-        alloc: Global,
-        now: u64,
-        desks: &Desks,
-    ) -> Result<Told> {
+    // What the desks accepted since, for which there are the signers.
+    fn gather(&self, alloc: Global, desks: &Desks) -> Result<Vec<Gathered>>
+        ensures gathered { IfOk result (λ gathered. AreGathered self.now.at.cut gathered.items) }
+        ensures accepted { IfOk result (λ gathered. AreAccepted self.now.at.configs gathered.items) }
+        ensures live { IfOk result (λ _. All (λ row. row.signer < length self.now.ring) self.now.at.rows) }
+        ensures named { IfOk result (λ gathered. All (λ name. name.signer < length self.now.ring)
+            (names_of (configs_with self.now.at.configs gathered.items))) }
+    {
         let at = self.press.press().published_state();
         let gathered = gathered(alloc, at, desks)?;
         if !rows_have_signers(at.parts().rows.as_slice(), self.signers) {
@@ -100,6 +103,18 @@ impl<S: Signer + Send> Trial<S> {
         if !names_have_signers(alloc, at, &gathered, self.signers)? {
             bail!("a name without a signer");
         }
+        Ok(gathered)
+    }
+
+    /// Publishes at that clock what the desks accepted.
+    pub fn publish<R: Threads + Sync>(
+        &mut self,
+        rt: &R,
+        alloc: Global,
+        now: u64,
+        desks: &Desks,
+    ) -> Result<Told> {
+        let gathered = self.gather(alloc, desks)?;
         let prepared = match self.press.prepare(rt, alloc, now, gathered) {
             Ok(prepared) => prepared,
             Err(fault) => return Ok(Err(fault)),
@@ -117,6 +132,27 @@ impl<S: Signer + Send> Trial<S> {
             withdrawals,
             changes,
         }))
+    }
+
+    /// Publishes the same way, and tells how much of the processor's time went by until the edition was prepared.
+    pub fn timed<R: Threads + Sync + CpuClock>(
+        &mut self,
+        rt: &R,
+        alloc: Global,
+        now: u64,
+        desks: &Desks,
+    ) -> Result<Duration> {
+        let gathered = self.gather(alloc, desks)?;
+        let start = rt.process_cpu_time()?;
+        let Ok(prepared) = self.press.prepare(rt, alloc, now, gathered) else {
+            bail!("no edition at {now}");
+        };
+        let spent = rt.process_cpu_time()?.saturating_sub(start);
+        if self.press.commit(prepared).is_err() {
+            bail!("a disk in memory failed");
+        }
+        self.press.retire_keys();
+        Ok(spent)
     }
 }
 
