@@ -1,6 +1,7 @@
 pub mod BesideLemmas
 pub mod DropLemmas
 pub mod FitLemmas
+pub mod GroupLemmas
 pub mod KeyLemmas
 pub mod OwedLemmas
 pub mod PlaceLemmas

@@ -1,12 +1,22 @@
 -- Where the ROAs of owed origins stand.
-use Rattle.std.proofs.Common.{◌≡◌, ℕ, ◌<◌, ◌⊎◌, inl, inr, Option, None, Some, List, [], ◌∷◌, ◌++◌, length, get_or, set, replicate, refl, sym, ap, ◌∙◌, arith}
+use Rattle.std.proofs.Common.{◌≡◌, ℕ, ◌+◌, ◌<◌, ◌⊎◌, inl, inr, Option, None, Some, List, [], ◌∷◌, ◌++◌, length, get_or, set, replicate, refl, sym, ap, subst, ◌≤◌, ◌∙◌, arith}
 use Rattle.std.specs.Prelude.{slice_get, option_map, option_and_then}
 use Rattle.std.specs.Ordering.{on}
 use Rattle.std.proofs.lemmas.Map.Keys.{Less-from_sorted}
 use Rattle.std.specs.List.{filter_map, flat_map, cons_option}
 use Rattle.std.proofs.lemmas.List.{get_or_default, get_or-set_same, get_or-set_other, length-set, get_or-replicate, length-replicate}
 use Rattle.std.proofs.lemmas.List.Elements.{filter_map-append}
-use Rattle.std.proofs.lemmas.Bool.{cases_eq}
+use Rattle.std.proofs.lemmas.Bool.{cases_eq, cases_lt, false≢true, and_parts, eqb-true}
+use Rattle.std.proofs.lemmas.Option.{slice_get_within, get_or_from_slice_get}
+use Rattle.std.specs.Prelude.{true, false, ◌==◌, ◌&&◌}
+use Rattle.std.specs.Option.{option_map_or}
+use Rattle.origins.specs.declared.Origin.{Origin}
+use Rattle.key_roll.specs.declared.issued.What.TheVariants.{Route}
+use Rattle.issue_plan.specs.ByName.{IsRoaUri, StandByName}
+use Rattle.issue_plan.specs.Serves.{is_same_origin}
+use Rattle.issue_plan.specs.laws.SameLaws.{origin-is}
+use Rattle.issue_plan.specs.inner.Groups.{IsFileOf, IsGroup}
+use Rattle.issue_plan.proofs.GroupLemmas.{name-once}
 use Rattle.authority_book.specs.declared.rows.NameRow.{NameRow}
 use Rattle.authority_book.specs.Settings.{Settings}
 use Rattle.entitle.specs.declared.trees.Owed.{Owed}
@@ -19,7 +29,7 @@ use Rattle.issue_plan.specs.declared.anew.Standing.{Standing}
 use Rattle.issue_plan.specs.Uris.{owed_uris, roa_uris, roa_file}
 use Rattle.issue_plan.specs.inner.Positions.{position_in}
 use Rattle.issue_plan.proofs.PositionLemmas.{first-there}
-use Rattle.issue_plan.specs.inner.OwedPlaces.{folder_at, owed_place, owed_position, owed_positions, IsNoted, AreNoted}
+use Rattle.issue_plan.specs.inner.OwedPlaces.{folder_at, owed_place, owed_position, owed_positions, is_that, IsPlaceIn, IsNoted, AreNoted}
 
 -- Nothing is noted yet.
 pub none-noted : (s : Standing) (owed : List Owed) (noted : List (Option ℕ))
@@ -103,6 +113,45 @@ own-position issued i d up inside =
     (ap (λ (r : IssuedRow). uri_cmp (get_or issued k e).uri r.uri) (get_or_default issued i d e inside)
     ∙ Less-from_sorted (on (λ (r : IssuedRow). r.uri) uri_cmp) issued k i e up less inside))
 
+-- ---- ROAs that stand by name
+
+-- One that stands in the desk's folder is at the place of the desk's origin.
+place-named : (s : Standing) (desk : ℕ) (row : IssuedRow) → IsFileOf s desk row.uri
+    → ((origin : Origin) → row.what ≡ Route origin → IsRoaUri s.site.now origin row.uri) → IsPlaceIn s desk row
+place-named s desk row file stands = λ origin is.
+    let here = stands origin is in
+    let same : file.row.name ≡ here.name =
+    name-once s.site.now file.row.name here.name file.rest (roa_file origin) file.named here.is_name (sym file.is ∙ here.is) in
+    ap (option_map (λ (r : NameRow). file_uri s.site.now r.name (roa_file origin))) file.at
+    ∙ ap (λ (l : List ℕ). Some l) (ap (λ (l : List ℕ). file_uri s.site.now l (roa_file origin)) same ∙ sym here.is)
+
+pub group-place : (s : Standing) (desk first end i : ℕ) (d : IssuedRow) → StandByName s.site.now s.issued.now
+    → IsGroup s desk first end → first ≤ i → i < end → IsPlaceIn s desk (get_or s.issued.now i d)
+group-place s desk first end i d stand group after before =
+    place-named s desk (get_or s.issued.now i d) (group.each i d after before)
+    (stand.roas i d (let within = group.within in omega (arith, before, within)))
+
+-- The origin that a row was guessed to be of, and where its ROA stands.
+pub that-noted : (s : Standing) (owed : List Owed) (noted : List (Option ℕ)) (index desk position : ℕ) (origin : Origin) (row : IssuedRow)
+    → is_that owed index desk origin ≡ true → row.what ≡ Route origin → IsPlaceIn s desk row
+    → position_in s.issued.now row.uri ≡ Some position
+    → AreNoted s owed noted → AreNoted s owed (set noted index (Some position))
+that-noted s owed noted index desk position origin row that what place at are = by (slice_get owed index) refl that
+  where
+    by : (o : Option Owed) → slice_get owed index ≡ o
+        → option_map_or (λ (each : Owed). (each.desk == desk) && is_same_origin each.origin origin) o false ≡ true
+        → AreNoted s owed (set noted index (Some position))
+    by None is so = absurd (false≢true so)
+    by (Some each) is so =
+        let parts = and_parts (each.desk == desk) (is_same_origin each.origin origin) so in
+        let same : each ≡ record { desk = desk; origin = origin } = whole (eqb-true each.desk desk parts.0) (origin-is each.origin origin parts.1) in
+        one-noted s owed noted index position (slice_get_within owed index each is) (λ d.
+        ap (owed_position s) (get_or_from_slice_get owed index each d is ∙ same)
+        ∙ (ap (option_and_then (position_in s.issued.now)) (place origin what) ∙ at)) are
+      where
+        whole : each.desk ≡ desk → each.origin ≡ origin → each ≡ record { desk = desk; origin = origin }
+        whole a b = λ i. record { desk = a i; origin = b i }
+
 -- What is noted at an index is the position of what stands at its owed origin's place.
 pub noted-at : (s : Standing) (owed : List Owed) (noted : List (Option ℕ)) (index : ℕ) (each : Owed) (here : Option ℕ)
     → AreNoted s owed noted → index < length owed → each ≡ get_or owed index each → here ≡ get_or noted index here
@@ -111,3 +160,15 @@ noted-at s owed noted index each here are inside is-each is-here =
     λ position is. ap (owed_position s) is-each
     ∙ are.each index each inside position
     (get_or_default noted index None here (omega (arith, inside, are.long)) ∙ (sym is-here ∙ is))
+
+-- What holds of all rows before one, and of that one.
+pub named-more : (P : IssuedRow → Type 0) (issued : List IssuedRow) (i : ℕ) (row : IssuedRow) → i < length issued
+    → row ≡ get_or issued i row → ((k : ℕ) (d : IssuedRow) → k < i → P (get_or issued k d)) → P row
+    → (k : ℕ) (d : IssuedRow) → k < i + 1 → P (get_or issued k d)
+named-more P issued i row inside is all here k d below = by (cases_lt k i)
+  where
+    by : (k < i) ⊎ (i ≤ k) → P (get_or issued k d)
+    by (inl less) = all k d less
+    by (inr over) =
+        let same : i ≡ k = omega (arith, over, below) in
+        subst P (is ∙ (get_or_default issued i row d inside ∙ ap (λ n. get_or issued n d) same)) here

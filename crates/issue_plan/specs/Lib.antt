@@ -1,3 +1,4 @@
+pub mod ByName
 pub mod Due
 pub mod Fits
 pub mod Keys

@@ -2,6 +2,7 @@
 pub mod Anew
 pub mod Beside
 pub mod Changed
+pub mod Groups
 pub mod Live
 pub mod OwedPlaces
 pub mod Positions

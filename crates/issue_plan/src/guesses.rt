@@ -1,5 +1,9 @@
 //! Guesses at which owed origin a ROA is of. Nothing rests on a guess: what it names is looked at.
 
+ghost use Rattle.std.specs.Prelude.{◌≡◌, true, IfSome};
+ghost use Rattle.issue_plan.specs.inner.OwedPlaces.{is_that};
+
+use crate::serving::is_same_origin;
 use entitle::Owed;
 use origins::Origin;
 use std::alloc::{AllocError, Global};
@@ -40,9 +44,11 @@ fn first_place(span: usize, desk: u32, origin: &Origin) -> usize {
 }
 
 // Whether the origin with that index is the one.
-fn is_at(owed: &[Owed], index: usize, desk: u32, origin: &Origin) -> bool {
+fn is_at(owed: &[Owed], index: usize, desk: u32, origin: &Origin) -> bool
+    ensures { result ≡ is_that owed.now index desk origin.now }
+{
     match owed.get(index) {
-        Some(each) => each.desk == desk && each.origin == *origin,
+        Some(each) => each.desk == desk && is_same_origin(&each.origin, origin),
         None => false,
     }
 }
@@ -50,11 +56,30 @@ fn is_at(owed: &[Owed], index: usize, desk: u32, origin: &Origin) -> bool {
 impl Guesses {
     /// Guesses at these.
     pub fn of(alloc: Global, owed: &[Owed]) -> Result<Guesses, AllocError> {
-        let span = owed.len().saturating_mul(2);
+        Guesses::between(alloc, owed, 0, owed.len())
+    }
+
+    /// Guesses at those of the desk, which stand one behind the other.
+    pub fn of_desk(alloc: Global, owed: &[Owed], desk: u32) -> Result<Guesses, AllocError> {
+        let first = owed.partition_point(|each| each.desk < desk);
+        let end = owed.partition_point(|each| each.desk <= desk);
+        Guesses::between(alloc, owed, first, end)
+    }
+
+    // Guesses at those from an index up to another.
+    fn between(
+        alloc: Global,
+        owed: &[Owed],
+        first: usize,
+        end: usize,
+    ) -> Result<Guesses, AllocError> {
+        let span = end.saturating_sub(first).saturating_mul(2);
         let places = vec![in alloc; 0; span.saturating_add(TURNS)]?;
         let mut guesses = Guesses { span, places };
-        for index in 0..owed.len() {
-            guesses.put(&owed[index], index);
+        for index in first..end {
+            if let Some(each) = owed.get(index) {
+                guesses.put(each, index);
+            }
         }
         Ok(guesses)
     }
@@ -77,7 +102,9 @@ impl Guesses {
     }
 
     /// The index that an origin of a desk is likely to have among these.
-    pub fn index_of(&self, owed: &[Owed], desk: u32, origin: &Origin) -> Option<usize> {
+    pub fn index_of(&self, owed: &[Owed], desk: u32, origin: &Origin) -> Option<usize>
+        ensures { IfSome result (λ index. is_that owed.now index desk origin.now ≡ true) }
+    {
         let first = first_place(self.span, desk, origin);
         for turn in 0..TURNS {
             let mark = *self.places.get(first.wrapping_add(turn))?;

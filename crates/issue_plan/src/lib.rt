@@ -4,9 +4,11 @@
 
 mod anew;
 mod beside;
+mod by_name;
 mod changed;
 mod due;
 mod firsts;
+mod groups;
 mod guesses;
 mod keys;
 mod live;
@@ -23,6 +25,7 @@ mod spellings;
 mod uris;
 mod wanted;
 
+pub use by_name::stand_by_name;
 pub use due::is_due;
 pub use keys::NextKey;
 pub use plans::plan;

@@ -7,14 +7,17 @@ ghost use Rattle.issue_plan.specs.declared.anew.Standing.{Standing};
 ghost use Rattle.issue_plan.specs.Uris.{roa_file};
 ghost use Rattle.issue_plan.specs.inner.Positions.{position_in};
 ghost use Rattle.issue_plan.specs.inner.OwedPlaces as spec;
-ghost use Rattle.issue_plan.specs.inner.OwedPlaces.{owed_place, IsFolder, IsNoted, AreNoted};
+ghost use Rattle.issue_plan.specs.inner.OwedPlaces.{owed_place, IsFolder, IsPlaceIn, IsNoted, AreNoted};
+ghost use Rattle.issue_plan.specs.ByName.{StandByName};
 
 use crate::anew::Standing;
+use crate::groups::group_of;
 use crate::guesses::Guesses;
 use crate::live::{LiveKey, live_at};
 use crate::lookups::name_at;
 use crate::positions::position_of;
 use crate::spellings::is_roa_in;
+use authority_book::NameRow;
 use entitle::Owed;
 use key_ids::KeyId;
 use key_roll::{IssuedRow, KeyName, What};
@@ -167,6 +170,97 @@ fn noted(
     Ok(noted)
 }
 
+// ---- where each ROA stands in the folder of a name
+
+// Notes at which position the row stands, for the desk's origin that it is a ROA of.
+fn note_named(
+    owed: &[Owed],
+    desk: u32,
+    guesses: &Guesses,
+    row: &IssuedRow,
+    position: usize,
+    noted: &mut Vec<Option<usize>>,
+)
+    ensures { (s : Standing) → IsPlaceIn s desk row.now
+        → position_in s.issued.now row.now.uri ≡ Some position
+        → AreNoted s owed.now noted.old.items → AreNoted s owed.now noted.new.items }
+{
+    let What::Route { origin } = &row.what else {
+        return;
+    };
+    let Some(index) = guesses.index_of(owed, desk, origin) else {
+        return;
+    };
+    if index < noted.len() {
+        noted[index] = Some(position);
+    }
+}
+
+// Notes the positions of all that stands in the desk's folder.
+fn note_desk(
+    alloc: Global,
+    standing: &Standing<'_>,
+    owed: &[Owed],
+    desk: u32,
+    noted: &mut Vec<Option<usize>>,
+) -> Result<(), AllocError>
+    requires rising { Rise (λ row. row.uri) standing.now.issued.now }
+    requires stand { StandByName standing.now.site.now standing.now.issued.now }
+    requires noted { AreNoted standing.now owed.now noted.old.items }
+    ensures { OnOk result (AreNoted standing.now owed.now noted.new.items) }
+{
+    let group = group_of(alloc, standing, desk)?;
+    let guesses = Guesses::of_desk(alloc, owed, desk)?;
+    for position in group.first..group.end {
+        let row = &standing.issued[position];
+        note_named(owed, desk, &guesses, row, position, noted);
+    }
+    Ok(())
+}
+
+// How many desks have names. Desks are numbered from 0.
+fn desks_of(names: &[NameRow]) -> u32 {
+    u32::try_from(names.len()).unwrap_or(u32::MAX)
+}
+
+// The positions of what stands at the places of owed origins, as far as they are known from the rows. No URI is looked
+// at but those of the ends of each folder.
+fn noted_by_name(
+    alloc: Global,
+    standing: &Standing<'_>,
+    owed: &[Owed],
+) -> Result<Vec<Option<usize>>, AllocError>
+    requires rising { Rise (λ row. row.uri) standing.now.issued.now }
+    requires stand { StandByName standing.now.site.now standing.now.issued.now }
+    ensures { IfOk result (λ noted. AreNoted standing.now owed.now noted.items) }
+{
+    let mut noted = vec![in alloc; None; owed.len()]?;
+    for desk in 0..desks_of(standing.names) {
+        note_desk(alloc, standing, owed, desk, &mut noted)?;
+    }
+    Ok(noted)
+}
+
+// The same, by whichever is known of the rows.
+fn noted_from(
+    alloc: Global,
+    standing: &Standing<'_>,
+    owed: &[Owed],
+    by_name: bool,
+) -> Result<Vec<Option<usize>>, AllocError>
+    requires rising { Rise (λ row. row.uri) standing.now.issued.now }
+    requires stand { by_name ≡ true → StandByName standing.now.site.now standing.now.issued.now }
+    ensures { IfOk result (λ noted. AreNoted standing.now owed.now noted.items) }
+{
+    if by_name {
+        noted_by_name(alloc, standing, owed)
+    } else {
+        noted(alloc, standing, owed)
+    }
+}
+
+// ---- what is noted, and what isn't
+
 // The position of what stands at the owed origin's place, where this is noted of it.
 fn owed_position(
     alloc: Global,
@@ -192,16 +286,19 @@ fn owed_position(
 }
 
 /// For each owed origin the position of what stands at its place. A URI is spelled and looked for only
-/// where no ROA of the origin stands there by a live key of its authority.
+/// where no ROA of the origin stands there by a live key of its authority, or none at all where `by_name` says that
+/// each ROA stands in the folder of a name.
 pub fn owed_positions(
     alloc: Global,
     standing: &Standing<'_>,
     owed: &[Owed],
+    by_name: bool,
 ) -> Result<Vec<Option<usize>>, AllocError>
-    requires { Rise (λ row. row.uri) standing.now.issued.now }
+    requires rising { Rise (λ row. row.uri) standing.now.issued.now }
+    requires stand { by_name ≡ true → StandByName standing.now.site.now standing.now.issued.now }
     ensures { IfOk result (λ positions. positions.items ≡ spec.owed_positions standing.now owed.now) }
 {
-    let noted = noted(alloc, standing, owed)?;
+    let noted = noted_from(alloc, standing, owed, by_name)?;
     let mut positions = Vec::with_capacity(alloc, owed.len())?;
     for index in 0..owed.len() {
         positions.push(owed_position(alloc, standing, &owed[index], noted[index])?)?;

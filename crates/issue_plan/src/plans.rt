@@ -1,6 +1,6 @@
 //! The work of an edition (RFC 6481 section 2, RFC 6489 section 2).
 
-ghost use Rattle.std.specs.Prelude.{◌≡◌, map, filter, IfOk};
+ghost use Rattle.std.specs.Prelude.{◌≡◌, map, filter, true, IfOk};
 ghost use Rattle.std.specs.List.{filter_map};
 ghost use Rattle.entitle.specs.Certified.{settings_of};
 ghost use Rattle.entitle.specs.Owed.{AreOwed};
@@ -10,6 +10,7 @@ ghost use Rattle.issue_plan.specs.Work as spec;
 ghost use Rattle.issue_plan.specs.Work.{IsPlan};
 ghost use Rattle.issue_plan.specs.Wanted.{PlanInput, wanted_roas};
 ghost use Rattle.issue_plan.specs.inner.OwedPlaces.{owed_positions};
+ghost use Rattle.issue_plan.specs.ByName.{StandByName};
 ghost use Rattle.issue_plan.specs.Fits.{all_certificates, all_roas};
 ghost use Rattle.issue_plan.specs.inner.Anew.{IsOver};
 ghost use Rattle.issue_plan.specs.inner.Works.{IsAnew};
@@ -161,7 +162,8 @@ fn anew(
 /// Of what stands before the edition `rows` has the live keys, and `issued` the objects by rising URI. `configs` has
 /// the desks' configurations in the order of the desks, the trust anchor's first, `tree` a set for
 /// each name, and `owed` the origins with their desks. `site` is where all of it is published, and
-/// `moment` is in seconds since 1970.
+/// `moment` is in seconds since 1970. `by_name` tells whether it is known that each ROA that stands is
+/// at the place of its origin in the folder of some name: then no URI of a ROA is looked at.
 pub fn plan(
     alloc: Global,
     rows: &[KeyRow],
@@ -171,9 +173,11 @@ pub fn plan(
     issued: &Issued,
     site: &Site,
     moment: u64,
+    by_name: bool,
 ) -> Result<Work, AllocError>
     requires owed { AreOwed (settings_of configs.now) owed.now }
     requires rising { Rise (λ row. row.uri) issued.now.rows }
+    requires stand { by_name ≡ true → StandByName site.now issued.now.rows }
     ensures { IfOk result (IsPlan
         (record { rows = rows.now; configs = settings_of configs.now; sets = tree.now.sets.items; moment = moment })
         issued.now.rows site.now) }
@@ -192,7 +196,7 @@ pub fn plan(
         moment,
     };
     let certs = certificates(alloc, rows, configs, tree, &keys)?;
-    let found = owed_positions(alloc, &standing, owed)?;
+    let found = owed_positions(alloc, &standing, owed, by_name)?;
     let anew = anew(
         alloc,
         &standing,

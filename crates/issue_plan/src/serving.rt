@@ -24,7 +24,8 @@ fn is_same_resources(a: &Resources, b: &Resources) -> bool
         && are_same_ranges(a.v6.as_slice(), b.v6.as_slice())
 }
 
-fn is_same_origin(a: &Origin, b: &Origin) -> bool
+/// Whether the two are one origin.
+pub fn is_same_origin(a: &Origin, b: &Origin) -> bool
     ensures { result ≡ spec.is_same_origin a.now b.now }
 {
     a == b

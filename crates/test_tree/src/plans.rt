@@ -15,7 +15,7 @@ use crate::plans::shown::work_text;
 use crate::plans::trees::configs_of;
 use anyhow::{Context, Result, bail};
 use entitle::{certified, owed};
-use issue_plan::{are_by_uri, plan};
+use issue_plan::{are_by_uri, plan, stand_by_name};
 use key_ids::Site;
 use std::alloc::Global;
 use test_support::first_field;
@@ -45,6 +45,9 @@ fn answer(alloc: Global, fields: &str) -> Result<String> {
     )?;
     let moment = moment.parse::<u64>()?;
     let owed = owed(alloc, &configs, &tree)?;
-    let work = plan(alloc, &rows, &configs, &tree, &owed, &issued, &site, moment)?;
+    let by_name = stand_by_name(alloc, &site, issued.rows.as_slice())?;
+    let work = plan(
+        alloc, &rows, &configs, &tree, &owed, &issued, &site, moment, by_name,
+    )?;
     work_text(alloc, &work)
 }

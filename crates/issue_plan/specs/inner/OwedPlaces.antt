@@ -1,6 +1,10 @@
 -- Where the ROAs of owed origins are wanted, and where they stand.
 use Rattle.std.specs.Prelude.{◌≡◌, ℕ, ◌<◌, List, map, length, get_or, slice_get, IfSome, string_bytes}
-use Rattle.std.specs.Prelude.{Option, None, Some, option_map, option_and_then}
+use Rattle.std.specs.Prelude.{Bool, false, ◌==◌, ◌&&◌, Option, None, Some, option_map, option_and_then}
+use Rattle.std.specs.Option.{option_map_or}
+use Rattle.origins.specs.declared.Origin.{Origin}
+use Rattle.key_roll.specs.declared.issued.What.TheVariants.{Route}
+use Rattle.issue_plan.specs.Serves.{is_same_origin}
 use Rattle.authority_book.specs.declared.rows.NameRow.{NameRow}
 use Rattle.entitle.specs.declared.trees.Owed.{Owed}
 use Rattle.key_ids.specs.Uris.{Bases, folder_of, file_uri}
@@ -27,6 +31,17 @@ IsFolder s folder = IfSome folder.uri (λ uri.
 abbrev pub owed_place : Bases → List NameRow → Owed → Option (List ℕ)
 owed_place site names owed =
     option_map (λ row. file_uri site row.name (roa_file owed.origin)) (slice_get names owed.desk)
+
+-- Whether the origin at that index is the desk's one.
+abbrev pub is_that : List Owed → ℕ → ℕ → Origin → Bool
+is_that owed index desk origin =
+    option_map_or (λ each. (each.desk == desk) && is_same_origin each.origin origin)
+    (slice_get owed index) false
+
+-- A row of a ROA stands at the place of its origin, where that is the desk's.
+abbrev pub IsPlaceIn : Standing → ℕ → IssuedRow → Type 0
+IsPlaceIn s desk row = (origin : Origin) → row.what ≡ Route origin
+    → owed_place s.site.now s.names.now (record { desk = desk; origin = origin }) ≡ Some row.uri
 
 -- The position of what stands there.
 abbrev pub owed_position : Standing → Owed → Option ℕ
