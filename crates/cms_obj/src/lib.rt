@@ -9,5 +9,5 @@ mod writing;
 
 pub use moments::is_moment;
 pub use reading::read;
-pub use values::{ObjectKind, SignedObject};
-pub use writing::{attributes, is_certificate, write};
+pub use values::{HashedContent, ObjectKind, SignedObject};
+pub use writing::{attributes, hashed_attributes, is_certificate, write, write_hashed};

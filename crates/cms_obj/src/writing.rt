@@ -4,11 +4,12 @@ ghost use Rattle.std.specs.Prelude.{◌≡◌, ◌↔◌, ◌<◌, ◌^◌, ◌+
 ghost use Rattle.sha2.specs.Sha256.{sha256};
 ghost use Rattle.moments.specs.Civil.{IsMoment};
 ghost use Rattle.der.specs.Tags as tag;
+ghost use Rattle.der.specs.Spelling.{spelled};
 ghost use Rattle.der.specs.Object.{Spells};
 ghost use Rattle.cms_obj.specs.Values.{IsElement};
 ghost use Rattle.cms_obj.specs.Formats.{encapsulated, certificates, content_type, signing_time, message_digest, attributes, signed_attributes, version, signature as signature_form, signed, signers, signed_of, parts_of, digest_algorithms, signed_data, IsSignedObject, signed_object, object_of};
 
-use crate::values::ObjectKind;
+use crate::values::{HashedContent, ObjectKind};
 use der::Part;
 use der::tags::{CONTEXT_0, INTEGER, OCTET_STRING, PRIMITIVE_0, SEQUENCE, SET};
 use key_ids::KeyId;
@@ -82,6 +83,23 @@ fn push_attributes(
     push_message_digest(alloc, out, hash)
 }
 
+/// The attributes of a content with that hash, as a SET.
+fn attributes_with(
+    alloc: Global,
+    kind: ObjectKind,
+    hash: &[u8; 32],
+    moment: u64,
+) -> Result<Vec<u8>, AllocError>
+    requires { IsMoment moment }
+    ensures { IfOk result (λ bytes. bytes.items
+        ≡ spelled tag.set_of ((attributes kind hash.now).spelling moment)) }
+{
+    let mut out = Vec::with_capacity(alloc, ATTRIBUTES_ROOM)?;
+    push_attributes(alloc, &mut out, kind, hash, moment)?;
+    der::enclose(alloc, &mut out, 0, SET)?;
+    Ok(out)
+}
+
 /// The attributes of an object that is signed at that time, as the SET whose SHA-256 is signed (RFC
 /// 6488 section 2.1.6.4, RFC 9589). `moment` is in seconds since 1970.
 #[tactic(auto, unfolding(crate::specs::Formats::signed_attributes))]
@@ -94,10 +112,22 @@ pub fn attributes(
     requires { IsMoment moment }
     ensures { IfOk result (λ bytes. bytes.items ≡ signed_attributes kind content.now moment) }
 {
-    let mut out = Vec::with_capacity(alloc, ATTRIBUTES_ROOM)?;
-    push_attributes(alloc, &mut out, kind, &Sha256::digest(content), moment)?;
-    der::enclose(alloc, &mut out, 0, SET)?;
-    Ok(out)
+    attributes_with(alloc, kind, &Sha256::digest(content), moment)
+}
+
+/// The same of a content that was hashed.
+#[tactic(auto, unfolding(crate::specs::Formats::signed_attributes))]
+pub fn hashed_attributes(
+    alloc: Global,
+    kind: ObjectKind,
+    content: &HashedContent,
+    moment: u64,
+) -> Result<Vec<u8>, AllocError>
+    requires { IsMoment moment }
+    ensures { IfOk result (λ bytes. bytes.items
+        ≡ signed_attributes kind content.now.bytes.items moment) }
+{
+    attributes_with(alloc, kind, &content.hash, moment)
 }
 
 /// Appends the algorithm and the bytes of the signature.
@@ -228,10 +258,73 @@ fn is_object(
         (object_of kind content.now certificate.now signer.now moment signature.now) }
 {}
 
+/// The signed object of a content and its certificate, with what the signer says of it.
+#[tactic(auto, using(std::proofs::Common::append_assoc), unfolding(crate::specs::Formats::signed_object))]
+fn written(
+    alloc: Global,
+    content: &[u8],
+    certificate: &[u8],
+    said: &Statement,
+) -> Result<Vec<u8>, AllocError>
+    requires moment { IsMoment said.now.moment }
+    requires hash { said.now.hash ≡ sha256 content.now }
+    ensures { IfOk result (λ out. out.items ≡ signed_object.spelling
+        (object_of said.now.kind content.now certificate.now said.now.signer said.now.moment
+        said.now.signature)) }
+{
+    let inside = content.len().saturating_add(certificate.len());
+    let mut out = Vec::with_capacity(alloc, inside.saturating_add(AROUND))?;
+    push_identifier(alloc, &mut out, &SIGNED_DATA)?;
+    let from = out.len();
+    push_signed_data(alloc, &mut out, content, certificate, said)?;
+    der::enclose(alloc, &mut out, from, CONTEXT_0)?;
+    der::enclose(alloc, &mut out, 0, SEQUENCE)?;
+    Ok(out)
+}
+
+/// The signed object of a content with that hash.
+#[tactic(auto, unfolding(crate::specs::Formats::signed_object))]
+fn written_with(
+    alloc: Global,
+    kind: ObjectKind,
+    content: &[u8],
+    hash: [u8; 32],
+    certificate: &[u8],
+    signer: &KeyId,
+    moment: u64,
+    signature: &Signature,
+) -> Result<Vec<u8>, AllocError>
+    requires certificate { IsElement tag.sequence certificate.now }
+    requires moment { IsMoment moment }
+    requires hash { hash ≡ sha256 content.now }
+    ensures bytes { IfOk result (λ out. out.items ≡ signed_object.spelling
+        (object_of kind content.now certificate.now signer.now.bytes moment signature.now.bytes)) }
+    ensures spelled { IfOk result (λ out. length out.items < 2 ^ 32 → Spells signed_object
+        (object_of kind content.now certificate.now signer.now.bytes moment signature.now.bytes)
+        out.items) }
+{
+    is_object(
+        kind,
+        content,
+        certificate,
+        &signer.bytes,
+        moment,
+        &signature.bytes,
+    );
+    let said = Statement {
+        kind,
+        hash,
+        moment,
+        signer: signer.bytes,
+        signature: signature.bytes,
+    };
+    let out = written(alloc, content, certificate, &said)?;
+    Ok(out)
+}
+
 /// The signed object of a content, the certificate of the key that signs, the key's identifier, the time
 /// of the signature, and the signature of the [`attributes`]. `moment` is in seconds since 1970, as it
 /// was given there.
-#[tactic(auto, using(std::proofs::Common::append_assoc), unfolding(crate::specs::Formats::signed_object))]
 pub fn write(
     alloc: Global,
     kind: ObjectKind,
@@ -252,29 +345,51 @@ pub fn write(
         (object_of kind content.now certificate.now signer.now.bytes moment signature.now.bytes)
         out.items) }
 {
-    is_object(
+    let hash = Sha256::digest(content);
+    written_with(
+        alloc,
         kind,
         content,
+        hash,
         certificate,
-        &signer.bytes,
+        signer,
         moment,
-        &signature.bytes,
-    );
-    let said = Statement {
+        signature,
+    )
+}
+
+/// The same of a content that was hashed, which takes its hash as it is.
+pub fn write_hashed(
+    alloc: Global,
+    kind: ObjectKind,
+    content: &HashedContent,
+    certificate: &[u8],
+    signer: &KeyId,
+    moment: u64,
+    signature: &Signature,
+) -> Result<Vec<u8>, AllocError>
+    // See `is_certificate` and `moments::is_moment`.
+    requires certificate { IsElement tag.sequence certificate.now }
+    requires moment { IsMoment moment }
+
+    // The bytes are the spelling of the object. Where they are few enough, they are read back to it.
+    ensures bytes { IfOk result (λ out. out.items ≡ signed_object.spelling
+        (object_of kind content.now.bytes.items certificate.now signer.now.bytes moment
+        signature.now.bytes)) }
+    ensures spelled { IfOk result (λ out. length out.items < 2 ^ 32 → Spells signed_object
+        (object_of kind content.now.bytes.items certificate.now signer.now.bytes moment
+        signature.now.bytes) out.items) }
+{
+    written_with(
+        alloc,
         kind,
-        hash: Sha256::digest(content),
+        &content.bytes,
+        content.hash,
+        certificate,
+        signer,
         moment,
-        signer: signer.bytes,
-        signature: signature.bytes,
-    };
-    let inside = content.len().saturating_add(certificate.len());
-    let mut out = Vec::with_capacity(alloc, inside.saturating_add(AROUND))?;
-    push_identifier(alloc, &mut out, &SIGNED_DATA)?;
-    let from = out.len();
-    push_signed_data(alloc, &mut out, content, certificate, &said)?;
-    der::enclose(alloc, &mut out, from, CONTEXT_0)?;
-    der::enclose(alloc, &mut out, 0, SEQUENCE)?;
-    Ok(out)
+        signature,
+    )
 }
 
 /// Whether a part is one whole element.

@@ -5,7 +5,7 @@ use Rattle.std.specs.List.{slice_get, position_from}
 use Rattle.std.specs.List.Sorted.{IsNonDecreasing}
 use Rattle.std.specs.Option.{option_map}
 use Rattle.std.specs.Str.{bytes_eq}
-use Rattle.std.proofs.lemmas.List.{take-append-drop, length-append, length-take-le, take_more, map-append}
+use Rattle.std.proofs.lemmas.List.{take-append-drop, length-append, length-take-le, length-map, get_or-map, take_more, map-append}
 use Rattle.std.proofs.lemmas.Option.{slice_get-get_or}
 use Rattle.key_ids.specs.declared.identifier.KeyId.{KeyId}
 use Rattle.issue_keys.specs.declared.key_index.KeyPosition.{KeyPosition}
@@ -71,15 +71,23 @@ fresh-is keys finder desk o h is =
         let long = length-append keys.kept keys.fresh in
         (at.0 ∙ sym (behind keys.kept keys.fresh k), omega arith)
 
+identified-twice : (rows : List KeyRow)
+    → map (λ (id : KeyId). Some id) (map key_of rows) ≡ map (λ (row : KeyRow). Some (key_of row)) rows
+identified-twice [] = refl
+identified-twice (row ∷ rows) = ap (λ (l : List (Option KeyId)). Some (key_of row) ∷ l) (identified-twice rows)
+
 -- What finds the keys of these rows.
-pub finds-them : (rows : List KeyRow) (n : ℕ) (finder : KeyFinder)
+pub finds-them : (rows : List KeyRow) (n : ℕ) (finder : KeyFinder) (ids : List KeyId)
     → n ≤ length rows → IsNonDecreasing (map (λ row. row.desk) (drop n rows))
-    → IsIndex (map (λ row. Some (key_of row)) rows) finder.live
+    → finder.ids.items ≡ map key_of rows → ids ≡ map key_of rows
+    → IsIndex (map (λ id. Some id) ids) finder.live
     → finder.desks.items ≡ map (λ row. row.desk) (drop n rows) → finder.first_fresh ≡ n
     → Finds (keys_at rows n) finder
-finds-them rows n finder inside rising live desks first = record {
-  live = subst (λ (l : List KeyRow). IsIndex (map (λ row. Some (key_of row)) l) finder.live)
-      (sym (take-append-drop n rows)) live;
+finds-them rows n finder ids inside rising own same live desks first = record {
+  ids = own ∙ ap (map key_of) (sym (take-append-drop n rows));
+  live = subst (λ (l : List (Option KeyId)). IsIndex l finder.live)
+      (ap (map (λ (id : KeyId). Some id)) same
+      ∙ (identified-twice rows ∙ ap (map (λ (row : KeyRow). Some (key_of row))) (sym (take-append-drop n rows)))) live;
   desks = desks;
   rising = rising;
   first = first ∙ sym (length-take-le n rows inside);
@@ -90,6 +98,40 @@ pub named : (rows : List KeyRow) (n : ℕ) (name : KeyName) (position : ℕ)
     → IsPosition (keys_at rows n) name (Some position) → position < length rows
 named rows n name position h =
     subst (λ (l : List KeyRow). position < length l) (take-append-drop n rows) h.1
+
+-- The identifiers stand beside the rows.
+pub ids-beside : (rows : List KeyRow) (n : ℕ) (finder : KeyFinder) → Finds (keys_at rows n) finder
+    → finder.ids.items ≡ map key_of rows
+ids-beside rows n finder finds = finds.ids ∙ ap (map key_of) (take-append-drop n rows)
+
+pub ids-long : (rows : List KeyRow) (n : ℕ) (finder : KeyFinder) → Finds (keys_at rows n) finder
+    → length finder.ids.items ≡ length rows
+ids-long rows n finder finds = ap length (ids-beside rows n finder finds) ∙ length-map rows key_of
+
+pub identified-there : (rows : List KeyRow) (n : ℕ) (finder : KeyFinder) (position : ℕ) (row : KeyRow) (id : KeyId)
+    → Finds (keys_at rows n) finder → position < length rows → row ≡ get_or rows position row
+    → id ≡ get_or finder.ids.items position id → id.bytes ≡ id_of row
+identified-there rows n finder position row id finds inside here there =
+    ap (λ (k : KeyId). k.bytes)
+    (there ∙ (ap (λ (l : List KeyId). get_or l position id) (ids-beside rows n finder finds)
+    ∙ get_or-map key_of rows position row id inside))
+    ∙ ap id_of (sym here)
+
+-- The row at a position is the one that is found there.
+pub there-is : (rows : List KeyRow) (position : ℕ) (row d : KeyRow) → position < length rows
+    → slice_get rows position ≡ Some row → row ≡ get_or rows position d
+there-is rows position row d inside at = by (sym at ∙ slice_get-get_or rows position d inside)
+  where
+    by : Some row ≡ Some (get_or rows position d) → row ≡ get_or rows position d
+    by e = cc
+
+-- The key at the position of a name is the one that it stands for.
+pub key-there : (rows : List KeyRow) (n : ℕ) (name : KeyName) (position at : ℕ) (row : KeyRow)
+    → at ≡ position → slice_get rows at ≡ Some row → IsPosition (keys_at rows n) name (Some position)
+    → Some row ≡ key_named (keys_at rows n) name
+key-there rows n name position at row same is h =
+    sym (h.0 ∙ (ap (λ (l : List KeyRow). slice_get l position) (take-append-drop n rows)
+    ∙ (ap (slice_get rows) (sym same) ∙ is)))
 
 pub row-named : (rows : List KeyRow) (n : ℕ) (name : KeyName) (position : ℕ) (row : KeyRow)
     → row ≡ get_or rows position row → IsPosition (keys_at rows n) name (Some position)

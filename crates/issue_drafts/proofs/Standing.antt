@@ -5,13 +5,11 @@ use Rattle.std.specs.List.{All}
 use Rattle.std.specs.Option.{option_and_then}
 use Rattle.std.proofs.lemmas.List.{take-append-drop}
 use Rattle.std.proofs.lemmas.List.Elements.{All-drop}
-use Rattle.sha1.specs.Sha1.{sha1}
 use Rattle.key_roll.specs.declared.rows.KeyRow.{KeyRow}
 use Rattle.key_roll.specs.declared.work.CertWork.{CertWork}
 use Rattle.key_roll.specs.declared.work.KeyName.{KeyName}
 use Rattle.key_roll.specs.declared.work.KeyName.TheVariants.{Live, Fresh}
-use Rattle.issue_values.specs.Publishers.{Publishing, publishing}
-use Rattle.issue_values.specs.declared.publishers.Publisher.{Publisher}
+use Rattle.issue_values.specs.Publishers.{Publishing}
 use Rattle.issue_keys.specs.Keys.{id_of}
 use Rattle.issue_drafts.specs.WorkKeys.{Keys, key_named, keys_at}
 use Rattle.issue_drafts.specs.IssueInput.{IssueInput}
@@ -54,13 +52,11 @@ issuer-holds P rows n certs row issuer all e =
 abbrev parts : List ℕ → List ℕ → List ℕ → List ℕ → Publishing
 parts key id name certificate = record { key = key; id = id; name = name; certificate = certificate }
 
-pub publishing-is : (s : IssueInput) (keys : Keys) (row : KeyRow) (p : Publisher)
-    → p.key ≡ row.key → p.name ≡ name_at s.names row.desk → p.certificate ≡ certificate_of s keys row
-    → publishing p ≡ publishing_of s keys row
-publishing-is s keys row p key name uri =
-    let bytes : p.key.bytes ≡ row.key.bytes = rw key in
-    let id : p.id.bytes ≡ id_of row = p.identified ∙ ap sha1 bytes in
-    ap (λ (k : List ℕ). parts k p.id.bytes p.name p.certificate) bytes
-    ∙ (ap (λ (i : List ℕ). parts row.key.bytes i p.name p.certificate) id
-    ∙ (ap (λ (n : List ℕ). parts row.key.bytes (id_of row) n p.certificate) name
-    ∙ ap (λ (u : List ℕ). parts row.key.bytes (id_of row) (name_at s.names row.desk) u) uri))
+-- A key whose identifier is at hand.
+pub published : (s : IssueInput) (keys : Keys) (row : KeyRow) (id name certificate : List ℕ)
+    → id ≡ id_of row → name ≡ name_at s.names row.desk → certificate ≡ certificate_of s keys row
+    → parts row.key.bytes id name certificate ≡ publishing_of s keys row
+published s keys row id name certificate own named uri =
+    ap (λ (i : List ℕ). parts row.key.bytes i name certificate) own
+    ∙ (ap (λ (n : List ℕ). parts row.key.bytes (id_of row) n certificate) named
+    ∙ ap (λ (u : List ℕ). parts row.key.bytes (id_of row) (name_at s.names row.desk) u) uri)

@@ -36,6 +36,7 @@ keys_at rows n = record { kept = take n rows; fresh = drop n rows }
 
 -- What finds keys knows those of the edition.
 pub record Finds (keys : Keys) (finder : KeyFinder) : Type 0 where
+  pub ids : finder.ids.items ≡ map key_of (all_keys keys)
   pub live : IsIndex (map (λ row. Some (key_of row)) (all_keys keys)) finder.live
   pub desks : finder.desks.items ≡ map (λ row. row.desk) keys.fresh
   pub rising : IsNonDecreasing (map (λ row. row.desk) keys.fresh)

@@ -1,16 +1,23 @@
 //! The objects of an edition before they are signed.
 
+ghost use Rattle.std.specs.Prelude.{◌≡◌};
+ghost use Rattle.sha1.specs.Sha1.{sha1};
+
+use key_ids::KeyId;
 use key_roll::KeyRow;
 use origins::Origin;
 use pub_set::Uri;
 use res_sets::Resources;
 
-/// A key of the edition, and its position among the edition's keys.
+/// A key of the edition with its identifier, and its position among the edition's keys.
 #[derive(Clone, Copy)]
 pub struct KeyAt<'a> {
     /// An index from 0.
     pub position: usize,
     pub row: &'a KeyRow,
+    /// The key's identifier.
+    pub(crate) id: KeyId,
+    pub ghost identified: { id.bytes ≡ sha1 row.now.key.bytes },
 }
 
 /// What an object is to say.

@@ -4,13 +4,11 @@ ghost use Rattle.std.specs.Prelude.{◌≡◌, true, map, filter, All, IfOk};
 ghost use Rattle.std.specs.Ordering.{is_lt};
 ghost use Rattle.pub_set.specs.Objects.{uri_cmp, Rise};
 ghost use Rattle.issue_keys.specs.Indexes.{IsIndex};
-ghost use Rattle.issue_drafts.specs.WorkKeys.{key_of};
 ghost use Rattle.issue_drafts.specs.Views.{draft_of};
 ghost use Rattle.key_ids.specs.Uris.{anchor_uri};
 ghost use Rattle.issue_drafts.specs.inner.Holdings.{stays, is_kept_under, is_inside, made_key};
 
 use crate::draft::Draft;
-use crate::hashing::identify;
 use crate::touching::Touched;
 use issue_keys::{KeyIndex, index_of};
 use key_ids::{KeyId, Site};
@@ -97,14 +95,13 @@ pub fn kept_rows<'a>(
 }
 
 /// The key that issues an object, but of the trust anchor's certificate.
-fn made_key(draft: &Draft<'_>, id: &KeyId, anchor: &str) -> Option<KeyId>
-    requires { id.now ≡ key_of draft.now.issuer.row.now }
+fn made_key(draft: &Draft<'_>, anchor: &str) -> Option<KeyId>
     ensures { result ≡ made_key anchor.now (draft_of draft.now) }
 {
     if draft.uri.as_str() == anchor {
         None
     } else {
-        Some(*id)
+        Some(draft.issuer.id())
     }
 }
 
@@ -117,11 +114,8 @@ fn made_keys(
     ensures { IfOk result (λ keys. keys.items ≡ map (made_key anchor.now) (map draft_of drafts.now)) }
 {
     let mut keys = Vec::with_capacity(alloc, drafts.len())?;
-    let mut before = None;
     for draft in drafts {
-        let issuer = identify(before, draft.issuer.row);
-        keys.push(made_key(draft, &issuer.id, anchor))?;
-        before = Some(issuer);
+        keys.push(made_key(draft, anchor))?;
     }
     Ok(keys)
 }

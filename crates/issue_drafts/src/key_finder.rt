@@ -4,11 +4,14 @@
 ghost use Rattle.std.specs.Prelude.{◌+◌, ◌^◌, ◌<◌, length};
 
 use issue_keys::KeyIndex;
+use key_ids::KeyId;
 
 /// Finds the keys that the work names, in logarithmic time.
 #[derive(Debug, Drop)]
 pub struct KeyFinder {
-    /// All keys of the edition.
+    /// The identifiers of all keys of the edition, in their order.
+    pub ids: Vec<KeyId>,
+    /// The positions of these keys.
     pub live: KeyIndex,
     /// The desks of the new keys, which rise.
     pub desks: Vec<u32>,

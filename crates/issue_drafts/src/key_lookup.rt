@@ -12,22 +12,29 @@ use key_ids::KeyId;
 use key_roll::{KeyName, KeyRow};
 use std::alloc::{AllocError, Global};
 
-/// The identifiers of keys.
-fn live_keys(alloc: Global, rows: &[KeyRow]) -> Result<Vec<Option<KeyId>>, AllocError>
-    ensures { IfOk result (λ keys. keys.items ≡ map (λ row. Some (key_of row)) rows.now) }
+/// The identifiers of keys, each of which is hashed here and nowhere else in an edition's drafts.
+fn ids_of(alloc: Global, rows: &[KeyRow]) -> Result<Vec<KeyId>, AllocError>
+    ensures { IfOk result (λ ids. ids.items ≡ map key_of rows.now) }
 {
-    let mut keys = Vec::with_capacity(alloc, rows.len())?;
+    let mut ids = Vec::with_capacity(alloc, rows.len())?;
     for row in rows {
-        keys.push(Some(KeyId::of(&row.key.bytes)))?;
+        ids.push(KeyId::of(&row.key.bytes))?;
     }
-    Ok(keys)
+    Ok(ids)
 }
 
-/// Their positions.
-fn live_index(alloc: Global, rows: &[KeyRow]) -> Result<KeyIndex, AllocError>
-    ensures { IfOk result (IsIndex (map (λ row. Some (key_of row)) rows.now)) }
+/// The same, as an index takes them.
+fn live_keys(alloc: Global, ids: &[KeyId]) -> Result<Vec<Option<KeyId>>, AllocError>
+    ensures { IfOk result (λ keys. keys.items ≡ map (λ id. Some id) ids.now) }
 {
-    let keys = live_keys(alloc, rows)?;
+    ids.iter().map(|id| Some(*id)).collect(alloc)
+}
+
+/// The positions of the keys with these identifiers.
+fn live_index(alloc: Global, ids: &[KeyId]) -> Result<KeyIndex, AllocError>
+    ensures { IfOk result (IsIndex (map (λ id. Some id) ids.now)) }
+{
+    let keys = live_keys(alloc, ids)?;
     let index = index_of(alloc, &keys)?;
     Ok(index)
 }
@@ -63,10 +70,12 @@ impl KeyFinder {
         requires rising { IsNonDecreasing (map (λ row. row.desk) (drop first_fresh rows.now)) }
         ensures { IfOk result (Finds (keys_at rows.now first_fresh)) }
     {
-        let live = live_index(alloc, rows)?;
+        let ids = ids_of(alloc, rows)?;
+        let live = live_index(alloc, &ids)?;
         let fresh = behind(rows, first_fresh);
         let desks = desks_of(alloc, fresh)?;
         Ok(KeyFinder {
+            ids,
             live,
             desks,
             first_fresh,

@@ -7,8 +7,10 @@ ghost use Rattle.issue_drafts.specs.WorkKeys.{key_of, key_named, keys_at, Finds}
 ghost use Rattle.issue_drafts.specs.IssueInput.{input_of};
 ghost use Rattle.issue_drafts.specs.Publishers.{name_at, made_uri, subject_key, issuer_for, certified_key, standing_for, certificate_of, publishing_of};
 
+use crate::draft::KeyAt;
 use crate::issue_parts::IssueParts;
 use crate::key_finder::KeyFinder;
+use crate::placed_keys::{key_named, key_there};
 use authority_book::NameRow;
 use issue_keys::{KeyIndex, KeyPosition, index_of};
 use issue_values::Publisher;
@@ -31,28 +33,18 @@ pub fn made_uri(
     alloc: Global,
     site: &Site,
     names: &[NameRow],
-    issuer: &KeyRow,
-    subject: &KeyRow,
+    issuer: &KeyAt<'_>,
+    subject: &KeyAt<'_>,
 ) -> Result<String, AllocError>
-    requires { issuer.now.desk < length names.now }
-    ensures { IfOk result (λ uri. string_bytes uri ≡ made_uri site.now names.now issuer.now subject.now) }
+    requires { issuer.now.row.now.desk < length names.now }
+    ensures { IfOk result (λ uri. string_bytes uri
+        ≡ made_uri site.now names.now issuer.now.row.now subject.now.row.now) }
 {
-    let (by, id) = (KeyId::of(&issuer.key.bytes), KeyId::of(&subject.key.bytes));
+    let (by, id) = (issuer.id(), subject.id());
     if by.bytes == id.bytes {
         site.anchor_uri(alloc)
     } else {
-        site.cert_uri(alloc, name_of(names, issuer.desk).as_str(), &id)
-    }
-}
-
-/// The key that a name stands for.
-fn key_named<'a>(rows: &'a [KeyRow], finder: &KeyFinder, name: &KeyName) -> Option<&'a KeyRow>
-    requires { Finds (keys_at rows.now finder.now.first_fresh) finder.now }
-    ensures { option_copied result ≡ key_named (keys_at rows.now finder.now.first_fresh) name.now }
-{
-    match finder.position(name) {
-        Some(position) => Some(&rows[position]),
-        None => None,
+        site.cert_uri(alloc, name_of(names, issuer.row.desk).as_str(), &id)
     }
 }
 
@@ -62,7 +54,7 @@ fn id_named(rows: &[KeyRow], finder: &KeyFinder, name: &KeyName) -> Option<KeyId
     ensures { result ≡ option_map key_of (key_named (keys_at rows.now finder.now.first_fresh) name.now) }
 {
     match key_named(rows, finder, name) {
-        Some(row) => Some(KeyId::of(&row.key.bytes)),
+        Some(key) => Some(key.id()),
         None => None,
     }
 }
@@ -142,12 +134,11 @@ fn standing_certificates(alloc: Global, issued: &[IssuedRow]) -> Result<KeyIndex
 }
 
 /// The certificate that stands for a key.
-fn standing_for<'a>(issued: &'a [IssuedRow], index: &KeyIndex, row: &KeyRow) -> Option<&'a str>
+fn standing_for<'a>(issued: &'a [IssuedRow], index: &KeyIndex, key: &KeyAt<'_>) -> Option<&'a str>
     requires { IsIndex (map (λ r. certified_key r.what) issued.now) index.now }
-    ensures { option_copied result ≡ standing_for issued.now row.now }
+    ensures { option_copied result ≡ standing_for issued.now key.now.row.now }
 {
-    let id = KeyId::of(&row.key.bytes);
-    match index.first(&id) {
+    match index.first(&key.id) {
         Some(position) => Some(issued[position].uri.as_str()),
         None => None,
     }
@@ -159,15 +150,15 @@ fn issuer_for<'a>(
     rows: &'a [KeyRow],
     finder: &KeyFinder,
     index: &KeyIndex,
-    row: &KeyRow,
-) -> Option<&'a KeyRow>
+    key: &KeyAt<'_>,
+) -> Option<KeyAt<'a>>
     requires finds { Finds (keys_at rows.now finder.now.first_fresh) finder.now }
     requires index { IsIndex
         (map (subject_key (keys_at rows.now finder.now.first_fresh)) certs.now) index.now }
-    ensures { option_copied result ≡ issuer_for (keys_at rows.now finder.now.first_fresh) certs.now row.now }
+    ensures { option_map (λ k. k.row.now) result
+        ≡ issuer_for (keys_at rows.now finder.now.first_fresh) certs.now key.now.row.now }
 {
-    let id = KeyId::of(&row.key.bytes);
-    match index.first(&id) {
+    match index.first(&key.id) {
         Some(position) => key_named(rows, finder, &certs[position].issuer),
         None => None,
     }
@@ -187,7 +178,7 @@ fn certificate_uri(
     rows: &[KeyRow],
     finder: &KeyFinder,
     certificates: &Certificates,
-    row: &KeyRow,
+    key: &KeyAt<'_>,
 ) -> Result<String, AllocError>
     requires names { All (λ row. row.desk < length at.now.names.now) rows.now }
     requires finds { Finds (keys_at rows.now finder.now.first_fresh) finder.now }
@@ -195,19 +186,47 @@ fn certificate_uri(
         at.now.work.now.certs) certificates.now.made }
     requires standing { IsIndex (map (λ r. certified_key r.what) at.now.issued.now) certificates.now.standing }
     ensures { IfOk result (λ uri. string_bytes uri
-        ≡ certificate_of (input_of at.now) (keys_at rows.now finder.now.first_fresh) row.now) }
+        ≡ certificate_of (input_of at.now) (keys_at rows.now finder.now.first_fresh) key.now.row.now) }
 {
-    if row.desk == 0 {
+    if key.row.desk == 0 {
         return at.site.anchor_uri(alloc);
     }
     let certs = at.work.certs.as_slice();
-    if let Some(issuer) = issuer_for(certs, rows, finder, &certificates.made, row) {
-        return made_uri(alloc, at.site, at.names, issuer, row);
+    if let Some(issuer) = issuer_for(certs, rows, finder, &certificates.made, key) {
+        return made_uri(alloc, at.site, at.names, &issuer, key);
     }
-    match standing_for(at.issued, &certificates.standing, row) {
+    match standing_for(at.issued, &certificates.standing, key) {
         Some(uri) => String::from_str(alloc, uri),
         None => at.site.anchor_uri(alloc),
     }
+}
+
+/// A key, and where it publishes.
+fn publisher(
+    alloc: Global,
+    at: &IssueParts<'_>,
+    rows: &[KeyRow],
+    finder: &KeyFinder,
+    certificates: &Certificates,
+    key: &KeyAt<'_>,
+) -> Result<Publisher, AllocError>
+    requires names { All (λ row. row.desk < length at.now.names.now) rows.now }
+    requires own { key.now.row.now.desk < length at.now.names.now }
+    requires finds { Finds (keys_at rows.now finder.now.first_fresh) finder.now }
+    requires made { IsIndex (map (subject_key (keys_at rows.now finder.now.first_fresh))
+        at.now.work.now.certs) certificates.now.made }
+    requires standing { IsIndex (map (λ r. certified_key r.what) at.now.issued.now) certificates.now.standing }
+    ensures { IfOk result (λ p. publishing p
+        ≡ publishing_of (input_of at.now) (keys_at rows.now finder.now.first_fresh) key.now.row.now) }
+{
+    let uri = certificate_uri(alloc, at, rows, finder, certificates, key)?;
+    let name = name_of(at.names, key.row.desk);
+    Ok(Publisher {
+        key: key.row.key,
+        id: key.id,
+        name,
+        certificate: Uri::new(uri),
+    })
 }
 
 /// The keys of an edition, and where they publish.
@@ -227,10 +246,10 @@ pub fn publishers(
         standing: standing_certificates(alloc, at.issued)?,
     };
     let mut publishers = Vec::with_capacity(alloc, rows.len())?;
-    for row in rows {
-        let uri = certificate_uri(alloc, at, rows, finder, &certificates, row)?;
-        let name = name_of(at.names, row.desk);
-        publishers.push(Publisher::new(row.key, name, Uri::new(uri)))?;
+    for position in 0..rows.len() {
+        let key = key_there(rows, finder, position);
+        let publisher = publisher(alloc, at, rows, finder, &certificates, &key)?;
+        publishers.push(publisher)?;
     }
     Ok(publishers)
 }

@@ -23,7 +23,6 @@ use crate::key_publishers::name_of;
 use crate::touching::Touched;
 use issue_keys::KeyPosition;
 use items::Items;
-use key_ids::KeyId;
 use key_roll::{IssuedRow, KeyRow};
 use payloads::ListedFile;
 use std::alloc::{AllocError, Global};
@@ -183,12 +182,11 @@ pub fn files(
     let made = made_index(alloc, drafts, at.site)?;
     let mut lists = Vec::with_capacity(alloc, manifests.len())?;
     for manifest in manifests {
-        let key = manifest.issuer.row;
-        let id = KeyId::of(&key.key.bytes);
-        let folder = folder_of(alloc, at, key)?;
+        let id = &manifest.issuer.id;
+        let folder = folder_of(alloc, at, manifest.issuer.row)?;
         let path = folder.as_str();
-        let stay = kept_rows(alloc, at.issued, path, &id, touched, at.site)?;
-        let come = made.positions(&id);
+        let stay = kept_rows(alloc, at.issued, path, id, touched, at.site)?;
+        let come = made.positions(id);
         let list = merged(alloc, path, &stay, drafts, hashes, come)?;
         lists.push(Items::new(list))?;
     }

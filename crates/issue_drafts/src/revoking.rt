@@ -4,7 +4,7 @@ ghost use Rattle.std.specs.Prelude.{◌≡◌, ◌≤◌, ◌++◌, ◌∷◌, [
 ghost use Rattle.std.specs.List.Sorted.{IsBinarySearchResult, IsSearchInRange};
 ghost use Rattle.pub_set.specs.Objects.{uri_cmp, Rise};
 ghost use Rattle.issue_keys.specs.Indexes.{IsIndex, key_positions};
-ghost use Rattle.issue_drafts.specs.WorkKeys.{Keys};
+ghost use Rattle.issue_drafts.specs.WorkKeys.{Keys, keys_at, Finds};
 ghost use Rattle.issue_drafts.specs.IssueInput.{input_of};
 ghost use Rattle.issue_drafts.specs.Drafts.{Draft as Put};
 ghost use Rattle.key_ids.specs.Uris.{anchor_uri};
@@ -18,10 +18,12 @@ ghost use Rattle.issue_drafts.specs.inner.Entries.{is_counted, counted_key, ende
 
 use crate::first_entries::first_of_each;
 use crate::issue_parts::IssueParts;
+use crate::key_finder::KeyFinder;
+use crate::placed_keys::key_there;
 use crate::touching::Touched;
 use issue_keys::{KeyIndex, KeyPosition};
 use items::Items;
-use key_ids::{KeyId, Site};
+use key_ids::Site;
 use key_roll::{IssuedRow, KeyRow, RevokedRow};
 use pub_set::Uri;
 use std::alloc::{AllocError, Global};
@@ -209,9 +211,11 @@ pub fn entries(
     alloc: Global,
     at: &IssueParts<'_>,
     rows: &[KeyRow],
+    finder: &KeyFinder,
     points: &[bool],
     touched: &Touched,
 ) -> Result<Vec<Items<RevokedRow>>, AllocError>
+    requires finds { Finds (keys_at rows.now finder.now.first_fresh) finder.now }
     requires standing { Rise (λ row. row.uri) at.now.issued.now }
     requires points { length points.now ≡ length rows.now }
     ensures firsts { IfOk result (λ lists. (keys : Keys) (puts : List Put)
@@ -227,7 +231,8 @@ pub fn entries(
     let moment = at.work.moment;
     let mut lists = Vec::with_capacity(alloc, rows.len())?;
     for (position, row) in rows.iter().enumerate() {
-        let positions = ended.positions(&KeyId::of(&row.key.bytes));
+        let key = key_there(rows, finder, position);
+        let positions = ended.positions(&key.id);
         let entries = key_entries(alloc, row, points[position], at.issued, positions, moment)?;
         lists.push(Items::new(entries))?;
     }

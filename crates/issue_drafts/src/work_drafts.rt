@@ -11,7 +11,7 @@ ghost use Rattle.issue_drafts.specs.DraftInput.{setting_in, keys_in, CanDraft};
 use crate::draft::{Draft, DraftKind, KeyAt, ManifestDraft};
 use crate::draft_input::DraftInput;
 use crate::key_publishers::{made_uri, name_of};
-use key_ids::KeyId;
+use crate::placed_keys::key_named;
 use key_roll::{CertWork, KeyName, PointWork, RoaWork};
 use names::Name;
 use pub_set::Uri;
@@ -23,13 +23,7 @@ fn key_at<'a>(at: &DraftInput<'a>, name: &KeyName) -> Option<KeyAt<'a>>
     ensures key { option_map (λ k. k.row.now) result ≡ key_named (keys_in at.now) name.now }
     ensures positioned { IfSome result (IsPositioned at.now.rows.now) }
 {
-    match at.finder.position(name) {
-        Some(position) => Some(KeyAt {
-            position,
-            row: &at.rows[position],
-        }),
-        None => None,
-    }
+    key_named(at.rows, at.finder, name)
 }
 
 /// The name of a key's authority.
@@ -70,7 +64,7 @@ impl DraftedWork for CertWork {
             return Ok(None);
         };
         let (site, names) = (at.input.site, at.input.names);
-        let uri = made_uri(alloc, site, names, issuer.row, subject.row)?;
+        let uri = made_uri(alloc, site, names, &issuer, &subject)?;
         Ok(Some(Draft {
             uri: Uri::new(uri),
             issuer,
@@ -118,7 +112,7 @@ impl DraftedWork for PointWork {
         let Some(issuer) = key_at(at, &self.key) else {
             return Ok(None);
         };
-        let (name, id) = (name_at(at, &issuer), KeyId::of(&issuer.row.key.bytes));
+        let (name, id) = (name_at(at, &issuer), issuer.id());
         let uri = at.input.site.crl_uri(alloc, name.as_str(), &id)?;
         Ok(Some(Draft {
             uri: Uri::new(uri),
@@ -142,7 +136,7 @@ pub fn manifest_draft<'a>(
     let Some(issuer) = key_at(at, &point.key) else {
         return Ok(None);
     };
-    let (name, id) = (name_at(at, &issuer), KeyId::of(&issuer.row.key.bytes));
+    let (name, id) = (name_at(at, &issuer), issuer.id());
     let uri = at.input.site.manifest_uri(alloc, name.as_str(), &id)?;
     Ok(Some(ManifestDraft {
         uri: Uri::new(uri),

@@ -2,15 +2,13 @@
 
 ghost use Rattle.std.specs.Prelude.{◌≡◌, ◌≤◌, ◌++◌, map, length, slice_index, IfOk, OnOk};
 ghost use Rattle.issue_values.specs.Certificates.{IsEditionMoment};
-ghost use Rattle.issue_drafts.specs.WorkKeys.{key_of};
 ghost use Rattle.issue_drafts.specs.Views.{kind_of, draft_of, manifest_of};
 ghost use Rattle.issue_make.specs.Trace.{life_of};
 ghost use Rattle.issue_make.specs.inner.Putting.{what_of, row_of, draft_rows, next_serials, hashes_of, HavePositions};
 
-use issue_drafts::{Draft, DraftKind, ManifestDraft, identify};
+use issue_drafts::{Draft, DraftKind, ManifestDraft};
 use issue_sign::Object;
 use issue_values::{CERTIFICATE_LIFE, POINT_LIFE};
-use key_ids::KeyId;
 use key_roll::{IssuedRow, What};
 use std::alloc::{AllocError, Global};
 
@@ -20,7 +18,7 @@ fn what_of(alloc: Global, kind: &DraftKind<'_>) -> Result<What, AllocError>
 {
     match kind {
         DraftKind::Authority { subject, held } => Ok(What::Authority {
-            key: KeyId::of(&subject.row.key.bytes),
+            key: subject.id(),
             held: held.copy(alloc)?,
         }),
         DraftKind::Route { origin } => Ok(What::Route { origin: *origin }),
@@ -38,22 +36,20 @@ fn life_of(kind: &DraftKind<'_>) -> u64
     }
 }
 
-/// The row of an object that is no manifest, whose issuer has that identifier.
+/// The row of an object that is no manifest.
 fn draft_row(
     alloc: Global,
     moment: u64,
     draft: &Draft<'_>,
-    issuer: KeyId,
     serial: u64,
     hash: [u8; 32],
 ) -> Result<IssuedRow, AllocError>
-    requires moment { IsEditionMoment moment }
-    requires issuer { issuer ≡ key_of draft.now.issuer.row.now }
+    requires { IsEditionMoment moment }
     ensures { IfOk result (λ row. row ≡ row_of moment (draft_of draft.now) serial hash) }
 {
     Ok(IssuedRow {
         uri: draft.uri.copy(alloc)?,
-        issuer,
+        issuer: draft.issuer.id(),
         serial,
         not_after: moment + life_of(&draft.kind),
         hash,
@@ -74,7 +70,7 @@ fn manifest_row(
 {
     Ok(IssuedRow {
         uri: draft.uri.copy(alloc)?,
-        issuer: KeyId::of(&draft.issuer.row.key.bytes),
+        issuer: draft.issuer.id(),
         serial,
         not_after: moment + POINT_LIFE,
         hash,
@@ -98,13 +94,10 @@ pub fn push_draft_rows(
     ensures { OnOk result (rows.new.items ≡ rows.old.items
         ++ draft_rows moment (map draft_of drafts.now) given.now (hashes_of objects.now)) }
 {
-    let mut before = None;
     for (position, draft) in drafts.iter().enumerate() {
-        let issuer = identify(before, draft.issuer.row);
         let (serial, hash) = (given[position], objects[position].hash);
-        let row = draft_row(alloc, moment, draft, issuer.id, serial, hash)?;
+        let row = draft_row(alloc, moment, draft, serial, hash)?;
         rows.push(row)?;
-        before = Some(issuer);
     }
     Ok(())
 }

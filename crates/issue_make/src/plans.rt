@@ -52,7 +52,7 @@ pub fn plan_objects<'a>(
     let manifests = manifest_drafts(alloc, &at)?;
     let touched = Touched::new(alloc, input, &drafts, &manifests)?;
     let points = points(alloc, rows, &manifests)?;
-    let revoked = entries(alloc, input, rows, &points, &touched)?;
+    let revoked = entries(alloc, input, rows, finder, &points, &touched)?;
     let serials = give_serials(alloc, rows, &drafts)?;
     Ok(ObjectPlan {
         publishers,

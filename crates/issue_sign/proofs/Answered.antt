@@ -39,7 +39,7 @@ asked-by m key (pending.Whole object) n js low all = all
 asked-by m key (pending.Certificate tbs) n js low all = All-cons (λ (job : SignJob). asked job < n) (signing key tbs.items) js low all
 asked-by m key (pending.Revocations tbs) n js low all = All-cons (λ (job : SignJob). asked job < n) (signing key tbs.items) js low all
 asked-by m key (pending.Content kind content) n js low all =
-    All-cons (λ (job : SignJob). asked job < n) (signing_once key (signed_attributes kind content.items m)) js low all
+    All-cons (λ (job : SignJob). asked job < n) (signing_once key (signed_attributes kind content.bytes.items m)) js low all
 asked-by m key (pending.Entity kind content tbs) n js low all = All-cons (λ (job : SignJob). asked job < n) (signing key tbs.items) js low all
 
 -- All signers of the jobs are there.
@@ -101,7 +101,7 @@ step-calls m key (pending.Revocations tbs) js (answers.Once once ∷ left) more 
 step-calls m key (pending.Content kind content) js [] more are e = absurd are
 step-calls m key (pending.Content kind content) js (answers.Signature s ∷ left) more are e = absurd are.0
 step-calls m key (pending.Content kind content) js (answers.Once once ∷ left) more are e =
-    ap (λ (rest : List Call). by_once key (signed_attributes kind content.items m) (answer_in (answers.Once once ∷ left)) ∷ rest) e
+    ap (λ (rest : List Call). by_once key (signed_attributes kind content.bytes.items m) (answer_in (answers.Once once ∷ left)) ∷ rest) e
 step-calls m key (pending.Entity kind content tbs) js [] more are e = absurd are
 step-calls m key (pending.Entity kind content tbs) js (answers.Signature s ∷ left) more are e = ap (λ (rest : List Call). by_issuer key tbs.items s.bytes ∷ rest) e
 step-calls m key (pending.Entity kind content tbs) js (answers.Once once ∷ left) more are e = absurd are.0

@@ -12,6 +12,7 @@ use Rattle.cert_obj.specs.Values.{CertValue, IsCert}
 use Rattle.cert_obj.specs.Formats as certificates
 use Rattle.crl_obj.specs.Values.{CrlValue, IsCrl}
 use Rattle.crl_obj.specs.Formats as crls
+use Rattle.cms_obj.specs.declared.values.HashedContent.{HashedContent}
 use Rattle.cms_obj.specs.declared.values.ObjectKind.{ObjectKind}
 use Rattle.cms_obj.specs.declared.values.ObjectKind.TheVariants as ObjectKinds
 use Rattle.cms_obj.specs.Formats.{signed_attributes}
@@ -84,8 +85,8 @@ crl-first s b d crl tbs e made spelled bytes =
     subst (λ (k : DraftKind). IsFirstOf s b (draft_of d) (kind_of k) (pending.Revocations tbs)) (sym e)
     (record { tbs = tbs; is = refl; whole = subst IsCrl made spelled; bytes = bytes ∙ ap crls.signed_bytes made })
 
-pub route-first : (s : IssueInput) (b : SignInputValue) (d : code.Draft) (origin : Origin) (content : Vec ℕ Global) → d.kind ≡ kinds.Route origin
-    → IsRoa (roa_of origin) → content.items ≡ roa_content origin
+pub route-first : (s : IssueInput) (b : SignInputValue) (d : code.Draft) (origin : Origin) (content : HashedContent) → d.kind ≡ kinds.Route origin
+    → IsRoa (roa_of origin) → content.bytes.items ≡ roa_content origin
     → IsFirstOf s b (draft_of d) (kind_of d.kind) (pending.Content ObjectKinds.Roa content)
 route-first s b d origin content e spelled bytes =
     subst (λ (k : DraftKind). IsFirstOf s b (draft_of d) (kind_of k) (pending.Content ObjectKinds.Roa content)) (sym e)
@@ -151,7 +152,7 @@ answers-of-once o c e =
 
 -- The object of a content with the certificate of its key, by what was signed for it.
 pub entity-made : (m : ℕ) (kind : ObjectKind) (c : SignedContent) (content : List ℕ) (cert : CertValue) (p : Pending) (o : Object)
-    → IsEntityStep kind c cert p → cert.not_before ≡ m → c.content.items ≡ content → IsOutcome m p (Made o)
+    → IsEntityStep kind c cert p → cert.not_before ≡ m → c.content.bytes.items ≡ content → IsOutcome m p (Made o)
     → (o.once ≡ Some c.once) × IsObjectOf (object_bytes kind content cert o.signature.bytes c.once.key.bytes c.once.signature.bytes)
     (IsObject kind content cert o.signature.bytes c.once.key.bytes c.once.signature.bytes) o
 entity-made m kind c content cert p o is at same out =

@@ -97,12 +97,12 @@ asking m key (pending.Revocations tbs) = record {
   from = λ c is. let x = issuer-from key tbs.items c is in (only x.0, tt, x.1);
 }
 asking m key (pending.Content kind content) = record {
-  call_at = λ a. by_once key (signed_attributes kind content.items m) a;
+  call_at = λ a. by_once key (signed_attributes kind content.bytes.items m) a;
   is = λ a. refl;
   owner = λ a. refl;
   has = only [];
   kept = tt;
-  from = λ c is. let x = once-from key (signed_attributes kind content.items m) c is in (x.0, tt, x.1);
+  from = λ c is. let x = once-from key (signed_attributes kind content.bytes.items m) c is in (x.0, tt, x.1);
 }
 asking m key (pending.Entity kind content tbs) = record {
   call_at = λ a. by_issuer key tbs.items a.last;

@@ -80,20 +80,20 @@ framed-object o signed signature tbs Known bytes hash once signs made same known
 pub entity-object : (m : ℕ) (kind : ObjectKind) (c : SignedContent) (tbs : List ℕ) (o : Object) (signed : SignedBytes) (signature : Signature)
     → o.bytes ≡ signed.bytes → o.hash ≡ sha256 signed.bytes → o.once ≡ Some c.once → o.signature ≡ signed.signature → signed.signature ≡ signature
     → ((cert : CertValue) → tbs ≡ certificates.signed_bytes cert → cert.not_before ≡ m
-    → signed.bytes ≡ object_bytes kind c.content.items cert signature.bytes c.once.key.bytes c.once.signature.bytes)
+    → signed.bytes ≡ object_bytes kind c.content.bytes.items cert signature.bytes c.once.key.bytes c.once.signature.bytes)
     → ((cert : CertValue) → IsCert cert → tbs ≡ certificates.signed_bytes cert → cert.not_before ≡ m
-    → IsObject kind c.content.items cert signature.bytes c.once.key.bytes c.once.signature.bytes) → IsEntity m kind c tbs o
+    → IsObject kind c.content.bytes.items cert signature.bytes c.once.key.bytes c.once.signature.bytes) → IsEntity m kind c tbs o
 entity-object m kind c tbs o signed signature bytes hash once signs same made known =
     let e : signature ≡ o.signature = sym (signs ∙ same) in
     record {
       once = once;
       object = λ cert is of at.
-          let whole : signed.bytes ≡ object_bytes kind c.content.items cert o.signature.bytes c.once.key.bytes c.once.signature.bytes =
-          made cert of at ∙ ap (λ (s : Signature). object_bytes kind c.content.items cert s.bytes c.once.key.bytes c.once.signature.bytes) e in
+          let whole : signed.bytes ≡ object_bytes kind c.content.bytes.items cert o.signature.bytes c.once.key.bytes c.once.signature.bytes =
+          made cert of at ∙ ap (λ (s : Signature). object_bytes kind c.content.bytes.items cert s.bytes c.once.key.bytes c.once.signature.bytes) e in
           record {
             bytes = bytes ∙ whole;
             hash = hash ∙ ap sha256 whole;
-            known = subst (λ (s : Signature). IsObject kind c.content.items cert s.bytes c.once.key.bytes c.once.signature.bytes) e (known cert is of at);
+            known = subst (λ (s : Signature). IsObject kind c.content.bytes.items cert s.bytes c.once.key.bytes c.once.signature.bytes) e (known cert is of at);
           };
     }
 

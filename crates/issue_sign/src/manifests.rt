@@ -21,7 +21,7 @@ use crate::phases::sign_steps;
 use crate::sign_input::SignInput;
 use crate::steps::{Half, Pending, Step};
 use cert_obj::Cert;
-use cms_obj::ObjectKind;
+use cms_obj::{HashedContent, ObjectKind};
 use issue_drafts::ManifestDraft;
 use issue_keys::MakeFault;
 use issue_values::{manifest_body, manifest_certificate};
@@ -38,18 +38,19 @@ fn content(
     sign_input: &SignInput<'_>,
     manifest: &ManifestDraft<'_>,
     files: Items<ListedFile>,
-) -> Result<Vec<u8>, AllocError>
+) -> Result<HashedContent, AllocError>
     requires sign { CanSign sign_input.now }
     requires issuer { CanIssue sign_input.now manifest.now.issuer }
     requires files { AreListed (map file_view files) }
-    ensures bytes { IfOk result (λ content. content.items ≡ manifest_text (input_of sign_input.now.input.now)
+    ensures bytes { IfOk result (λ content. content.bytes.items ≡ manifest_text (input_of sign_input.now.input.now)
         manifest.now.issuer.row.now (map file_view files)) }
     ensures spelled { IfOk result (λ content. IsManifest (manifest_value_of sign_input.now.input.now.work.now.moment
         (number_of manifest.now.issuer.row.now) (map file_view files))) }
 {
     let number = manifest.issuer.row.number + 1;
     let body = manifest_body(sign_input.input.work.moment, number, files.into_vec());
-    body.write(alloc)
+    let content = body.write(alloc)?;
+    Ok(HashedContent::of(content))
 }
 
 /// What is signed first, in the manifests' order: their contents.

@@ -5,6 +5,7 @@ ghost use Rattle.std.specs.Prelude.{◌≡◌};
 ghost use Rattle.sha2.specs.Sha256.{sha256};
 
 use crate::signed_bytes::SignedBytes;
+use cms_obj::HashedContent;
 use pub_set::Content;
 use sha2::{Digest, Sha256};
 use signer_api::{OneUse, Signature};
@@ -43,6 +44,6 @@ impl Object {
 /// The content of a ROA or of a manifest, and the one-use key that signed it.
 #[derive(Debug, Drop)]
 pub struct SignedContent {
-    pub content: Vec<u8>,
+    pub content: HashedContent,
     pub once: OneUse,
 }

@@ -7,7 +7,7 @@ ghost use Rattle.cert_obj.specs.Formats as certificates;
 ghost use Rattle.issue_sign.specs.Signed.{object_bytes, IsObject};
 
 use crate::signed_bytes::{SignedBytes, certificate};
-use cms_obj::ObjectKind;
+use cms_obj::{HashedContent, ObjectKind};
 use key_ids::KeyId;
 use pub_set::Content;
 use signer_api::{OneUse, Signature};
@@ -20,7 +20,7 @@ use std::alloc::{AllocError, Global};
 pub fn object(
     alloc: Global,
     kind: ObjectKind,
-    content: &[u8],
+    content: &HashedContent,
     once: &OneUse,
     moment: u64,
     tbs: &[u8],
@@ -31,11 +31,11 @@ pub fn object(
 
     // The object, signed at the beginning of the certificate's time.
     ensures bytes { IfOk result (λ made. (cert : CertValue) → tbs.now ≡ certificates.signed_bytes cert
-        → cert.not_before ≡ moment → made.bytes ≡ object_bytes kind content.now cert signature.bytes
+        → cert.not_before ≡ moment → made.bytes ≡ object_bytes kind content.now.bytes.items cert signature.bytes
         once.now.key.bytes once.now.signature.bytes) }
     ensures spelled { IfOk result (λ made. (cert : CertValue) → IsCert cert
         → tbs.now ≡ certificates.signed_bytes cert → cert.not_before ≡ moment
-        → IsObject kind content.now cert signature.bytes once.now.key.bytes once.now.signature.bytes) }
+        → IsObject kind content.now.bytes.items cert signature.bytes once.now.key.bytes once.now.signature.bytes) }
 {
     let certificate = certificate(alloc, tbs, signature)?;
     let whole = certificate.bytes.as_slice();
@@ -44,7 +44,8 @@ pub fn object(
         return Err(AllocError);
     }
     let id = KeyId::of(&once.key.bytes);
-    let written = cms_obj::write(alloc, kind, content, whole, &id, moment, &once.signature)?;
+    let signed = &once.signature;
+    let written = cms_obj::write_hashed(alloc, kind, content, whole, &id, moment, signed)?;
     let bytes = Content::new(alloc, written)?;
     Ok(SignedBytes { bytes, signature })
 }

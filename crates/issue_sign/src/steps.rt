@@ -7,7 +7,7 @@ ghost use Rattle.moments.specs.Civil.{IsMoment};
 ghost use Rattle.issue_sign.specs.inner.Steps.{asks, signing, job_of};
 
 use crate::object::{Object, SignedContent};
-use cms_obj::ObjectKind;
+use cms_obj::{HashedContent, ObjectKind};
 use key_roll::KeyRow;
 use signer_api::Digest;
 use signer_ring::SignJob;
@@ -30,7 +30,7 @@ pub enum Pending {
     /// A content, of which a new key signs the attributes.
     Content {
         kind: ObjectKind,
-        content: Vec<u8>,
+        content: HashedContent,
     },
     /// A content that was signed, and what is signed of the certificate of its key.
     Entity {
@@ -88,7 +88,7 @@ impl Step<'_> {
             Pending::Revocations { tbs } => Ok(Some(self.by_issuer(tbs))),
             Pending::Entity { tbs, .. } => Ok(Some(self.by_issuer(tbs))),
             Pending::Content { kind, content } => {
-                let attributes = cms_obj::attributes(alloc, *kind, content, moment)?;
+                let attributes = cms_obj::hashed_attributes(alloc, *kind, content, moment)?;
                 let signer = self.issuer.signer;
                 let digest = Digest::of(&attributes);
                 Ok(Some(SignJob::Once { signer, digest }))

@@ -14,6 +14,7 @@ ghost use Rattle.issue_sign.specs.SignInput.{SignInputValue, IsSignInput, CanSig
 
 use crate::sign_input::SignInput;
 use cert_obj::Cert;
+use cms_obj::HashedContent;
 use crl_obj::Crl;
 use issue_drafts::KeyAt;
 use issue_values::{anchor_certificate, authority_certificate, key_crl, roa_body};
@@ -65,10 +66,11 @@ pub fn crl(alloc: Global, sign_input: &SignInput<'_>, issuer: &KeyAt<'_>) -> Res
 }
 
 /// The content of a ROA.
-pub fn roa_content(alloc: Global, origin: &Origin) -> Result<Vec<u8>, AllocError>
+pub fn roa_content(alloc: Global, origin: &Origin) -> Result<HashedContent, AllocError>
     ensures spelled { IfOk result (λ content. IsRoa (roa_of origin.now)) }
-    ensures content { IfOk result (λ content. content.items ≡ roa_content origin.now) }
+    ensures content { IfOk result (λ content. content.bytes.items ≡ roa_content origin.now) }
 {
     let body = roa_body(alloc, origin)?;
-    body.write(alloc)
+    let content = body.write(alloc)?;
+    Ok(HashedContent::of(content))
 }

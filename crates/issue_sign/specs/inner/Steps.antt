@@ -19,6 +19,7 @@ use Rattle.cert_obj.specs.Formats as certificates
 use Rattle.crl_obj.specs.Values.{CrlValue, IsCrl}
 use Rattle.crl_obj.specs.Formats as crls
 use Rattle.cms_obj.specs.Formats.{signed_attributes}
+use Rattle.cms_obj.specs.declared.values.HashedContent.{HashedContent}
 use Rattle.cms_obj.specs.declared.values.ObjectKind.{ObjectKind}
 use Rattle.cms_obj.specs.declared.values.ObjectKind.TheVariants as ObjectKinds
 use Rattle.payloads.specs.RoaFormats.{IsRoa}
@@ -87,7 +88,7 @@ job_for moment key (pending.Whole object) = None
 job_for moment key (pending.Certificate tbs) = Some (signing key tbs.items)
 job_for moment key (pending.Revocations tbs) = Some (signing key tbs.items)
 job_for moment key (pending.Content kind content) =
-    Some (signing_once key (signed_attributes kind content.items moment))
+    Some (signing_once key (signed_attributes kind content.bytes.items moment))
 job_for moment key (pending.Entity kind content tbs) = Some (signing key tbs.items)
 
 abbrev pub job_of : ℕ → Step → Option SignJob
@@ -98,7 +99,7 @@ call_for moment key (pending.Whole object) a = None
 call_for moment key (pending.Certificate tbs) a = Some (by_issuer key tbs.items a.last)
 call_for moment key (pending.Revocations tbs) a = Some (by_issuer key tbs.items a.last)
 call_for moment key (pending.Content kind content) a =
-    Some (by_once key (signed_attributes kind content.items moment) a)
+    Some (by_once key (signed_attributes kind content.bytes.items moment) a)
 call_for moment key (pending.Entity kind content tbs) a = Some (by_issuer key tbs.items a.last)
 
 abbrev pub call_of : ℕ → Step → Answers → Option Call
@@ -210,9 +211,9 @@ pub record IsEntity
   pub object : (cert : CertValue) → IsCert cert → tbs ≡ certificates.signed_bytes cert
       → cert.not_before ≡ moment
       → IsObjectOf
-      (object_bytes kind c.content.items cert o.signature.bytes c.once.key.bytes
+      (object_bytes kind c.content.bytes.items cert o.signature.bytes c.once.key.bytes
       c.once.signature.bytes)
-      (IsObject kind c.content.items cert o.signature.bytes c.once.key.bytes
+      (IsObject kind c.content.bytes.items cert o.signature.bytes c.once.key.bytes
       c.once.signature.bytes) o
 
 abbrev pub IsOutcome : ℕ → Pending → Half → Type 0
@@ -224,7 +225,8 @@ IsOutcome moment (pending.Certificate tbs) (Begun c) = ⊥
 IsOutcome moment (pending.Revocations tbs) (Made o) = IsFramed tbs.items (IsCrlIn tbs.items) o
 IsOutcome moment (pending.Revocations tbs) (Begun c) = ⊥
 IsOutcome moment (pending.Content kind content) (Made o) = ⊥
-IsOutcome moment (pending.Content kind content) (Begun c) = c.content.items ≡ content.items
+IsOutcome moment (pending.Content kind content) (Begun c) =
+    c.content.bytes.items ≡ content.bytes.items
 IsOutcome moment (pending.Entity kind content tbs) (Made o) =
     IsEntity moment kind content tbs.items o
 IsOutcome moment (pending.Entity kind content tbs) (Begun c) = ⊥
@@ -299,9 +301,9 @@ pub record IsCrlStep (crl : CrlValue) (p : Pending) : Type 0 where
   pub bytes : tbs.items ≡ crls.signed_bytes crl
 
 pub record IsContentStep (kind : ObjectKind) (text : List ℕ) (p : Pending) : Type 0 where
-  pub content : Vec ℕ Global
+  pub content : HashedContent
   pub is : p ≡ pending.Content kind content
-  pub bytes : content.items ≡ text
+  pub bytes : content.bytes.items ≡ text
 
 pub record IsEntityStep
     (kind : ObjectKind) (c : SignedContent) (cert : CertValue) (p : Pending) : Type 0 where
@@ -348,7 +350,7 @@ pub record IsRoaContent (kind : Kind) (c : SignedContent) : Type 0 where
   pub origin : Origin
   pub is : kind ≡ Roa origin
   pub spelled : IsRoa (roa_of origin)
-  pub bytes : c.content.items ≡ roa_content origin
+  pub bytes : c.content.bytes.items ≡ roa_content origin
 
 -- What a draft is after its first signature.
 abbrev pub IsHalf : IssueInput → SignInputValue → Draft → Kind → Half → Type 0
@@ -395,7 +397,7 @@ pub record IsTextOf
 pub record IsContent
     (s : IssueInput) (key : KeyRow) (files : List (List ℕ × List ℕ)) (c : SignedContent)
     : Type 0 where
-  pub bytes : c.content.items ≡ manifest_text s key files
+  pub bytes : c.content.bytes.items ≡ manifest_text s key files
   pub spelled : IsManifest (manifest_value_of s.work.moment (number_of key) files)
 
 -- The same, signed.

@@ -1,21 +1,22 @@
-use Rattle.std.proofs.Common.{map, ap, ◌∙◌}
+use Rattle.std.proofs.Common.{map, sym, ap, ◌∙◌}
+use Rattle.std.specs.List.{slice_get}
 use Rattle.std.proofs.lemmas.List.{map-append}
 use Rattle.issue_values.specs.Publishers.{publishing}
 use Rattle.issue_drafts.specs.WorkKeys.{keys_at}
 use Rattle.issue_drafts.specs.IssueInput.{input_of}
 use Rattle.issue_drafts.specs.Publishers.{publishing_of}
-use Rattle.issue_drafts.proofs.NamedKeys.{map-more}
-use Rattle.issue_drafts.proofs.Standing.{publishing-is}
+use Rattle.issue_drafts.proofs.NamedKeys.{map-more, there-is}
 use Rattle.issue_drafts.proofs.key_publishers.publishers.Goals as goal
 
-pub loop-row-preserved : goal.loop-row-preserved
-loop-row-preserved c =
+pub loop-position-preserved : goal.loop-position-preserved
+loop-position-preserved c =
     let s = input_of c.args.at.now in
     let keys = keys_at c.args.rows.now c.args.finder.now.first_fresh in
-    map-more (publishing_of s keys) c.args.rows.now c.loop-row.row-index c.row-item.result _ _ _
-    c.loop-row-test.true c.loop-row.invariant
+    let row = c.key_there-key.result.row.now in
+    map-more (publishing_of s keys) c.args.rows.now c.loop-position.position row _ _ _
+    c.loop-position-test.true c.loop-position.invariant
     (ap (map publishing) c.in_ok-push.ensures.items ∙ map-append publishing _ _)
-    (publishing-is s keys c.row-item.result c.new-in-loop-row.result
-    c.new-in-loop-row.ensures.key (c.new-in-loop-row.ensures.name ∙ c.name_of-name.ensures)
-    (c.new-in-loop-row.ensures.certificate ∙ (c.new.ensures ∙ c.in_ok-uri.ensures))
-    ∙ ap (publishing_of s keys) c.row-item.is)
+    (c.in_ok-publisher.ensures
+    ∙ ap (publishing_of s keys)
+    (there-is c.args.rows.now c.loop-position.position row row c.loop-position-test.true
+    (ap (slice_get c.args.rows.now) (sym c.key_there-key.ensures.position) ∙ c.key_there-key.ensures.positioned)))

@@ -5,7 +5,7 @@ use Rattle.issue_drafts.specs.IssueInput.{input_of}
 use Rattle.issue_drafts.specs.Publishers.{publishing_of}
 use Rattle.issue_drafts.proofs.key_publishers.publishers.Given as goal
 
-abbrev pub invariant-loop-row : goal.invariant-loop-row
-invariant-loop-row l =
+abbrev pub invariant-loop-position : goal.invariant-loop-position
+invariant-loop-position l =
     map publishing l.publishers.items
-    ≡ map (publishing_of (input_of l.at) (keys_at l.rows l.finder.first_fresh)) (take l.row-index l.rows)
+    ≡ map (publishing_of (input_of l.at) (keys_at l.rows l.finder.first_fresh)) (take l.position l.rows)

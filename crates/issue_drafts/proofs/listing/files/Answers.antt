@@ -19,16 +19,16 @@ kept_rows-requires-clause-inside c =
     let drafts = map draft_of c.args.drafts.now in
     let manifests = map manifest_of c.args.manifests.now in
     kept-lie s (drafts ++ manifests) drafts c.args.touched.now c.manifest-item.result.issuer.row.now
-    c.as_str-path.result.now c.of-id.result.bytes c.requires.touched
+    c.as_str-path.result.now c.manifest-item.result.issuer.id.bytes c.requires.touched
     (all-at (λ (m : ManifestDraft). AreListable s (drafts ++ manifests) drafts m.issuer.row.now)
     c.args.manifests.now c.loop-manifest.manifest-index c.manifest-item.result c.manifest-item.result
     c.requires.listable c.loop-manifest-test.true c.manifest-item.is)
-    (c.as_str-path.ensures.value ∙ c.in_ok-folder.ensures) c.of-id.ensures
+    (c.as_str-path.ensures.value ∙ c.in_ok-folder.ensures) c.manifest-item.result.issuer.identified
 
 pub merged-requires-clause-made_inside : goal.merged-requires-clause-made_inside
 merged-requires-clause-made_inside c =
     made-inside (input_of c.args.at.now) (map draft_of c.args.drafts.now) c.args.hashes.now
-    c.of-id.result.bytes c.in_ok-made.made c.positions-come.result.now
+    c.manifest-item.result.issuer.id.bytes c.in_ok-made.made c.positions-come.result.now
     (c.requires.each ∙ sym (length-map c.args.drafts.now draft_of)) c.in_ok-made.ensures c.positions-come.ensures
 
 pub merged-requires-clause-kept_listable : goal.merged-requires-clause-kept_listable
@@ -37,7 +37,7 @@ merged-requires-clause-kept_listable c =
     let drafts = map draft_of c.args.drafts.now in
     let manifests = map manifest_of c.args.manifests.now in
     (ready-here s drafts manifests c.args.hashes.now c.args.touched.now c.manifest-item.result.issuer.row.now
-    c.as_str-path.result.now c.of-id.result.bytes (map (λ (row : Bor IssuedRow). row.now) c.deref.result.now)
+    c.as_str-path.result.now c.manifest-item.result.issuer.id.bytes (map (λ (row : Bor IssuedRow). row.now) c.deref.result.now)
     c.in_ok-made.made c.positions-come.result.now
     (c.requires.each ∙ sym (length-map c.args.drafts.now draft_of))
     c.requires.standing c.requires.rising c.requires.touched
@@ -45,7 +45,7 @@ merged-requires-clause-kept_listable c =
     c.args.manifests.now c.loop-manifest.manifest-index c.manifest-item.result c.manifest-item.result
     c.requires.listable c.loop-manifest-test.true c.manifest-item.is)
     (ap (map (λ (row : Bor IssuedRow). row.now)) c.deref.ensures.value ∙ c.in_ok-stay.ensures)
-    c.in_ok-made.ensures c.of-id.ensures c.positions-come.ensures
+    c.in_ok-made.ensures c.manifest-item.result.issuer.identified c.positions-come.ensures
     (c.as_str-path.ensures.value ∙ c.in_ok-folder.ensures)).kept
 
 pub merged-requires-clause-made_listable : goal.merged-requires-clause-made_listable
@@ -54,7 +54,7 @@ merged-requires-clause-made_listable c =
     let drafts = map draft_of c.args.drafts.now in
     let manifests = map manifest_of c.args.manifests.now in
     (ready-here s drafts manifests c.args.hashes.now c.args.touched.now c.manifest-item.result.issuer.row.now
-    c.as_str-path.result.now c.of-id.result.bytes (map (λ (row : Bor IssuedRow). row.now) c.deref.result.now)
+    c.as_str-path.result.now c.manifest-item.result.issuer.id.bytes (map (λ (row : Bor IssuedRow). row.now) c.deref.result.now)
     c.in_ok-made.made c.positions-come.result.now
     (c.requires.each ∙ sym (length-map c.args.drafts.now draft_of))
     c.requires.standing c.requires.rising c.requires.touched
@@ -62,7 +62,7 @@ merged-requires-clause-made_listable c =
     c.args.manifests.now c.loop-manifest.manifest-index c.manifest-item.result c.manifest-item.result
     c.requires.listable c.loop-manifest-test.true c.manifest-item.is)
     (ap (map (λ (row : Bor IssuedRow). row.now)) c.deref.ensures.value ∙ c.in_ok-stay.ensures)
-    c.in_ok-made.ensures c.of-id.ensures c.positions-come.ensures
+    c.in_ok-made.ensures c.manifest-item.result.issuer.identified c.positions-come.ensures
     (c.as_str-path.ensures.value ∙ c.in_ok-folder.ensures)).come
 
 pub merged-requires-clause-apart : goal.merged-requires-clause-apart
@@ -71,7 +71,7 @@ merged-requires-clause-apart c =
     let drafts = map draft_of c.args.drafts.now in
     let manifests = map manifest_of c.args.manifests.now in
     (ready-here s drafts manifests c.args.hashes.now c.args.touched.now c.manifest-item.result.issuer.row.now
-    c.as_str-path.result.now c.of-id.result.bytes (map (λ (row : Bor IssuedRow). row.now) c.deref.result.now)
+    c.as_str-path.result.now c.manifest-item.result.issuer.id.bytes (map (λ (row : Bor IssuedRow). row.now) c.deref.result.now)
     c.in_ok-made.made c.positions-come.result.now
     (c.requires.each ∙ sym (length-map c.args.drafts.now draft_of))
     c.requires.standing c.requires.rising c.requires.touched
@@ -79,7 +79,7 @@ merged-requires-clause-apart c =
     c.args.manifests.now c.loop-manifest.manifest-index c.manifest-item.result c.manifest-item.result
     c.requires.listable c.loop-manifest-test.true c.manifest-item.is)
     (ap (map (λ (row : Bor IssuedRow). row.now)) c.deref.ensures.value ∙ c.in_ok-stay.ensures)
-    c.in_ok-made.ensures c.of-id.ensures c.positions-come.ensures
+    c.in_ok-made.ensures c.manifest-item.result.issuer.identified c.positions-come.ensures
     (c.as_str-path.ensures.value ∙ c.in_ok-folder.ensures)).apart
 
 pub loop-manifest-preserved : goal.loop-manifest-preserved
@@ -94,20 +94,20 @@ loop-manifest-preserved c =
     let folder = c.as_str-path.ensures.value ∙ c.in_ok-folder.ensures in
     let stay = ap (map (λ (row : Bor IssuedRow). row.now)) c.deref.ensures.value ∙ c.in_ok-stay.ensures in
     let r =
-    ready-here s drafts manifests c.args.hashes.now c.args.touched.now key c.as_str-path.result.now c.of-id.result.bytes
+    ready-here s drafts manifests c.args.hashes.now c.args.touched.now key c.as_str-path.result.now c.manifest-item.result.issuer.id.bytes
     rows c.in_ok-made.made c.positions-come.result.now long
     c.requires.standing c.requires.rising c.requires.touched
     (all-at (λ (m : ManifestDraft). AreListable s (drafts ++ manifests) drafts m.issuer.row.now)
     c.args.manifests.now c.loop-manifest.manifest-index c.manifest-item.result c.manifest-item.result
     c.requires.listable c.loop-manifest-test.true c.manifest-item.is)
-    stay c.in_ok-made.ensures c.of-id.ensures c.positions-come.ensures folder in
+    stay c.in_ok-made.ensures c.manifest-item.result.issuer.identified c.positions-come.ensures folder in
     key-more s c.args.touched.now (zip drafts c.args.hashes.now) (λ (m : ManifestDraft). m.issuer.row.now)
     c.args.manifests.now c.loop-manifest.manifest-index c.manifest-item.result key
     c.loop-manifest.lists.items c.push.new.self.items c.new.result c.loop-manifest-test.true
     (ap (λ (m : ManifestDraft). m.issuer.row.now) c.manifest-item.is) c.loop-manifest.invariant
-    (of-here s drafts c.args.hashes.now c.args.touched.now key c.as_str-path.result.now c.of-id.result.bytes
+    (of-here s drafts c.args.hashes.now c.args.touched.now key c.as_str-path.result.now c.manifest-item.result.issuer.id.bytes
     rows c.in_ok-made.made c.positions-come.result.now
-    c.in_ok-list.list.items c.new.result long stay c.in_ok-made.ensures c.of-id.ensures
+    c.in_ok-list.list.items c.new.result long stay c.in_ok-made.ensures c.manifest-item.result.issuer.identified
     c.positions-come.ensures folder r
     c.in_ok-list.ensures.merged c.in_ok-list.ensures.are c.new.ensures)
     c.in_ok-push.ensures.items

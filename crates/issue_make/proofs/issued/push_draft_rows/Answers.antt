@@ -11,18 +11,15 @@ loop-position-preserved c =
     let long : length whole ≡ length c.args.drafts.now =
     draft-rows-long c.args.moment c.args.drafts.now c.args.given.now c.args.objects.now c.requires.given c.requires.objects in
     let inside : c.loop-position.position < length whole = omega arith in
-    record {
-      rows = more-taken whole c.args.rows.now.items c.loop-position.rows.items c.push.new.self.items c.loop-position.position c.in_ok-row.row
-          inside c.loop-position.invariant.rows c.in_ok-push.ensures.items
-          (draft-row-at c.args.moment c.args.drafts.now c.args.given.now c.args.objects.now c.loop-position.position
-          c.index-drafts-position.result c.index-objects-position.result c.in_ok-row.row c.requires.given c.requires.objects
-          c.loop-position-test.true c.index-drafts-position.is c.in_ok-row.ensures);
-      before = c.identify-issuer.ensures.own;
-    }
+    more-taken whole c.args.rows.now.items c.loop-position.rows.items c.push.new.self.items c.loop-position.position c.in_ok-row.row
+    inside c.loop-position.invariant c.in_ok-push.ensures.items
+    (draft-row-at c.args.moment c.args.drafts.now c.args.given.now c.args.objects.now c.loop-position.position
+    c.index-drafts-position.result c.index-objects-position.result c.in_ok-row.row c.requires.given c.requires.objects
+    c.loop-position-test.true c.index-drafts-position.is c.in_ok-row.ensures)
 
 pub returns : goal.returns
 returns c =
     let whole = draft_rows c.args.moment (map draft_of c.args.drafts.now) c.args.given.now (hashes_of c.args.objects.now) in
     let long : length whole ≡ length c.args.drafts.now =
     draft-rows-long c.args.moment c.args.drafts.now c.args.given.now c.args.objects.now c.requires.given c.requires.objects in
-    all-taken whole c.args.rows.now.items c.loop-position.rows.items c.loop-position.position c.loop-position.invariant.rows (omega arith)
+    all-taken whole c.args.rows.now.items c.loop-position.rows.items c.loop-position.position c.loop-position.invariant (omega arith)

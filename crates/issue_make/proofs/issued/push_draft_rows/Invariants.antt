@@ -1,13 +1,9 @@
 use Rattle.std.proofs.Common.{◌≡◌, ◌++◌, map, take}
-use Rattle.std.specs.Option.{IfSome}
-use Rattle.issue_drafts.specs.WorkKeys.{key_of}
 use Rattle.issue_drafts.specs.Views.{draft_of}
 use Rattle.issue_make.specs.inner.Putting.{draft_rows, hashes_of}
 use Rattle.issue_make.proofs.issued.push_draft_rows.Given as goal
 
 abbrev pub invariant-loop-position : goal.invariant-loop-position
-invariant-loop-position l = record {
-  rows : l.rows.items ≡ l.initial.rows.items
-      ++ take l.position (draft_rows l.moment (map draft_of l.drafts) l.given (hashes_of l.objects));
-  before : IfSome l.before (λ key. key.id ≡ key_of key.row.now);
-}
+invariant-loop-position l =
+    l.rows.items ≡ l.initial.rows.items
+    ++ take l.position (draft_rows l.moment (map draft_of l.drafts) l.given (hashes_of l.objects))

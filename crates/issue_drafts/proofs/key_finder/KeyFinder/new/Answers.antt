@@ -5,5 +5,6 @@ use Rattle.issue_drafts.proofs.key_finder.KeyFinder.new.Goals as goal
 
 pub returns : goal.returns
 returns c =
-    finds-them c.args.rows.now c.args.first_fresh _ c.requires.inside c.requires.rising c.in_ok-live.ensures
+    finds-them c.args.rows.now c.args.first_fresh _ _ c.requires.inside c.requires.rising c.in_ok-ids.ensures
+    (c.deref.ensures.value ∙ c.in_ok-ids.ensures) c.in_ok-live.ensures
     (c.in_ok-desks.ensures ∙ ap (map (λ (row : KeyRow). row.desk)) c.behind-fresh.ensures) refl
