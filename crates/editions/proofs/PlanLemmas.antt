@@ -13,6 +13,7 @@ pub mod Fitted
 pub mod Free
 pub mod Held
 pub mod Makings
+pub mod Named
 pub mod NextKeys
 pub mod Once
 pub mod Owing

@@ -9,3 +9,4 @@ pub mod Dues
 pub mod Shown
 pub mod Going
 pub mod Called
+pub mod InPlace

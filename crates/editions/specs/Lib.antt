@@ -17,6 +17,7 @@ pub mod Profile
 pub mod Published
 pub mod PublishedState
 pub mod Sheets
+pub mod Spares
 pub mod Sparing
 pub mod Standing
 pub mod Step

@@ -4,4 +4,5 @@ pub mod Following
 pub mod KeyTree
 pub mod PlanAndTable
 pub mod PlannedWork
+pub mod RowPlaces
 pub mod Vouched

@@ -8,6 +8,7 @@ mod desk_laws;
 mod ended;
 mod folding;
 mod gathered;
+mod in_place;
 mod joining;
 mod lasting_laws;
 mod limits;
@@ -17,6 +18,7 @@ mod plan_laws;
 mod published_laws;
 mod published_state;
 mod sheets;
+mod spare;
 mod sparing_laws;
 mod standing;
 mod state_laws;
@@ -44,12 +46,13 @@ pub use object_laws::{
 };
 pub use plan_laws::{
     made_keys_are_live, made_keys_have_signers, other_uris_are_clear, planned_work_can_be_made,
-    wanted_objects_are_apart, wanted_uris_have_objects,
+    roas_stay_by_name, wanted_objects_are_apart, wanted_uris_have_objects,
 };
 pub use published_laws::{
     editions_are_in_profile, editions_are_published, keys_are_of_a_tree, wanted_objects_have_drafts,
 };
 pub use published_state::{PublishedNumbers, PublishedState, StateParts};
+pub use spare::{CurrentState, SetWithTable, Spare};
 pub use sparing_laws::{just_what_does_not_fit_is_put, signatures_are_of_the_work};
 pub use standing::{next_set, next_table};
 pub use state_laws::{

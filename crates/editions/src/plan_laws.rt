@@ -16,6 +16,7 @@ ghost use Rattle.editions.specs.inner.PlanAndTable.{AreOfPlan};
 ghost use Rattle.issue_plan.specs.Keys.{Basis, next_keys};
 ghost use Rattle.issue_plan.specs.Wanted.{PlanInput};
 ghost use Rattle.issue_plan.specs.Uris.{wanted_uris};
+ghost use Rattle.issue_plan.specs.ByName.{StandByName};
 ghost use Rattle.issue_plan.specs.Work.{IsPlan};
 ghost use Rattle.issue_make.specs.CanMake.{CanMake};
 ghost use Rattle.issue_make.specs.Made.{IsMade};
@@ -97,6 +98,24 @@ pub fn other_uris_are_clear()
         → IsMade (setting_over basis at.issued site work) at.rows old new made
         → IsTableAfter at.issued made.changes made.issued table
         → IsClear site made.rows table }
+{
+    the_plans_keys_are_next();
+    files_are_told_apart();
+    keys_are_told_apart();
+    kinds_are_told_apart();
+    origins_are_told_apart();
+    membership_is_by_equality();
+}
+
+/// After the making of a planned work each ROA stands at the place of its origin in the folder of a name, if each did
+/// before.
+pub fn roas_stay_by_name()
+    ensures { (at : PublishedStateValue) (site : Bases) (signers : ℕ) (basis : Basis) (work : Work)
+        (old new : List SignerState) (made : Made) (table : List IssuedRow)
+        → IsConsistentState at → CanFollow at site signers basis → IsPlan basis at.issued site work
+        → IsMade (setting_over basis at.issued site work) at.rows old new made
+        → IsTableAfter at.issued made.changes made.issued table
+        → StandByName site at.issued → StandByName site table }
 {
     the_plans_keys_are_next();
     files_are_told_apart();

@@ -105,6 +105,14 @@ impl PublishedState {
         &self.parts
     }
 
+    /// Its parts, given back.
+    pub fn into_parts(self) -> StateParts
+        ensures parts { value_of result ≡ self }
+        ensures kept { IsConsistentState self }
+    {
+        self.parts
+    }
+
     /// What its edition is known by.
     pub fn published(&self) -> PublishedNumbers
         ensures { result ≡ published_of self.now }

@@ -1,5 +1,5 @@
 -- The records of editions, and of one more behind them.
-use Rattle.std.proofs.Common.{◌≡◌, ℕ, Option, Some, None, List, [], ◌∷◌, ◌++◌, map, refl, sym, ap, subst, inl, inr}
+use Rattle.std.proofs.Common.{◌≡◌, ℕ, Option, Some, None, List, [], ◌∷◌, ◌++◌, map, refl, sym, ap, subst, ◌∙◌, inl, inr}
 use Rattle.std.proofs.lemmas.List.{map-append}
 use Rattle.record_forms.specs.Form.{Spells}
 use Rattle.authority_book.specs.declared.commands.Command.{Command}
@@ -7,7 +7,7 @@ use Rattle.disk_api.specs.Runs.{LeavesOnly}
 use Rattle.disk_api.specs.laws.RunLaws.{weaker}
 use Rattle.disk_api.specs.declared.disk.Disk.{Ghosts as DiskGhosts}
 use Rattle.std.specs.Prelude.{IfSome, option_map}
-use Rattle.gate_journal.specs.View.{View, RecoversToInDoubt, stake_of}
+use Rattle.gate_journal.specs.View.{View, RecoversToKnown, RecoversToInDoubt, stake_of}
 use Rattle.press_records.specs.Rows.{row_value}
 use Rattle.press_records.specs.Edition.{EditionValue, StandingValue, nothing_stands, editions, IsAlike}
 use Rattle.press_records.specs.Records.{AreRecordsOf, after_editions}
@@ -20,7 +20,7 @@ use Rattle.press_core.specs.Next.{NextValue}
 use Rattle.press_core.specs.Stands.{IsLeftBy}
 use Rattle.press_core.specs.Follows.{edition_of}
 use Rattle.press_core.specs.Records.{edition_value, standing_at, standing_of}
-use Rattle.press_core.specs.JournalRecords.{IsRecordOf, AreRecords, FindsOrWith, press_limit, store_for}
+use Rattle.press_core.specs.JournalRecords.{IsRecordOf, AreRecords, Finds, FindsOrWith, press_limit, store_for}
 use Rattle.press_core.specs.Stored.{StoredValue, StoredPreparedValue, store_of, HasRecordsOf, IsStoreOf}
 
 -- What records say that editions leave is what editions leave.
@@ -118,3 +118,19 @@ has-records-more law old press place prepared is session site more lists before 
     let same : store_for press.rrdp.session press.site ≡ store_of old = λ i. store_for (session i) (site i) in
     subst (λ (store : Store). IfSome place.records (AreRecords store (before ++ edition_of prepared.edition ∷ []))) (sym same)
     (records-more law lists before old.press.at prepared.edition (store_of old) old.journal.records place.records prepared.entry left is more has)
+
+-- An image with all records of such a journal has the editions with the new one behind them.
+pub durable-more : {D : Type 0} → Law → (old : StoredValue D) (place : View D) (prepared : StoredPreparedValue)
+    → IsRecordOf old.press.at prepared.edition prepared.entry → place.limit ≡ press_limit
+    → place.records ≡ option_map (λ all. all ++ prepared.entry ∷ []) old.journal.records
+    → (lists : List (List Command)) (before : List Edition) (image : List ℕ) → IsLeftBy lists before old.press.at → IsStoreOf before old
+    → RecoversToKnown place.limit place.records image → Finds (store_of old) (before ++ edition_of prepared.edition ∷ []) image
+durable-more law old place prepared is limit more lists before image left store known =
+    let told : place.records ≡ Some (store.records ++ prepared.entry ∷ []) =
+    more ∙ ap (λ (o : Option (List (List ℕ))). option_map (λ (all : List (List ℕ)). all ++ prepared.entry ∷ []) o) store.told in
+    record {
+      records = store.records ++ prepared.entry ∷ [];
+      whole = subst (λ (r : Option (List (List ℕ))). RecoversToKnown press_limit r image) told
+          (subst (λ (n : ℕ). RecoversToKnown n place.records image) limit known);
+      are = law lists before old.press.at prepared.edition (store_of old) store.records prepared.entry left store.are is;
+    }

@@ -40,6 +40,7 @@ use Rattle.editions.specs.Standing.{IsTableAfter}
 use Rattle.editions.specs.Ended.{ended_keys}
 use Rattle.editions.specs.inner.Following.{CanBeNamed, AreTyped, CanFollow, setting_over}
 use Rattle.editions.specs.Clear.{IsClear}
+use Rattle.issue_plan.specs.ByName.{StandByName}
 use Rattle.editions.specs.PlannedAndMade.{CanBeRead}
 use Rattle.press_core.specs.declared.setup.EditionInput.{EditionInput}
 use Rattle.press_core.specs.PrepareInput.{PrepareInput}
@@ -128,6 +129,9 @@ pub record WorkLaws : Type 0 where
   pub clear : (at : PublishedStateValue) (site : Bases) (signers : ℕ) (basis : Basis) (work : Work) (old new : List SignerState) (made : Made) (table : List IssuedRow)
       → IsConsistentState at → CanFollow at site signers basis → IsPlan basis at.issued site work → IsMade (setting_over basis at.issued site work) at.rows old new made
       → IsTableAfter at.issued made.changes made.issued table → IsClear site made.rows table
+  pub by_name : (at : PublishedStateValue) (site : Bases) (signers : ℕ) (basis : Basis) (work : Work) (old new : List SignerState) (made : Made) (table : List IssuedRow)
+      → IsConsistentState at → CanFollow at site signers basis → IsPlan basis at.issued site work → IsMade (setting_over basis at.issued site work) at.rows old new made
+      → IsTableAfter at.issued made.changes made.issued table → StandByName site at.issued → StandByName site table
   pub apart : (at : PublishedStateValue) (site : Bases) (signers : ℕ) (basis : Basis) (owed : List Owed) (keys : List KeyRow) → IsConsistentState at
       → CanFollow at site signers basis → AreOwed basis.configs owed → AreNext basis.rows (next_keys basis) keys
       → AllPairs (λ a b. a.uri ≢ b.uri) (all_objects (record { basis = basis; owed = owed; issued = at.issued; site = site }) keys)
@@ -157,6 +161,7 @@ made-ready laws start setup work ring made ready typed uris is =
       signers = laws.signers start.at start.site n basis work start.ring ring made kept follow ready.plan law_is;
       names = typed.names;
       clear = λ table after. laws.clear start.at start.site n basis work start.ring ring made table kept follow ready.plan law_is after;
+      by_name = λ table after stood. laws.by_name start.at start.site n basis work start.ring ring made table kept follow ready.plan law_is after stood;
       staged = laws.staged start.at start.site n basis work start.ring ring made kept follow ready.plan law_is ready.able.staged;
     }
 
@@ -313,6 +318,7 @@ prepared-of start setup work ring made prepared ready is readable few next = rec
     set = subst (λ (changes : List Change). IsApplied start.at.set changes prepared.next.set) (sym next.changes) next.set;
     ended = next.ended ∙ ap (ended_keys start.at.rows) (sym next.rows);
     clear = subst (λ (rows : List KeyRow). IsClear start.site rows prepared.next.issued) (sym next.rows) (is.clear prepared.next.issued next.table);
+    by_name = is.by_name prepared.next.issued next.table;
     staged = subst AreStaged (sym next.rows) (is.staged (is.clear prepared.next.issued next.table).anchor);
     kept = next.kept;
     ascending = next.ascending;

@@ -9,6 +9,7 @@ use Rattle.editions.specs.declared.ended.EndedKey.{EndedKey}
 use Rattle.editions.specs.PublishedState.{PublishedStateValue, IsConsistentState}
 use Rattle.editions.specs.Ended.{ended_keys}
 use Rattle.editions.specs.Clear.{IsClear}
+use Rattle.issue_plan.specs.ByName.{StandByName}
 use Rattle.rrdp_state.specs.declared.next.NextDelta.{NextDelta}
 use Rattle.press_core.specs.Staged.{AreStaged}
 
@@ -25,7 +26,8 @@ pub record PreparedValue : Type 0 where
 
 -- It follows what stands: with the next serial, a later moment, and a cut that takes in no less; the
 -- set is what the changes make of the old one, the keys that end are those that don't go on, at the
--- places of keys that aren't live nothing stands, and the live keys are those of stages.
+-- places of keys that aren't live nothing stands, ROAs stand at places of names if they did before,
+-- and the live keys are those of stages.
 pub record IsNext (site : Bases) (at : PublishedStateValue) (prepared : NextValue)
     : Type 0 where
   pub serial : prepared.next.serial ≡ at.serial + 1
@@ -34,6 +36,7 @@ pub record IsNext (site : Bases) (at : PublishedStateValue) (prepared : NextValu
   pub set : IsApplied at.set prepared.changes prepared.next.set
   pub ended : prepared.ended ≡ ended_keys at.rows prepared.next.rows
   pub clear : IsClear site prepared.next.rows prepared.next.issued
+  pub by_name : StandByName site at.issued → StandByName site prepared.next.issued
   pub staged : AreStaged prepared.next.rows
   pub kept : IsConsistentState prepared.next
   pub ascending : IsAscending prepared.next.set

@@ -18,8 +18,9 @@ use crate::next_edition::NextEdition;
 use crate::setup::EditionInput;
 use authority_book::accepted_origins_ascend;
 use editions::{
-    PublishedState, StateParts, ended_keys, made_keys_are_live, made_keys_have_signers, next_set,
-    next_table, other_uris_are_clear, planned_work_can_be_made, wanted_objects_are_apart,
+    CurrentState, PublishedState, StateParts, ended_keys, made_keys_are_live,
+    made_keys_have_signers, other_uris_are_clear, planned_work_can_be_made, roas_stay_by_name,
+    wanted_objects_are_apart,
 };
 use entitle::names_of;
 use issue_make::{Made, make};
@@ -70,53 +71,64 @@ fn are_few(rows: &[IssuedRow])
     ensures { length rows.now < 2 ^ 62 }
 {}
 
-// What will stand.
+// What will stand. `at` and `current` are the same.
 fn next_of(
     alloc: Global,
     at: &PublishedState,
+    current: &mut CurrentState,
     setup: EditionInput,
     made: Made,
 ) -> Result<NextEdition, AllocError>
-    requires { CanStand at.now setup made }
-    ensures { IfOk result (IsNextOf at.now setup made) }
+    requires current { current.old ≡ at.now }
+    requires stand { CanStand at.now setup made }
+    ensures next { IfOk result (IsNextOf at.now setup made) }
+    ensures current { current.new ≡ current.old }
 {
     let parts = at.parts();
-    let set = next_set(alloc, &parts.set, made.changes.as_slice())?;
-    let (old, issued) = (parts.issued.rows.as_slice(), made.issued.as_slice());
-    let table = next_table(alloc, old, made.changes.as_slice(), issued)?;
-    let ended = ended_keys(alloc, parts.rows.as_slice(), made.rows.as_slice())?;
+    let Made {
+        changes,
+        rows,
+        issued,
+        ..
+    } = made;
+    let (changed, told) = (changes.as_slice(), issued.as_slice());
+    let standing = current.standing_after(alloc, changed, told)?;
+    let ended = ended_keys(alloc, parts.rows.as_slice(), rows.as_slice())?;
     // What the types say of the set and of the published state.
-    let _ascending = set.as_slice();
-    let next = PublishedState::new(StateParts {
+    let _ascending = standing.set.as_slice();
+    let state = PublishedState::new(StateParts {
         serial: parts.serial + 1,
         moment: setup.moment,
         cut: Items::new(setup.cut),
-        rows: made.rows,
+        rows,
         issued: Issued {
-            rows: Items::new(table),
+            rows: standing.table,
         },
-        set,
+        set: standing.set,
         configs: Items::new(setup.configs),
         tree: setup.tree,
         owed: Items::new(setup.owed),
     });
-    let _kept = next.parts();
-    Ok(NextEdition::new(next, made.changes, ended))
+    let _kept = state.parts();
+    let next = current.followed_by(alloc, state, changed, issued)?;
+    Ok(NextEdition::new(next, changes, ended))
 }
 
-/// Makes the edition that was planned. `now` is the clock that a refusal names, in seconds since
-/// 1970.
+/// Makes the edition that was planned, over what stands: `at` and `current` are the same. `now` is the clock that a
+/// refusal names, in seconds since 1970.
 pub fn make_edition<S: Signer + Send, R: Threads + Sync>(
     rt: &R,
     alloc: Global,
     site: &Site,
     at: &PublishedState,
+    current: &mut CurrentState,
     setup: EditionInput,
     work: &Work,
     ring: &mut Ring<S>,
     now: u64,
 ) -> Result<NextEdition, PressFault>
-    requires { IsSomehowReady site.now at.now ring.old setup work.now }
+    requires current { current.old ≡ at.now }
+    requires ready { IsSomehowReady site.now at.now ring.old setup work.now }
     ensures prepared { IfOk result (λ prepared. (gathered : List Gathered)
         → IsReady (started site.now at.now ring.old now gathered) setup work.now
         → IsPrepared (started site.now at.now ring.old now gathered) ring.new prepared) }
@@ -125,6 +137,7 @@ pub fn make_edition<S: Signer + Send, R: Threads + Sync>(
         → IsPressFault (started site.now at.now ring.old now gathered) ring.new fault) }
     ensures keys { HoldKeys ring.old ring.new }
     ensures kept { Keeps ring.old ring.new }
+    ensures current { current.new ≡ current.old }
 {
     let parts = at.parts();
     let names = names_of(&setup.configs);
@@ -135,6 +148,7 @@ pub fn make_edition<S: Signer + Send, R: Threads + Sync>(
     made_keys_are_live();
     made_keys_have_signers();
     other_uris_are_clear();
+    roas_stay_by_name();
     wanted_objects_are_apart();
     made_keys_are_staged();
     let made = match make(
@@ -154,5 +168,5 @@ pub fn make_edition<S: Signer + Send, R: Threads + Sync>(
         return Err(PressFault::Memory);
     }
     are_few(made.issued.as_slice());
-    Ok(next_of(alloc, at, setup, made)?)
+    Ok(next_of(alloc, at, current, setup, made)?)
 }

@@ -2,7 +2,7 @@
 
 ghost use Rattle.std.specs.Prelude.{◌≡◌};
 
-use editions::{EndedKey, PublishedState};
+use editions::{CurrentState, EndedKey, PublishedState};
 use items::Items;
 use pub_set::Change;
 use std::marker::Model;
@@ -10,7 +10,7 @@ use std::marker::Model;
 /// What stands after the next edition, what it changes, and the keys that it ends.
 #[derive(Drop)]
 pub struct NextEdition {
-    next: PublishedState,
+    next: CurrentState,
     changes: Items<Change>,
     ended: Vec<EndedKey>,
 }
@@ -29,7 +29,7 @@ impl Model for NextEdition {
 
 impl NextEdition {
     /// An edition after which that published state stands, with its changes and the keys that it ends.
-    pub fn new(next: PublishedState, changes: Items<Change>, ended: Vec<EndedKey>) -> NextEdition
+    pub fn new(next: CurrentState, changes: Items<Change>, ended: Vec<EndedKey>) -> NextEdition
         ensures { result ≡ record { next = next; changes = changes; ended = ended.items } }
     {
         NextEdition {
@@ -43,7 +43,7 @@ impl NextEdition {
     pub fn published_state(&self) -> &PublishedState
         ensures { result.now ≡ self.now.next }
     {
-        &self.next
+        self.next.state()
     }
 
     /// What it puts and withdraws, by rising URI.
@@ -54,7 +54,7 @@ impl NextEdition {
     }
 
     /// What stands after it, and the keys that it ends.
-    pub fn into_next(self) -> (PublishedState, Vec<EndedKey>)
+    pub fn into_next(self) -> (CurrentState, Vec<EndedKey>)
         ensures next { result.0 ≡ self.next }
         ensures ended { result.1.items ≡ self.ended }
     {

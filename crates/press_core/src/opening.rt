@@ -1,12 +1,13 @@
 //! What stands when a press goes on: what was left, with what the commands up to the cut come to.
 
-ghost use Rattle.std.specs.Prelude.{◌≡◌, ◌<◌, ℕ, None, length, IfOk, IfErr, IfSome, OnOk};
+ghost use Rattle.std.specs.Prelude.{◌≡◌, ◌<◌, ℕ, None, true, length, IfOk, IfErr, IfSome, OnOk};
 ghost use Rattle.authority_book.specs.Fold.{Taken};
 ghost use Rattle.entitle.specs.Certified.{settings_of, AreCertified};
 ghost use Rattle.entitle.specs.Owed.{AreOwed};
 ghost use Rattle.editions.specs.PublishedState.{desks, AreLive, AreTakenIn};
 ghost use Rattle.editions.specs.Gathering.{commands_of, AreOfDesks};
 ghost use Rattle.editions.specs.Clear.{IsClear};
+ghost use Rattle.issue_plan.specs.ByName.{StandByName};
 ghost use Rattle.pub_set.specs.Objects.{Rise};
 ghost use Rattle.press_core.specs.Staged.{HasStages};
 ghost use Rattle.press_core.specs.Agreement as agreement;
@@ -20,8 +21,11 @@ use crate::resuming::{Mismatch, first_mismatch};
 use crate::roa_uris::other_origin;
 use crate::tables::table_of;
 use authority_book::Config;
-use editions::{Gathered, PublishedState, StateParts, accepted_names_are_apart, configs_with};
+use editions::{
+    CurrentState, Gathered, PublishedState, StateParts, accepted_names_are_apart, configs_with,
+};
 use entitle::{Owed, Tree, certified, names_of, owed};
+use issue_plan::stand_by_name;
 use issue_values::{
     files_are_told_apart, keys_are_told_apart, kinds_are_told_apart, origins_are_told_apart,
 };
@@ -171,9 +175,9 @@ fn agreed_state(
     Ok(stand(left, owing, issued))
 }
 
-/// What stands, where the set that was left yields what is owed and agrees with the rows. Without an edition nothing
-/// does.
-pub fn state_of(
+// What stands, where the set that was left yields what is owed and agrees with the rows. Without an edition nothing
+// does.
+fn state_of(
     alloc: Global,
     site: &Site,
     left: RecoveredParts,
@@ -192,5 +196,38 @@ pub fn state_of(
     match audited {
         Some(audited) => agreed_state(alloc, site, left, &audited, firsts),
         None => Ok(PublishedState::first(alloc)?),
+    }
+}
+
+/// What stands, where the set that was left yields what is owed and agrees with the rows. Without an edition nothing
+/// does.
+pub fn current_state(
+    alloc: Global,
+    site: &Site,
+    left: RecoveredParts,
+    audited: Option<Audited>,
+    firsts: Vec<Gathered>,
+) -> Result<CurrentState, ResumeFault>
+    requires order { IsLeft left }
+    requires audit { IsAuditIf site.now left audited }
+    requires firsts { AreFirsts left.cut firsts.items }
+    ensures state { IfOk result (IsStateOf site.now left firsts.items) }
+    ensures clear { IfOk result (λ at. IsClear site.now at.rows at.issued) }
+    ensures stages { IfOk result HasStages }
+    ensures agreed { IfOk result (λ at. IfSome audited (λ a. AreAgreedAt site.now a at)) }
+    ensures refused { IfErr result (IsFaultIf site.now left.rows firsts.items audited) }
+{
+    let state = state_of(alloc, site, left, audited, firsts)?;
+    let current = CurrentState::new(alloc, state)?;
+    Ok(current)
+}
+
+/// Whether it is found that ROAs stand at places of names. Nothing is, where there is no memory to look.
+pub fn is_by_name(alloc: Global, site: &Site, at: &PublishedState) -> bool
+    ensures { result ≡ true → StandByName site.now at.now.issued }
+{
+    match stand_by_name(alloc, site, at.parts().issued.rows.as_slice()) {
+        Ok(stand) => stand,
+        Err(_) => false,
     }
 }

@@ -1,12 +1,12 @@
 //! The press.
 
 ghost use Rattle.std.specs.Prelude.{◌≡◌, ◌≢◌, ◌<◌, ◌≤◌, ◌+◌, ◌++◌, [], ◌∷◌, List, All, length, option_map};
-ghost use Rattle.std.specs.Prelude.{IfOk, IfErr, IfSome, OnOk};
+ghost use Rattle.std.specs.Prelude.{true, IfOk, IfErr, IfSome, OnOk};
 ghost use Rattle.signer_ring.specs.Ring.{Keeps};
 ghost use Rattle.authority_book.specs.declared.commands.Command.{Command};
 ghost use Rattle.editions.specs.Edition.{Edition};
 ghost use Rattle.editions.specs.PublishedState.{published_of};
-ghost use Rattle.editions.specs.Clear.{IsClear};
+ghost use Rattle.issue_plan.specs.ByName.{StandByName};
 ghost use Rattle.editions.specs.Sheets.{sheet_of};
 ghost use Rattle.editions.specs.Clear.{IsClear};
 ghost use Rattle.press_core.specs.Next.{IsNext};
@@ -36,7 +36,7 @@ use crate::laws::{
 use crate::next_edition::NextEdition;
 use crate::prepared::Prepared;
 use crate::preparing::prepare_over;
-use editions::{EndedKey, Gathered, PublishedNumbers, PublishedState};
+use editions::{CurrentState, EndedKey, Gathered, PublishedNumbers, PublishedState};
 use key_ids::Site;
 use notice_board::Sheet;
 use outlet_api::{ExportFault, Outlet, export};
@@ -53,15 +53,18 @@ use std::thread::Threads;
 pub struct Press<S: Signer = Box<dyn Signer + Send>> {
     site: Site,
     ring: Ring<S>,
-    at: PublishedState,
+    at: CurrentState,
     ended: Vec<EndedKey>,
     rrdp: Rrdp,
     last_export: LastExport,
+    // Whether it is known that ROAs stand at places of names, so that a plan needs no look at their URIs.
+    by_name: bool,
 }
 
 impl<S: Signer> Model for Press<S> {
-    ghost use Rattle.std.specs.Prelude.{◌≡◌};
+    ghost use Rattle.std.specs.Prelude.{◌≡◌, true};
     ghost use Rattle.editions.specs.Clear.{IsClear};
+    ghost use Rattle.issue_plan.specs.ByName.{StandByName};
     ghost use Rattle.press_core.specs.Press.{PressValue};
     ghost use Rattle.press_core.specs.Staged.{HasStages};
 
@@ -76,20 +79,24 @@ impl<S: Signer> Model for Press<S> {
       last_export = press.last_export;
     } };
 
-    ghost invariant = { λ press. (IsClear press.site press.at.rows press.at.issued × HasStages press.at)
+    ghost invariant = { λ press. (IsClear press.site press.at.rows press.at.issued × HasStages press.at
+        × (press.by_name ≡ true → StandByName press.site press.at.issued))
         × (press.rrdp.serial ≡ press.at.serial) };
 }
 
 impl<S: Signer> Press<S> {
-    /// A press that goes on, of which nothing was exported in this run.
+    /// A press that goes on, of which nothing was exported in this run. `by_name` tells whether it is known that ROAs
+    /// stand at places of names.
     pub(crate) fn resumed(
         alloc: Global,
         site: Site,
         ring: Ring<S>,
-        at: PublishedState,
+        at: CurrentState,
         rrdp: Rrdp,
+        by_name: bool,
     ) -> Press<S>
         requires clear { IsClear site at.rows at.issued }
+        requires stand { by_name ≡ true → StandByName site at.issued }
         requires stages { HasStages at }
         requires files { rrdp.serial ≡ at.serial }
         ensures { result ≡ record {
@@ -108,6 +115,7 @@ impl<S: Signer> Press<S> {
             ended: Vec::new(alloc),
             rrdp,
             last_export: LastExport::NoExport,
+            by_name,
         }
     }
 
@@ -115,7 +123,7 @@ impl<S: Signer> Press<S> {
     pub fn serial(&self) -> u64
         ensures { result ≡ self.now.at.serial }
     {
-        self.at.parts().serial
+        self.at.state().parts().serial
     }
 
     /// How many commands of each desk the last edition takes in. One number for each desk, in their
@@ -123,21 +131,21 @@ impl<S: Signer> Press<S> {
     pub fn cut(&self) -> &[u64]
         ensures { result.now ≡ self.now.at.cut }
     {
-        self.at.parts().cut.as_slice()
+        self.at.state().parts().cut.as_slice()
     }
 
     /// What stands after the last edition.
     pub fn published_state(&self) -> &PublishedState
         ensures { result.now ≡ self.now.at }
     {
-        &self.at
+        self.at.state()
     }
 
     /// What readers are shown of the last edition.
     pub fn sheet(&self, alloc: Global) -> Result<Sheet, AllocError>
         ensures { IfOk result (λ sheet. sheet ≡ sheet_of self.now.at) }
     {
-        self.at.sheet(alloc)
+        self.at.state().sheet(alloc)
     }
 
     /// How the last export ended.
@@ -178,8 +186,8 @@ impl<S: Signer> Press<S> {
         same_contents_same_set();
         let (edition, delta) = prepared.into_parts();
         let (next, ended) = edition.into_next();
-        let published = next.published();
-        self.rrdp.advance(delta, &next.parts().set);
+        let published = next.state().published();
+        self.rrdp.advance(delta, &next.state().parts().set);
         self.at = next;
         self.ended = ended;
         published
@@ -237,7 +245,7 @@ impl<S: Signer> Press<S> {
         ensures cause { IfErr result (IsCauseOf (O.fault_count outlet.old) (O.fault_count outlet.new)) }
     {
         let all = puts_all(self.last_export, self.serial());
-        let files = export_files(alloc, &self.rrdp, &self.site, &self.at, all)?;
+        let files = export_files(alloc, &self.rrdp, &self.site, self.at.state(), all)?;
         export(alloc, &files, outlet)
     }
 
@@ -331,14 +339,17 @@ impl<S: Signer + Send> Press<S> {
         prepared_editions_follow();
         prepared_editions_are_published();
         prepared_editions_put_what_is_unfit();
+        let at = self.at.share()?;
         prepare_over(
             rt,
             alloc,
             &self.site,
-            &self.at,
+            &at,
+            &mut self.at,
             &mut self.ring,
             now,
             gathered,
+            self.by_name,
         )
     }
 }

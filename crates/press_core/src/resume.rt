@@ -5,7 +5,7 @@ ghost use Rattle.std.specs.Prelude.{◌≡◌, IfOk, IfErr};
 ghost use Rattle.press_core.specs.Resuming.{IsAudited, AreFirsts, GoesOn, AreAgreed, IsResumeFault};
 
 use crate::loading::Loaded;
-use crate::opening::state_of;
+use crate::opening::{current_state, is_by_name};
 use crate::press::Press;
 use crate::stored::StoredPress;
 use disk_api::Disk;
@@ -91,9 +91,10 @@ impl<D: Disk, S: Signer> StoredPress<D, S> {
         editions_follow_one_another();
         steps_come_one_by_one();
         let (journal, store, left, rrdp) = loaded.into_parts();
-        match state_of(alloc, &store.site, left, audited, firsts) {
+        match current_state(alloc, &store.site, left, audited, firsts) {
             Ok(at) => {
-                let press = Press::resumed(alloc, store.site, ring, at, rrdp);
+                let by_name = is_by_name(alloc, &store.site, at.state());
+                let press = Press::resumed(alloc, store.site, ring, at, rrdp, by_name);
                 Ok(StoredPress::of(press, journal))
             }
             Err(fault) => Err(ResumeRefused {

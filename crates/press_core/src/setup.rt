@@ -1,10 +1,11 @@
 //! What an edition is made from.
 
-ghost use Rattle.std.specs.Prelude.{◌≡◌, ◌<◌, ℕ, List, IfOk, IfErr};
+ghost use Rattle.std.specs.Prelude.{◌≡◌, ◌<◌, ℕ, List, true, IfOk, IfErr};
 ghost use Rattle.signer_api.specs.State.{SignerState};
 ghost use Rattle.key_ids.specs.Uris.{Bases};
 ghost use Rattle.entitle.specs.Certified.{settings_of, AreCertified};
 ghost use Rattle.entitle.specs.Owed.{AreOwed};
+ghost use Rattle.issue_plan.specs.ByName.{StandByName};
 ghost use Rattle.issue_plan.specs.Work.{IsPlan};
 ghost use Rattle.editions.specs.declared.gathered.Gathered.{Gathered};
 ghost use Rattle.editions.specs.Moments.{moment_behind};
@@ -93,14 +94,16 @@ pub fn set_up(
     })
 }
 
-/// The plan of the edition.
+/// The plan of the edition. `by_name` tells whether it is known that ROAs stand at places of names.
 pub fn plan_of(
     alloc: Global,
     site: &Site,
     at: &PublishedState,
     setup: &EditionInput,
+    by_name: bool,
 ) -> Result<Work, AllocError>
-    requires { AreOwed (settings_of setup.now.configs.items) setup.now.owed.items }
+    requires owes { AreOwed (settings_of setup.now.configs.items) setup.now.owed.items }
+    requires stand { by_name ≡ true → StandByName site.now at.now.issued }
     ensures { IfOk result (IsPlan (basis_over at.now setup.now) at.now.issued site.now) }
 {
     let parts = at.parts();
@@ -113,5 +116,6 @@ pub fn plan_of(
         &parts.issued,
         site,
         setup.moment,
+        by_name,
     )
 }

@@ -4,6 +4,7 @@ pub mod Entries
 pub mod Exports
 pub mod Keeping
 pub mod Lasts
+pub mod Least
 pub mod Places
 pub mod Removals
 pub mod Reopened

@@ -5,6 +5,7 @@
 mod delta;
 mod laws;
 mod leaving;
+mod lengths;
 mod named;
 mod next;
 mod paths;

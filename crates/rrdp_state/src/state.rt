@@ -11,14 +11,15 @@ ghost use Rattle.rrdp_state.specs.Resuming.{kept_behind};
 
 use crate::delta::Delta;
 use crate::leaving::{Counts, removes};
-use crate::named::{MOST_NAMED, fitting_count};
+use crate::lengths::{named_count, reaches};
+use crate::named::MOST_NAMED;
 use crate::next::NextDelta;
 use crate::putting::puts;
 use crate::text::FileText;
 use key_ids::Site;
 use outlet_api::{OutFile, OutFiles};
 use pub_set::{Change, ObjectSet};
-use rrdp_text::{delta_len, delta_text, snapshot_len, snapshot_text};
+use rrdp_text::{delta_len, delta_text, snapshot_text};
 use std::alloc::{AllocError, Global};
 use std::marker::Model;
 use uuid::Uuid;
@@ -125,11 +126,16 @@ impl Rrdp {
         ensures { result ≡ can_be_named self.now.session serial set.now changes.now }
     {
         serial != 1
-            && delta_len(&self.session, serial, changes) <= snapshot_len(&self.session, serial, set)
+            && reaches(
+                &self.session,
+                serial,
+                set,
+                delta_len(&self.session, serial, changes),
+            )
     }
 
     /// The next edition, after which this set stands, becomes the newest one. Its delta is kept if it is named. It
-    /// takes no memory, and time linear in the objects, whatever their bytes are.
+    /// takes no memory, and time linear in the objects, whatever their bytes are, which are seldom looked at.
     pub fn advance(&mut self, next: NextDelta, set: &ObjectSet)
         ensures stands { (repository : Repository) (older : List Edition) (edition : Edition)
             → StandsFor repository older self.old → FollowEachOther (edition ∷ older)
@@ -148,21 +154,23 @@ impl Rrdp {
             (length (snapshot_text self.old.session next.serial set.now)) next.delta }
     {
         let NextDelta { serial, delta } = next;
-        let len = snapshot_len(&self.session, serial, set);
         self.before = self.previous;
         self.previous = self.deltas.len();
-        self.keep(serial, len, delta);
+        self.keep(serial, set, delta);
         self.serial = serial;
     }
 
-    /// A delta is put before the others, and those are kept that are named beside a snapshot of so many bytes.
-    fn keep(&mut self, serial: u64, snapshot_len: u128, delta: Option<FileText>)
-        ensures { self.new ≡ record self.old { deltas = named_with serial snapshot_len delta self.old.deltas } }
+    /// A delta is put before the others, and those are kept that are named beside the snapshot of this set.
+    fn keep(&mut self, serial: u64, set: &ObjectSet, delta: Option<FileText>)
+        ensures { self.new ≡ record self.old {
+          deltas = named_with serial
+              (length (snapshot_text self.old.session serial set.now)) delta self.old.deltas;
+        } }
     {
         match delta {
             Some(text) => {
                 self.deltas.insert(0, Delta { serial, text }).unwrap();
-                let named = fitting_count(snapshot_len, &self.deltas);
+                let named = named_count(&self.session, serial, set, &self.deltas);
                 self.deltas.truncate(named);
             }
             None => self.deltas.clear(),

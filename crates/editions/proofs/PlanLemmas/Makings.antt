@@ -17,6 +17,7 @@ use Rattle.editions.specs.Wanted.{all_objects}
 use Rattle.editions.specs.inner.PlanAndTable.{AreOfPlan}
 use Rattle.issue_make.specs.declared.made.Made.{Made}
 use Rattle.issue_make.specs.Trace.{AreKeys, IsIssuingTrace}
+use Rattle.issue_plan.specs.ByName.{StandByName}
 use Rattle.issue_plan.specs.Keys.{Basis}
 use Rattle.issue_plan.specs.Wanted.{PlanInput}
 use Rattle.issue_plan.specs.Work.{IsPlan}
@@ -32,6 +33,7 @@ use Rattle.editions.proofs.PlanLemmas.Planning.{ArePlanned, AreLaws, of-plan, kn
 use Rattle.editions.proofs.PlanLemmas.Drafted.{all_puts}
 use Rattle.editions.proofs.PlanLemmas.Fitted.{new-in}
 use Rattle.editions.proofs.PlanLemmas.After.{have-signers, are-live, is-clear}
+use Rattle.editions.proofs.PlanLemmas.Named.{table-named}
 
 -- Each key is of a signer that is there.
 pub keys-signers : (at : PublishedStateValue) (site : Bases) (signers : ℕ) (basis : Basis) (work : Work) (old new : List SignerState)
@@ -114,3 +116,13 @@ module _ (laws : AreLaws) (at : PublishedStateValue) (site : Bases) (signers : �
       made.changes making.changes table is_table follow.typed.names laws.told laws.ends
       (anchor-role basis (begun at site signers basis published_state follow)
       (clear-rows at site signers basis published_state follow).anchor) made.rows making.rows making.sorted
+
+  -- ROAs stand at places of names where those before did.
+  pub stay-by-name : (table : List IssuedRow) → IsTableAfter at.issued made.changes made.issued table
+      → StandByName site at.issued → StandByName site table
+  stay-by-name table is_table stood =
+      table-named input work making.trace its_plan
+      (its-known laws at site signers basis work published_state follow is_plan found keys-are)
+      (is-trace laws.planned at site signers basis work old new made published_state follow is_plan making) follow.typed.names
+      (puts-apart laws at site signers basis work published_state follow is_plan found keys-are) made.issued making.listed
+      making.count making.issued put-wanted made.changes table is_table stood

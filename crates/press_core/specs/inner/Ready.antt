@@ -27,6 +27,7 @@ use Rattle.editions.specs.Gathering.{configs_with, cut_with}
 use Rattle.editions.specs.Standing.{IsTableAfter}
 use Rattle.editions.specs.Ended.{ended_keys}
 use Rattle.editions.specs.Clear.{IsClear}
+use Rattle.issue_plan.specs.ByName.{StandByName}
 use Rattle.press_core.specs.PrepareInput.{PrepareInput, started}
 use Rattle.press_core.specs.Next.{NextValue}
 use Rattle.press_core.specs.Staged.{AreStaged, HasStages}
@@ -97,6 +98,9 @@ pub record IsMadeReady (start : PrepareInput) (setup : EditionInput) (work : Wor
   pub clear : (table : List IssuedRow)
       → IsTableAfter start.at.issued made.changes made.issued table
       → IsClear start.site made.rows table
+  pub by_name : (table : List IssuedRow)
+      → IsTableAfter start.at.issued made.changes made.issued table
+      → StandByName start.site start.at.issued → StandByName start.site table
   pub staged : All (λ key. key.desk ≡ 0 → key.role ≡ Current) made.rows → AreStaged made.rows
 
 -- ---- after

@@ -11,13 +11,14 @@ use Rattle.press_core.proofs.making.make_edition.Goals as goal
 
 pub make-requires : goal.make-requires
 make-requires g c =
-    let start = started c.args.site.now c.args.at.now c.args.ring.now c.requires.clock c.requires.gathered in
+    let start = started c.args.site.now c.args.at.now c.args.ring.now c.requires.ready.clock c.requires.ready.gathered in
     let laws : WorkLaws = record {
       origins = c.accepted_origins_ascend.ensures;
       work = c.planned_work_can_be_made.ensures;
       live = c.made_keys_are_live.ensures;
       signers = c.made_keys_have_signers.ensures;
       clear = c.other_uris_are_clear.ensures;
+      by_name = c.roas_stay_by_name.ensures;
       apart = c.wanted_objects_are_apart.ensures;
       staged = c.made_keys_are_staged.ensures;
     } in
@@ -27,27 +28,28 @@ make-requires g c =
       c.type_bounds.send-S,
       (
         c.type_bounds.sync-R,
-        call-able start c.args.setup c.args.work.now c.names_of-names.result.now c.parts-parts.result.now c.as_slice.result.now known c.requires.ready,
+        call-able start c.args.setup c.args.work.now c.names_of-names.result.now c.parts-parts.result.now c.as_slice.result.now known c.requires.ready.ready,
       ),
     )
 
-pub next_of-requires : goal.next_of-requires
-next_of-requires g c =
-    let start = started c.args.site.now c.args.at.now c.args.ring.now c.requires.clock c.requires.gathered in
+pub next_of-requires-clause-stand : goal.next_of-requires-clause-stand
+next_of-requires-clause-stand g c =
+    let start = started c.args.site.now c.args.at.now c.args.ring.now c.requires.ready.clock c.requires.ready.gathered in
     let laws : WorkLaws = record {
       origins = c.accepted_origins_ascend.ensures;
       work = c.planned_work_can_be_made.ensures;
       live = c.made_keys_are_live.ensures;
       signers = c.made_keys_have_signers.ensures;
       clear = c.other_uris_are_clear.ensures;
+      by_name = c.roas_stay_by_name.ensures;
       apart = c.wanted_objects_are_apart.ensures;
       staged = c.made_keys_are_staged.ensures;
     } in
     let known = called-as laws start c.args.setup c.names_of-names.result.now c.parts-parts.result.now c.as_slice.result.now c.deref.result.now
     c.names_of-names.ensures.names c.deref.ensures.value c.names_of-names.ensures.plain c.parts-parts.ensures.parts c.as_slice.ensures
     (record { anchor = c.can_be_named.ensures.anchor; certificate = c.can_be_named.ensures.certificate }) in
-    can-stand start c.args.setup c.args.work.now c.make.new.ring c.in-Ok.made c.requires.ready
-    (call-made start c.args.setup c.args.work.now c.names_of-names.result.now c.parts-parts.result.now c.as_slice.result.now c.make.new.ring c.in-Ok.made known c.requires.ready c.in-Ok.ensures.made)
+    can-stand start c.args.setup c.args.work.now c.make.new.ring c.in-Ok.made c.requires.ready.ready
+    (call-made start c.args.setup c.args.work.now c.names_of-names.result.now c.parts-parts.result.now c.as_slice.result.now c.make.new.ring c.in-Ok.made known c.requires.ready.ready c.in-Ok.ensures.made)
 
 pub returns-in-Err-clause-refused : goal.returns-in-Err-clause-refused
 returns-in-Err-clause-refused g c = λ gathered ready.
@@ -58,6 +60,7 @@ returns-in-Err-clause-refused g c = λ gathered ready.
       live = c.made_keys_are_live.ensures;
       signers = c.made_keys_have_signers.ensures;
       clear = c.other_uris_are_clear.ensures;
+      by_name = c.roas_stay_by_name.ensures;
       apart = c.wanted_objects_are_apart.ensures;
       staged = c.made_keys_are_staged.ensures;
     } in
@@ -82,6 +85,7 @@ returns-clause-prepared g c = λ gathered ready.
       live = c.made_keys_are_live.ensures;
       signers = c.made_keys_have_signers.ensures;
       clear = c.other_uris_are_clear.ensures;
+      by_name = c.roas_stay_by_name.ensures;
       apart = c.wanted_objects_are_apart.ensures;
       staged = c.made_keys_are_staged.ensures;
     } in
@@ -91,7 +95,7 @@ returns-clause-prepared g c = λ gathered ready.
     let is = call-made start c.args.setup c.args.work.now c.names_of-names.result.now c.parts-parts.result.now c.as_slice.result.now c.make.new.ring c.in-Ok.made known ready c.in-Ok.ensures.made in
     prepared-of start c.args.setup c.args.work.now c.make.new.ring c.in-Ok.made c.in_ok-next_of.field-0 ready is
     (subst (λ (l : List Change). All CanBeRead l) c.as_slice-2.ensures (c.if-not-can_all_be_read.ensures.0 refl))
-    (subst (λ (l : List IssuedRow). length l < 2 ^ 62) c.as_slice-3.ensures c.are_few.ensures) c.in_ok-next_of.ensures
+    (subst (λ (l : List IssuedRow). length l < 2 ^ 62) c.as_slice-3.ensures c.are_few.ensures) c.in_ok-next_of.ensures.next
 
 pub returns-clause-keys : goal.returns-clause-keys
 returns-clause-keys g c =
@@ -107,6 +111,7 @@ returns-then-not-can_all_be_read-clause-refused g c = λ gathered ready.
       live = c.made_keys_are_live.ensures;
       signers = c.made_keys_have_signers.ensures;
       clear = c.other_uris_are_clear.ensures;
+      by_name = c.roas_stay_by_name.ensures;
       apart = c.wanted_objects_are_apart.ensures;
       staged = c.made_keys_are_staged.ensures;
     } in
@@ -132,6 +137,7 @@ returns-in_err-next_of-clause-refused g c =
       live = c.made_keys_are_live.ensures;
       signers = c.made_keys_have_signers.ensures;
       clear = c.other_uris_are_clear.ensures;
+      by_name = c.roas_stay_by_name.ensures;
       apart = c.wanted_objects_are_apart.ensures;
       staged = c.made_keys_are_staged.ensures;
     } in

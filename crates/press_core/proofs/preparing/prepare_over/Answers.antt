@@ -33,8 +33,8 @@ returns-then-not-is_called_for-clause-refused g c =
       refl,
     )
 
-pub make_edition-requires : goal.make_edition-requires
-make_edition-requires g c =
+pub make_edition-requires-clause-ready : goal.make_edition-requires-clause-ready
+make_edition-requires-clause-ready g c = λ lifetimes lives.
     let at = c.args.at.now in
     let start = started c.args.site.now at c.args.ring.now c.args.now c.args.gathered.items in
     let setup = c.in_ok-setup.setup in
@@ -42,23 +42,17 @@ make_edition-requires g c =
     let plan = c.in_ok-work.ensures in
     let set_up = c.in_ok-setup.ensures.set_up c.args.site.now c.args.ring.now c.args.now c.in_ok-moment.ensures.moment in
     let nexts = next_keys (basis_over at setup) in
-    let answer = c.is_called_for.ensures nexts (leads at setup c.args.site.now work plan) ∙ ap (λ (cut : List ℕ). is_called_for at cut work.moment nexts) c.as_slice.ensures.value in (
-      c.type_bounds.send-S,
-      (
-        c.type_bounds.sync-R,
-        record {
-          clock = c.args.now;
-          gathered = c.args.gathered.items;
-          ready = is-ready start setup work (record {
-            kept = c.parts-parts.ensures.kept;
-            clear = c.requires.clear;
-            staged = c.requires.staged;
-            live_signers = c.requires.live_signers;
-            name_signers = c.requires.name_signers;
-          }) c.in_ok-moment.ensures.in_range set_up c.in_ok-setup.ensures.certified c.in_ok-setup.ensures.owes plan (sym c.if-not-is_called_for.false ∙ answer);
-        },
-      ),
-    )
+    let answer = c.is_called_for.ensures nexts (leads at setup c.args.site.now work plan) ∙ ap (λ (cut : List ℕ). is_called_for at cut work.moment nexts) c.as_slice.ensures.value in record {
+      clock = c.args.now;
+      gathered = c.args.gathered.items;
+      ready = is-ready start setup work (record {
+        kept = c.parts-parts.ensures.kept;
+        clear = c.requires.clear;
+        staged = c.requires.staged;
+        live_signers = c.requires.live_signers;
+        name_signers = c.requires.name_signers;
+      }) c.in_ok-moment.ensures.in_range set_up c.in_ok-setup.ensures.certified c.in_ok-setup.ensures.owes plan (sym c.if-not-is_called_for.false ∙ answer);
+    }
 
 pub returns-clause-prepared : goal.returns-clause-prepared
 returns-clause-prepared g c =

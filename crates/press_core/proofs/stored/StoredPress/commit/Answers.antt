@@ -1,11 +1,10 @@
-use Rattle.std.proofs.Common.{◌≡◌, ℕ, List, [], ◌∷◌, ◌++◌, ◌∙◌, ap, subst}
+use Rattle.std.proofs.Common.{rules, ◌≡◌, ℕ, List, [], ◌∷◌, ◌++◌, ◌∙◌, ap, subst}
 use Rattle.std.specs.Prelude.{option_map}
 use Rattle.disk_api.specs.Runs.{LeavesOnly}
 use Rattle.gate_journal.specs.View.{RecoversToInDoubt, stake_of}
 use Rattle.press_core.specs.JournalRecords.{press_limit}
 use Rattle.press_core.specs.Stored.{StoredValue, StoredPreparedValue}
-use Rattle.press_core.proofs.JournalLaws.{moments, has-records-more}
-use Rattle.press_core.proofs.stored.StoredPress.commit.Goals.{in-Some-1, in-None-1}
+use Rattle.press_core.proofs.JournalLaws.{moments, has-records-more, durable-more}
 use Rattle.press_core.proofs.stored.StoredPress.commit.Goals as goal
 
 pub returns-in-Ok-clause-records : goal.returns-in-Ok-clause-records
@@ -16,6 +15,15 @@ returns-in-Ok-clause-records g c =
     (c.in-Ok.ensures.appended
     ∙ (ap (λ (p : StoredPreparedValue). option_map (λ (all : List (List ℕ)). all ++ p.entry ∷ []) c.self.inside.journal.records) c.prepared.view_is
     ∙ ap (λ (s : StoredValue _). option_map (λ (all : List (List ℕ)). all ++ c.args.prepared.entry ∷ []) s.journal.records) c.self.view_is))
+
+pub returns-in-Ok-clause-durable : goal.returns-in-Ok-clause-durable
+returns-in-Ok-clause-durable g c = λ lists editions image left store leaves.
+    durable-more c.edition_records_go_on.ensures c.args.self.now c.append_built.new.self c.args.prepared c.requires.recorded
+    (c.append_built.ensures.limit ∙ c.self.invariant.0)
+    (c.in-Ok.ensures.appended
+    ∙ (ap (λ (p : StoredPreparedValue). option_map (λ (all : List (List ℕ)). all ++ p.entry ∷ []) c.self.inside.journal.records) c.prepared.view_is
+    ∙ ap (λ (s : StoredValue _). option_map (λ (all : List (List ℕ)). all ++ c.args.prepared.entry ∷ []) s.journal.records) c.self.view_is))
+    lists editions image left store (c.in-Ok.ensures.durable image leaves)
 
 pub returns-in-Ok-clause-any_moment : goal.returns-in-Ok-clause-any_moment
 returns-in-Ok-clause-any_moment g c =
@@ -37,7 +45,5 @@ returns-in-Err-DiskFault-clause-any_moment g c =
     let all = subst (λ (s : StoredValue _). LeavesOnly g.D.Disk s.journal.disk c.append_built.new.self.disk
     (RecoversToInDoubt s.journal.limit s.journal.records (stake_of s.journal.shut s.journal.doubt c.args.prepared.entry))) c.self.view_is entry in
     let is = moments g.D.Disk c.edition_records_go_on.ensures c.args.self.now c.append_built.new.self.disk c.args.prepared limit c.requires.fits.is_open c.requires.recorded all in
-    elim c.match-prepared.branch [
-      | in-Some-1 w ↦ rw w.self-is is
-      | in-None-1 w ↦ rw w.self-is is
-    ]
+    let same : c.match-prepared-2.self.journal.disk ≡ c.append_built.new.self.disk = search rules in
+    rw same is

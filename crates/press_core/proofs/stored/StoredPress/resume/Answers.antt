@@ -1,8 +1,15 @@
 use Rattle.std.proofs.Common.{sym, subst}
+use Rattle.editions.specs.PublishedState.{PublishedStateValue}
+use Rattle.issue_plan.specs.ByName.{StandByName}
 use Rattle.press_core.specs.Press.{PressValue}
 use Rattle.press_core.specs.Tables.{IsHashed}
 use Rattle.press_core.proofs.GoingOn.{stored-so, whole, agreed}
 use Rattle.press_core.proofs.stored.StoredPress.resume.Goals as goal
+
+pub resumed-press-requires-clause-stand : goal.resumed-press-requires-clause-stand
+resumed-press-requires-clause-stand g c = λ known.
+    subst (λ (at : PublishedStateValue). StandByName c.into_parts-journal.result.1.site at.issued) c.state.ensures
+    (c.is_by_name-by_name.ensures known)
 
 pub of-requires-clause-hashed : goal.of-requires-clause-hashed
 of-requires-clause-hashed g c = subst (λ (p : PressValue). IsHashed p.at.set p.at.issued) (sym c.resumed-press.ensures) c.in-Ok.ensures.state.hashed

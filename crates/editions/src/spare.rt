@@ -1,0 +1,206 @@
+//! What stands, and what stood before the last edition, of which the set and the table of the next one are made.
+
+ghost use Rattle.std.specs.Prelude.{◌≡◌, IfOk, IfSome};
+ghost use Rattle.std.specs.Arc.{arc_value};
+ghost use Rattle.pub_set.specs.Objects.{Rise};
+ghost use Rattle.pub_set.specs.Changes.{uri_of, IsApplied};
+ghost use Rattle.editions.specs.Standing.{IsTableAfter};
+ghost use Rattle.editions.specs.Spares.{LeadTo, IsSpareOf};
+
+use crate::in_place::{FEW, copied_changes, set_of_spare, table_of_spare};
+use crate::published_state::{PublishedState, StateParts};
+use crate::standing::{next_set, next_table};
+use items::Items;
+use key_roll::IssuedRow;
+use pub_set::{Change, ObjectSet};
+use std::alloc::{AllocError, Global};
+use std::marker::Model;
+use std::sync::Arc;
+
+/// What stood before the last edition, with what that changed, by rising URI, and the rows of what it issued.
+#[derive(Drop)]
+pub struct Spare {
+    pub state: Arc<PublishedState>,
+    pub changes: Items<Change>,
+    pub issued: Items<IssuedRow>,
+}
+
+/// The set and the table after an edition.
+#[derive(Drop)]
+pub struct SetWithTable {
+    pub set: ObjectSet,
+    pub table: Items<IssuedRow>,
+}
+
+/// What stands; and what stood before, which nobody needs any more. Its objects and rows are moved on to the next set
+/// and table, where those that stand would have to be copied.
+///
+/// A clause sees what stands.
+#[derive(Drop)]
+pub struct CurrentState {
+    state: Arc<PublishedState>,
+    spare: Option<Spare>,
+}
+
+impl Model for CurrentState {
+    ghost use Rattle.std.specs.Prelude.{IfSome};
+    ghost use Rattle.std.specs.Arc.{arc_value};
+    ghost use Rattle.editions.specs.PublishedState.{PublishedStateValue};
+    ghost use Rattle.editions.specs.Spares.{IsSpareOf};
+
+    ghost Value = { PublishedStateValue };
+
+    ghost view = { λ current. arc_value current.state };
+
+    ghost invariant = { λ current. IfSome current.spare (IsSpareOf (arc_value current.state)) };
+}
+
+impl CurrentState {
+    /// That state, of which nothing is known that stood before.
+    pub fn new(alloc: Global, state: PublishedState) -> Result<CurrentState, AllocError>
+        ensures { IfOk result (λ current. current ≡ state) }
+    {
+        Ok(CurrentState {
+            state: Arc::new(alloc, state)?,
+            spare: None,
+        })
+    }
+
+    /// What stands.
+    pub fn state(&self) -> &PublishedState
+        ensures { result.now ≡ self.now }
+    {
+        &self.state
+    }
+
+    /// The same, held once more. It takes no memory; refused is a count of owners that is full.
+    pub fn share(&self) -> Result<Arc<PublishedState>, AllocError>
+        ensures { IfOk result (λ state. arc_value state ≡ self.now) }
+    {
+        Arc::try_clone(&self.state)
+    }
+
+    /// The set and the table after these changes, of which these rows tell what was issued.
+    ///
+    /// The first call behind an edition takes what stood before where both change little, and copies nothing of what
+    /// stays. Each later one copies what stands.
+    pub fn standing_after(
+        &mut self,
+        alloc: Global,
+        changes: &[Change],
+        issued: &[IssuedRow],
+    ) -> Result<SetWithTable, AllocError>
+        requires changes { Rise uri_of changes.now }
+        requires issued { Rise (λ row. row.uri) issued.now }
+        ensures set { IfOk result (λ next. IsApplied self.old.set changes.now next.set) }
+        ensures table { IfOk result (λ next. IsTableAfter self.old.issued changes.now issued.now next.table) }
+        ensures kept { self.new ≡ self.old }
+    {
+        let spare = self.spare.take();
+        standing_of(alloc, spare, &self.state, changes, issued)
+    }
+
+    /// That state, to which these changes lead from what stands, and of which these rows tell what was issued. What
+    /// stands is kept for the edition after it where little changes.
+    pub fn followed_by(
+        &self,
+        alloc: Global,
+        next: PublishedState,
+        changes: &[Change],
+        issued: Items<IssuedRow>,
+    ) -> Result<CurrentState, AllocError>
+        requires { LeadTo self.now.set self.now.issued changes.now issued next }
+        ensures { IfOk result (λ current. current ≡ next) }
+    {
+        if changes.len() > FEW {
+            return CurrentState::new(alloc, next);
+        }
+        let spare = Spare {
+            state: self.share()?,
+            changes: Items::new(copied_changes(alloc, changes)?),
+            issued,
+        };
+        Ok(CurrentState {
+            state: Arc::new(alloc, next)?,
+            spare: Some(spare),
+        })
+    }
+}
+
+// Made of copies of what stands.
+fn copied(
+    alloc: Global,
+    at: &PublishedState,
+    changes: &[Change],
+    issued: &[IssuedRow],
+) -> Result<SetWithTable, AllocError>
+    requires changes { Rise uri_of changes.now }
+    requires issued { Rise (λ row. row.uri) issued.now }
+    ensures set { IfOk result (λ next. IsApplied at.now.set changes.now next.set) }
+    ensures table { IfOk result (λ next. IsTableAfter at.now.issued changes.now issued.now next.table) }
+{
+    let parts = at.parts();
+    let set = next_set(alloc, &parts.set, changes)?;
+    let table = next_table(alloc, parts.issued.rows.as_slice(), changes, issued)?;
+    Ok(SetWithTable {
+        set,
+        table: Items::new(table),
+    })
+}
+
+// Made of a state that is given up, and from which the last changes led to what stands.
+fn moved_on(
+    alloc: Global,
+    old: StateParts,
+    last: Items<Change>,
+    told: Items<IssuedRow>,
+    at: &PublishedState,
+    changes: &[Change],
+    issued: &[IssuedRow],
+) -> Result<SetWithTable, AllocError>
+    requires old { Rise (λ row. row.uri) old.issued.rows }
+    requires last { LeadTo old.set old.issued.rows last told at.now }
+    requires changes { Rise uri_of changes.now }
+    requires issued { Rise (λ row. row.uri) issued.now }
+    ensures set { IfOk result (λ next. IsApplied at.now.set changes.now next.set) }
+    ensures table { IfOk result (λ next. IsTableAfter at.now.issued changes.now issued.now next.table) }
+{
+    let parts = at.parts();
+    let table = table_of_spare(
+        alloc,
+        old.issued.rows.into_vec(),
+        last.as_slice(),
+        told.as_slice(),
+        parts.issued.rows.as_slice(),
+        changes,
+        issued,
+    )?;
+    let set = set_of_spare(alloc, old.set, last.into_vec(), &parts.set, changes)?;
+    Ok(SetWithTable {
+        set,
+        table: Items::new(table),
+    })
+}
+
+// Made of the spare, if nobody else has it.
+fn standing_of(
+    alloc: Global,
+    spare: Option<Spare>,
+    at: &PublishedState,
+    changes: &[Change],
+    issued: &[IssuedRow],
+) -> Result<SetWithTable, AllocError>
+    requires spare { IfSome spare (IsSpareOf at.now) }
+    requires changes { Rise uri_of changes.now }
+    requires issued { Rise (λ row. row.uri) issued.now }
+    ensures set { IfOk result (λ next. IsApplied at.now.set changes.now next.set) }
+    ensures table { IfOk result (λ next. IsTableAfter at.now.issued changes.now issued.now next.table) }
+{
+    if let Some(spare) = spare {
+        if let Ok(state) = Arc::try_unwrap(spare.state) {
+            let old = state.into_parts();
+            return moved_on(alloc, old, spare.changes, spare.issued, at, changes, issued);
+        }
+    }
+    copied(alloc, at, changes, issued)
+}
