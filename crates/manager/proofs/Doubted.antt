@@ -1,5 +1,5 @@
 -- What is in doubt of a desk behind its lock.
-use Rattle.std.proofs.Common.{◌≡◌, ℕ, List, [], ◌∷◌, ◌++◌, map, refl, sym, ◌∙◌, ap, subst}
+use Rattle.std.proofs.Common.{◌≡◌, ℕ, ◌+◌, ◌≤◌, List, [], ◌∷◌, ◌++◌, map, refl, sym, ◌∙◌, ap, subst}
 use Rattle.std.specs.Prelude.{Option, None, Some, Ok, IfSome}
 use Rattle.std.proofs.lemmas.Option.{none-some}
 use Rattle.std.proofs.lemmas.List.{map-append}
@@ -10,13 +10,15 @@ use Rattle.authority_book.specs.Settings.{Settings}
 use Rattle.authority_book.specs.Verdict.{IsAccepted, verdict_of}
 use Rattle.authority_book.specs.Fold.{fold_of, after, after_all, empty_settings, AcceptedInTurn}
 use Rattle.cmd_codec.specs.Spelling.{spelling, IsRecordable}
-use Rattle.desk_core.specs.View.{View}
+use Rattle.gate_journal.specs.Format.{held_by}
+use Rattle.desk_core.specs.View.{View, journal_limit}
 use Rattle.desk_core.specs.Commands.{Records, HasCommands}
-use Rattle.desk_core.specs.Answers.{IsDeskFault, IsFaultAnswer, counts_of}
+use Rattle.desk_core.specs.Answers.{needed_for, IsDeskFault, IsFaultAnswer, counts_of}
 use Rattle.desk_core.specs.declared.faults.DeskFault.{DeskFault}
 use Rattle.desk_core.specs.declared.faults.DeskFault.TheVariants.{Shut, Verdict, JournalFull, DiskFault, Memory}
 use Rattle.editions.specs.laws.GrantedLaws.{granted_accepted}
 use Rattle.manager.specs.Lists.{IsNextEntry, IsDoubted}
+use Rattle.manager.proofs.Limits.{fits_push}
 
 -- ---- nothing is in doubt
 
@@ -48,14 +50,15 @@ module _ {D : Type 0} (command : Command) (signers : ℕ) (old : View D) where
         (subst (λ (s : Settings). IsAccepted s command) has.fold (granted_accepted old.settings command signers granted));
   }
 
-  doubted_by : (disk : D) (rose : ℕ × ℕ) → verdict_of old.settings command (Some signers) ≡ Ok tt → IsRecordable command
+  doubted_by : (disk : D) (rose : ℕ × ℕ) → verdict_of old.settings command (Some signers) ≡ Ok tt → held_by old.records + needed_for command ≤ journal_limit → IsRecordable command
       → IsDoubted (record old { disk = disk; shut = Some rose; doubt = Some (spelling command) })
-  doubted_by disk rose granted recordable = record {
+  doubted_by disk rose granted fits recordable = record {
     shut = (λ (none : Some rose ≡ None). absurd (none-some rose (sym none)), λ (none : Some (spelling command) ≡ None). absurd (none-some (spelling command) (sym none)));
     doubt = record {
       command = command;
       spelled = refl;
       next = λ commands has. next_records granted recordable commands (record { recorded = has.recorded; fold = has.fold });
+      fits = fits_push old.records command fits;
     };
   }
 
@@ -69,5 +72,5 @@ module _ {D : Type 0} (disk_of : DiskGhosts D) (command : Command) (signers : �
   doubted_refused (Verdict refusal) is = doubted_same is.same
   doubted_refused (JournalFull held needed) is = doubted_same is.same
   doubted_refused (DiskFault rose) is =
-      subst (λ (v : View D). IsDoubted v) (sym is.same) (doubted_by command signers old new.disk (counts_of rose) is.place.may_come.verdict is.recordable)
+      subst (λ (v : View D). IsDoubted v) (sym is.same) (doubted_by command signers old new.disk (counts_of rose) is.place.may_come.verdict is.place.fits is.recordable)
   doubted_refused Memory is = doubted_same is.same

@@ -80,6 +80,8 @@ module _ {D O : Type 0} (outlet_of : OutletGhosts O) (named : Named) (editions :
     coherent = coherent;
     limit = is.limit;
     records = is.records;
+    room = is.room;
+    doubt_room = is.doubt_room;
     settled = is.settled;
     doubt = is.doubt;
   }

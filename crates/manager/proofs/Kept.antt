@@ -1,11 +1,12 @@
 -- What a locked press keeps.
-use Rattle.std.proofs.Common.{◌≡◌, ℕ, ◌+◌, ◌<◌, List, [], ◌∷◌, ◌++◌, length, refl, sym, ap, ◌∙◌, subst, arith}
+use Rattle.std.proofs.Common.{◌≡◌, ◌⊎◌, ℕ, ◌+◌, ◌<◌, ◌≤◌, List, [], ◌∷◌, ◌++◌, length, refl, sym, ap, ◌∙◌, subst, arith, inr}
 use Rattle.std.specs.Prelude.{All, Option, None, Some, IfSome}
 use Rattle.std.proofs.lemmas.List.{length-append}
 use Rattle.std.proofs.lemmas.List.Elements.{All-append, All-push}
 use Rattle.std.proofs.lemmas.Option.{none-some}
 use Rattle.outlet_api.specs.declared.outlet.Outlet.{Ghosts as OutletGhosts}
 use Rattle.outlet_api.specs.Calls.{Files}
+use Rattle.gate_journal.specs.Format.{held_by}
 use Rattle.gate_journal.specs.View.{IsSameButRoom}
 use Rattle.authority_book.specs.declared.commands.Command.{Command}
 use Rattle.commit_word.specs.Seats.{FollowerSeat}
@@ -15,12 +16,14 @@ use Rattle.signer_api.specs.State.{SignerState}
 use Rattle.signer_ring.specs.Ring.{Keeps}
 use Rattle.signer_ring.specs.Calls.{Call}
 use Rattle.rp_rules.specs.Certificates.{Vouched}
+use Rattle.pub_set.specs.declared.steps.Change.{Change}
 use Rattle.pub_set.specs.Objects.{content_at}
 use Rattle.rrdp_state.specs.Exported.{Repository}
 use Rattle.notice_board.specs.Seats.{BoardSeat}
 use Rattle.notice_board.specs.declared.shown.ShownEdition.{ShownEdition}
 use Rattle.editions.specs.Edition.{Edition}
 use Rattle.editions.specs.Gathering.{AreNextCommands}
+use Rattle.editions.specs.PlannedAndMade.{CanBeRead}
 use Rattle.editions.specs.Published.{IsPublished}
 use Rattle.editions.specs.PublishedState.{PublishedStateValue}
 use Rattle.editions.specs.VouchedCalls.{IsVouchedBy}
@@ -34,8 +37,9 @@ use Rattle.press_core.specs.Files.{HasFilesOf}
 use Rattle.press_core.specs.Signers.{HasAllVouched}
 use Rattle.press_core.specs.Exports.{IsCoherent, ShowsEdition, ShowsLast}
 use Rattle.press_core.specs.declared.last_export.LastExport.{LastExport}
-use Rattle.press_core.specs.JournalRecords.{IsRecordOf}
+use Rattle.press_core.specs.JournalRecords.{IsRecordOf, press_limit}
 use Rattle.press_core.specs.Stored.{StoredValue, HasRecordsOf}
+use Rattle.manager.specs.Limits.{FitsWhole, FitsWith}
 use Rattle.manager.specs.Named.{Named}
 use Rattle.manager.specs.Run.{Stood, shown_at}
 use Rattle.manager.specs.Locked.{LockedValue, premises_of, AreFoundSteps, AreTold, all_of, AreSound, AreMade, IsInDoubt, repository_in, IsLockedOver}
@@ -89,6 +93,7 @@ module _ (named : Named) (editions : List Edition) where
   doubt_asked lists run calls old new at entry kept is = record {
     prepared = is.prepared;
     recorded = is.recorded;
+    readable = is.readable;
     made = is.made;
     told = told_still named old new is.made kept is.told;
     left = is.left;
@@ -118,6 +123,8 @@ module _ {D O : Type 0} (outlet_of : OutletGhosts O) (named : Named) (editions :
     coherent = is.coherent;
     limit = is.limit;
     records = is.records;
+    room = is.room;
+    doubt_room = is.doubt_room;
     settled = is.settled;
     doubt = if_some_so old.journal.doubt (IsInDoubt named editions lists run calls old.press.ring old.press.at) (IsInDoubt named editions lists run calls ring old.press.at) is.doubt
         (λ entry doubted. doubt_asked named editions lists run calls old.press.ring ring old.press.at entry kept doubted);
@@ -189,6 +196,10 @@ module _ {D O : Type 0} (outlet_of : OutletGhosts O) (named : Named) (editions :
     told_then tell vouched has =
         law start ready.press.ring prepared readied.edition.is_prepared vouched (telling_vouched vouched ready.press.ring (is.made.kept.told tell) has)
 
+    readable_then : All CanBeRead prepared.changes
+    readable_then =
+        subst (λ (changes : List Change). All CanBeRead changes) (sym readied.edition.is_prepared.made.changes) readied.edition.is_prepared.made.readable
+
     one_more : all_of editions (run ++ stood ∷ []) ≡ before ++ edition ∷ []
     one_more = editions_more editions run stood
 
@@ -206,7 +217,7 @@ module _ {D O : Type 0} (outlet_of : OutletGhosts O) (named : Named) (editions :
     pub made_then : (ring : List SignerState) → Keeps ready.press.ring ring → AreMade named editions lists (run ++ stood ∷ []) (calls ++ made) ring prepared.next
     made_then ring kept = record {
       left = subst (λ (es : List Edition). IsLeftBy lists es prepared.next) (sym one_more) left_then;
-      after = after_more lists editions run stood is.made.after (record { left = left_then; cut = refl; kept = readied.edition.is_prepared.next.kept });
+      after = after_more lists editions run stood is.made.after (record { left = left_then; cut = refl; kept = readied.edition.is_prepared.next.kept; ascending = readied.edition.is_prepared.next.ascending; readable = readable_then });
       last = sym (last_more named.at run stood);
       counted =
           let long : length (all_of editions (run ++ stood ∷ [])) ≡ length before + 1 = ap length one_more ∙ length-append before (edition ∷ []) in
@@ -232,6 +243,7 @@ module _ {D O : Type 0} (outlet_of : OutletGhosts O) (named : Named) (editions :
       pub files : HasFilesOf (before ++ edition ∷ []) new.press
       pub limit : new.journal.limit ≡ ready.journal.limit
       pub records : HasRecordsOf (before ++ edition ∷ []) new
+      pub room : FitsWhole new.journal
       pub settled : new.journal.doubt ≡ None
       pub list : shown.list ≡ board.list
       pub shown_is : shown.shown ≡ board.shown ++ shown_at prepared.next ∷ []
@@ -254,6 +266,8 @@ module _ {D O : Type 0} (outlet_of : OutletGhosts O) (named : Named) (editions :
           (λ files coherent. still_coherent (repository_in named) before edition files coherent));
       limit = pressed.limit ∙ is.limit;
       records = subst (λ (es : List Edition). HasRecordsOf es new) (sym one_more) pressed.records;
+      room = inr pressed.room;
+      doubt_room = subst (λ (d : Option (List ℕ)). IfSome d (FitsWith new.journal)) (sym pressed.settled) tt;
       settled = λ none. pressed.settled;
       doubt = subst (λ (d : Option (List ℕ)). IfSome d (IsInDoubt named editions lists (run ++ stood ∷ []) (calls ++ made) new.press.ring new.press.at)) (sym pressed.settled) tt;
     }
@@ -261,9 +275,9 @@ module _ {D O : Type 0} (outlet_of : OutletGhosts O) (named : Named) (editions :
     -- ---- the disk failed while its record was written
 
     pub locked_doubted : (entry : List ℕ) (rose : ℕ × ℕ) (new : StoredValue D) → new.press ≡ ready.press → new.journal.limit ≡ ready.journal.limit → new.journal.records ≡ ready.journal.records → new.journal.shut ≡ Some rose → new.journal.doubt ≡ Some entry
-        → IsRecordOf ready.press.at prepared entry
+        → IsRecordOf ready.press.at prepared entry → FitsWith ready.journal entry
         → IsLockedOver outlet_of named editions lists run calls (lock new seats board outlet)
-    locked_doubted entry rose new same limit records shut doubted recorded =
+    locked_doubted entry rose new same limit records shut doubted recorded fits =
         subst (λ (p : PressValue). IsLockedOver outlet_of named editions lists run calls (lock (record { press = p; journal = new.journal }) seats board outlet)) (sym same) (record {
           seen = is.seen;
           site = is.site;
@@ -276,10 +290,14 @@ module _ {D O : Type 0} (outlet_of : OutletGhosts O) (named : Named) (editions :
           coherent = is.coherent;
           limit = limit ∙ is.limit;
           records = subst (λ (r : Option (List (List ℕ))). HasRecordsOf before (record ready { journal = record ready.journal { records = r } })) (sym records) is.records;
+          room = subst (λ (r : Option (List (List ℕ))). (run ≡ []) ⊎ IfSome r (λ (all : List (List ℕ)). held_by all ≤ press_limit)) (sym records) is.room;
+          doubt_room = subst (λ (d : Option (List ℕ)). IfSome d (FitsWith new.journal)) (sym doubted)
+              (subst (λ (r : Option (List (List ℕ))). IfSome r (λ (all : List (List ℕ)). held_by (all ++ entry ∷ []) ≤ press_limit)) (sym records) fits);
           settled = λ none. absurd (none-some rose (sym none ∙ shut));
           doubt = subst (λ (d : Option (List ℕ)). IfSome d (IsInDoubt named editions lists run calls ready.press.ring ready.press.at)) (sym doubted) (record {
             prepared = prepared;
             recorded = recorded;
+            readable = readable_then;
             made = made;
             told = told_then;
             left = left_then;

@@ -7,6 +7,7 @@ pub mod Exporting
 pub mod Opened
 pub mod Over
 pub mod Holding
+pub mod Rooms
 pub mod Answered
 pub mod Seats
 pub mod Learned
@@ -18,6 +19,7 @@ pub mod Placed
 pub mod Knowing
 pub mod Taking
 pub mod Risen
+pub mod Limits
 pub mod Doubted
 pub mod Making
 pub mod Reading

@@ -116,7 +116,7 @@ module _ (more_left : MoreLeft) (more_stand : MoreStand) (stay : StayPublished) 
   after_set : (before : List Edition) (run : List Stood) → AreAfter less before run → AreAfter more before run
   after_set before [] all = tt
   after_set before (stood ∷ run) all = (
-    record { left = more_left less more (before ++ stood.edition ∷ []) stood.at are all.0.left; cut = all.0.cut; kept = all.0.kept },
+    record { left = more_left less more (before ++ stood.edition ∷ []) stood.at are all.0.left; cut = all.0.cut; kept = all.0.kept; ascending = all.0.ascending; readable = all.0.readable },
     after_set (before ++ stood.edition ∷ []) run all.1,
   )
 
@@ -149,6 +149,7 @@ module _ (more_left : MoreLeft) (more_stand : MoreStand) (stay : StayPublished) 
   doubt_set run calls ring at entry is = record {
     prepared = is.prepared;
     recorded = is.recorded;
+    readable = is.readable;
     made = is.made;
     told = is.told;
     left = more_left less more (all_of editions run ++ edition_of is.prepared ∷ []) is.prepared.next are is.left;
@@ -173,6 +174,8 @@ module _ (more_left : MoreLeft) (more_stand : MoreStand) (stay : StayPublished) 
     coherent = is.coherent;
     limit = is.limit;
     records = is.records;
+    room = is.room;
+    doubt_room = is.doubt_room;
     settled = is.settled;
     doubt = if_some_so press.journal.doubt (IsInDoubt named editions less run calls press.press.ring press.press.at) (IsInDoubt named editions more run calls press.press.ring press.press.at) is.doubt
         (λ entry doubted. doubt_set run calls press.press.ring press.press.at entry doubted);

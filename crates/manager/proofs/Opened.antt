@@ -1,5 +1,5 @@
 -- What was opened can lie behind a lock.
-use Rattle.std.proofs.Common.{◌≡◌, ℕ, List, [], ◌++◌, length, sym, ap, ◌∙◌, subst, arith, append-nil}
+use Rattle.std.proofs.Common.{◌≡◌, ℕ, List, [], ◌++◌, length, refl, sym, ap, ◌∙◌, subst, arith, append-nil, inl}
 use Rattle.std.specs.Prelude.{Option, IfSome}
 use Rattle.outlet_api.specs.declared.outlet.Outlet.{Ghosts as OutletGhosts}
 use Rattle.outlet_api.specs.Calls.{Files}
@@ -18,6 +18,7 @@ use Rattle.press_core.specs.Exports.{IsCoherent, ShowsEdition, ShowsLast}
 use Rattle.press_core.specs.JournalRecords.{AreRecords, store_for}
 use Rattle.press_core.specs.Stored.{HasRecordsOf, store_of}
 use Rattle.manager.specs.Named.{Named}
+use Rattle.manager.specs.Limits.{FitsWith}
 use Rattle.manager.specs.Lists.{AreListsOf}
 use Rattle.manager.specs.Found.{AreFound}
 use Rattle.manager.specs.Locked.{LockedValue, premises_of, repository_in, IsInDoubt, IsLockedOver, IsLocked}
@@ -80,6 +81,8 @@ module _ {D O : Type 0} (outlet_of : OutletGhosts O) (named : Named) (locked : L
         (subst (λ (f : Option Files). IfSome f (IsCoherent (repository_in named) editions)) (sym is.outlet) was);
     limit = is.limit;
     records = subst (λ (es : List Edition). HasRecordsOf es locked.press) (sym none_more) has_records;
+    room = inl refl;
+    doubt_room = subst (λ (d : Option (List ℕ)). IfSome d (FitsWith locked.press.journal)) (sym is.settled) tt;
     settled = λ none. is.settled;
     doubt = subst (λ (d : Option (List ℕ)). IfSome d (IsInDoubt named editions is.lists [] [] locked.press.press.ring locked.press.press.at)) (sym is.settled) tt;
   }

@@ -1,6 +1,6 @@
 -- What a press makes of a locked press.
 use Rattle.std.proofs.Common.{◌≡◌, ◌≢◌, ℕ, List, [], ◌∷◌, ◌++◌, length, sym, ◌∙◌, ap, subst, arith}
-use Rattle.std.specs.Prelude.{None, Some}
+use Rattle.std.specs.Prelude.{None, Some, IfSome}
 use Rattle.disk_api.specs.declared.disk.Disk.{Ghosts as DiskGhosts}
 use Rattle.outlet_api.specs.declared.outlet.Outlet.{Ghosts as OutletGhosts}
 use Rattle.gate_journal.specs.View.{View as JournalView}
@@ -16,7 +16,9 @@ use Rattle.press_core.specs.Press.{PressValue}
 use Rattle.press_core.specs.PrepareInput.{PrepareInput, start_of}
 use Rattle.press_core.specs.Planned.{calls_for}
 use Rattle.press_core.specs.Follows.{edition_of}
-use Rattle.press_core.specs.Stored.{StoredValue, StoredPreparedValue}
+use Rattle.press_records.specs.Store.{Store}
+use Rattle.press_core.specs.JournalRecords.{AreRecords, store_for}
+use Rattle.press_core.specs.Stored.{StoredValue, StoredPreparedValue, store_of}
 use Rattle.press_core.specs.StoredAnswers.{IsCommitFault}
 use Rattle.press_core.specs.declared.stored_fault.PrepareFault.{PrepareFault}
 use Rattle.manager.specs.Named.{Named}
@@ -27,6 +29,9 @@ use Rattle.manager.specs.Run.{shown_at}
 use Rattle.manager.specs.Locked.{LockedValue, IsLockedOver, IsLocked, all_of}
 use Rattle.manager.specs.Pressing.{IsReady, IsUnready, IsCommitted}
 use Rattle.manager.specs.Answers.{IsBehind, IsFailedBy}
+use Rattle.manager.specs.Limits.{FitsWith}
+use Rattle.manager.proofs.Holding.{RecordsLaw}
+use Rattle.manager.proofs.Rooms.{fits_behind, fits_then}
 use Rattle.manager.proofs.Over.{over}
 use Rattle.manager.proofs.Kept.{VouchLaw, CoherentLaw, ShownLaw, lock, locked_asked, Readied, locked_pressed, locked_doubted}
 
@@ -73,10 +78,15 @@ module _ {D O : Type 0} (outlet_of : OutletGhosts O) (named : Named) (press : St
       count = (over outlet_of named (lock press seats board outlet) is).made.kept.count;
     }
 
+    -- its record fits behind the others
+    has_room : (editions : List Edition) → AreFound named editions → FitsWith ready.journal prepared.entry
+    has_room editions found =
+        fits_behind ready.journal.records ready.journal.sizes ready.journal.limit prepared.entry isready.sizes isready.can.fits.fits (ready_over editions found).limit
+
     -- it was committed and shown
-    pub pressed_locked : CoherentLaw → ShownLaw → (disk_of : DiskGhosts D) (told : PublishedNumbers) (new : StoredValue D) (shown : BoardSeat) → IsCommitted disk_of prepared.edition told ready new
+    pub pressed_locked : CoherentLaw → ShownLaw → RecordsLaw → (disk_of : DiskGhosts D) (told : PublishedNumbers) (new : StoredValue D) (shown : BoardSeat) → IsCommitted disk_of prepared.edition told ready new
         → shown ≡ record readied { shown = readied.shown ++ shown_at prepared.edition.next ∷ []; ready = None } → IsLocked outlet_of named (lock new seats shown outlet)
-    pressed_locked still_coherent still_shown disk_of told new shown committed shown_is = record {
+    pressed_locked still_coherent still_shown one_more disk_of told new shown committed shown_is = record {
       lists = is.lists;
       run = is.run ++ record { edition = edition_of prepared.edition; at = prepared.edition.next } ∷ [];
       calls = is.calls ++ calls_for start ready.press.ring prepared.edition isready.edition.is_prepared;
@@ -91,6 +101,11 @@ module _ {D O : Type 0} (outlet_of : OutletGhosts O) (named : Named) (press : St
         files = committed.files is.lists (all_of editions is.run) (ready_over editions found).made.left (ready_over editions found).files;
         limit = committed.limit;
         records = committed.records is.lists (all_of editions is.run) (ready_over editions found).made.left (ready_over editions found).records;
+        room = fits_then one_more is.lists (all_of editions is.run) ready.press.at prepared.edition (store_of ready) prepared.entry ready.journal.records new.journal.records
+            (ready_over editions found).made.left isready.can.recorded committed.known (ready_over editions found).records
+            (subst (λ (s : Store). IfSome new.journal.records (AreRecords s (all_of editions is.run ++ edition_of prepared.edition ∷ []))) (λ i. store_for (committed.session i) (committed.site i))
+            (committed.records is.lists (all_of editions is.run) (ready_over editions found).made.left (ready_over editions found).records))
+            (has_room editions found);
         settled = committed.settled;
         list = ap (λ (b : BoardSeat). b.list) shown_is;
         shown_is = ap (λ (b : BoardSeat). b.shown) shown_is;
@@ -124,7 +139,7 @@ module _ {D O : Type 0} (outlet_of : OutletGhosts O) (named : Named) (press : St
       found = is.found;
       each = λ editions found. subst (λ (b : BoardSeat). IsLockedOver outlet_of named editions is.lists is.run is.calls (lock new seats b outlet)) (sym same)
           (locked_doubted outlet_of named editions law start is.lists is.run is.calls ready seats readied outlet prepared.edition (readied_is editions found)
-          prepared.entry rose new fault.press limit fault.records fault.shut fault.doubt isready.can.recorded);
+          prepared.entry rose new fault.press limit fault.records fault.shut fault.doubt isready.can.recorded (has_room editions found));
     }
 
     pub doubted_for : (disk_of : DiskGhosts D) (rose : ℕ × ℕ) (new : StoredValue D) → IsCommitFault disk_of rose prepared ready new → IsFailedBy disk_of rose press.journal new.journal

@@ -1,6 +1,6 @@
 -- An edition is made ready, or it isn't; and it is committed.
 use Rattle.std.proofs.Common.{◌≡◌, ℕ, ◌<◌, ◌≤◌, List, [], ◌∷◌, ◌++◌, sym, ◌∙◌, ap, subst, arith, inr}
-use Rattle.std.specs.Prelude.{None, Some, IfSome, Option}
+use Rattle.std.specs.Prelude.{None, Some, IfSome, IsSome, Option}
 use Rattle.disk_api.specs.declared.disk.Disk.{Ghosts as DiskGhosts}
 use Rattle.gate_journal.specs.View.{View as JournalView}
 use Rattle.authority_book.specs.declared.commands.Command.{Command}
@@ -78,6 +78,7 @@ pub record IsCommit {D : Type 0} (disk_of : DiskGhosts D) (prepared : NextValue)
   pub last_export : mid.press.last_export ≡ old.press.last_export
   pub files : (lists : List (List Command)) (editions : List Edition) → IsLeftBy lists editions old.press.at → HasFilesOf editions old.press → HasFilesOf (editions ++ edition_of prepared ∷ []) mid.press
   pub records : (lists : List (List Command)) (editions : List Edition) → IsLeftBy lists editions old.press.at → HasRecordsOf editions old → HasRecordsOf (editions ++ edition_of prepared ∷ []) mid
+  pub known : IfSome mid.journal.records (λ (all : List (List ℕ)). IsSome old.journal.records)
   pub is_open : (mid.journal.shut ≡ None) × (mid.journal.doubt ≡ None)
   pub limit : mid.journal.limit ≡ old.journal.limit
   pub later : disk_of.fault_count old.journal.disk ≤ disk_of.fault_count mid.journal.disk
@@ -107,6 +108,7 @@ module _ {D : Type 0} (disk_of : DiskGhosts D) (prepared : NextValue) (told : Pu
     ended = ap (λ (p : PressValue). p.ended) others;
     files = λ lists editions left has. files_then (editions ++ edition_of prepared ∷ []) (is.files lists editions left has);
     records = λ lists editions left has. subst (HasRecordsOf (editions ++ edition_of prepared ∷ [])) same (is.records lists editions left has);
+    known = subst (λ (v : JournalView D). IfSome v.records (λ (all : List (List ℕ)). IsSome old.journal.records)) (sym journal) is.known;
     limit = ap (λ (v : JournalView D). v.limit) journal ∙ is.limit;
     is_open = ap (λ (v : JournalView D). v.shut) journal ∙ is.is_open.0;
     settled = ap (λ (v : JournalView D). v.doubt) journal ∙ is.is_open.1;

@@ -53,6 +53,11 @@ to_repeat false at is = absurd (false≢true is)
 pub known_last : (known : List FollowerSeat) (shown : List ShownEdition) (behind : Option ℕ) (at : Bool) (serial : ℕ) → IfSome behind (λ (n : ℕ). IsShownTo n known shown) → (is_some behind && not at) ≡ true → serial ≡ last_serial shown → IsShownTo serial known shown
 known_last known shown behind at serial is repeat last = subst (λ (n : ℕ). IsShownTo n known shown) (sym last) (last_known known shown behind is (to_repeat (is_some behind) at repeat).0)
 
+-- and that is the serial behind which there was nothing to publish
+pub behind_last : (known : List FollowerSeat) (shown : List ShownEdition) (behind : Option ℕ) (at : Bool) (serial : ℕ) → IfSome behind (λ (n : ℕ). IsShownTo n known shown) → (is_some behind && not at) ≡ true → serial ≡ last_serial shown → behind ≡ Some serial
+behind_last known shown None at serial is repeat last = absurd (false≢true (to_repeat false at repeat).0)
+behind_last known shown (Some n) at serial is repeat last = ap (λ (m : ℕ). Some m) (sym (last ∙ last_is n known shown is))
+
 -- where it isn't, there was something to publish, or the last edition is at the outlet
 pub none_left : (behind : Option ℕ) (last : LastExport) (serial : ℕ) → (is_some behind && not (is_exported last serial)) ≡ false → IfSome behind (λ (n : ℕ). is_exported last serial ≡ true)
 none_left None last serial isnt = tt

@@ -117,7 +117,7 @@ module _ {D : Type 0} (signers : ℕ) (command : Command) (old new : View D) (wa
 
 -- ---- a refused one
 
-refused_same : {D : Type 0} (disk_of : DiskGhosts D) (fault : DeskFault D) (command : Command) (signers : ℕ) (old new : View D) → IsDeskFault disk_of fault command signers old new
+pub refused_same : {D : Type 0} (disk_of : DiskGhosts D) (fault : DeskFault D) (command : Command) (signers : ℕ) (old new : View D) → IsDeskFault disk_of fault command signers old new
     → (new.records ≡ old.records) × (new.settings ≡ old.settings)
 refused_same disk_of (Shut rose) command signers old new is = (ap (λ (v : View _). v.records) is.same, ap (λ (v : View _). v.settings) is.same)
 refused_same disk_of (Verdict refusal) command signers old new is = (ap (λ (v : View _). v.records) is.same, ap (λ (v : View _). v.settings) is.same)

@@ -1,6 +1,6 @@
 -- What a publication answers.
 use Rattle.std.specs.Prelude.{◌≡◌, ◌≤◌, ◌+◌, ◌==◌, ◌||◌, ℕ, Bool, true, false, List, [], ◌∷◌, ◌++◌}
-use Rattle.std.specs.Prelude.{Option, None, Some, IfSome, IsSome, Result, Ok, Err, length}
+use Rattle.std.specs.Prelude.{Option, None, Some, IfSome, Result, Ok, Err, length}
 use Rattle.disk_api.specs.declared.disk.Disk.{Ghosts as DiskGhosts}
 use Rattle.commit_word.specs.Seats.{FollowerSeat}
 use Rattle.gate_journal.specs.View as journal
@@ -65,7 +65,7 @@ abbrev pub IsNotPublished : {D O : Type 0} → List FollowerSeat → List ShownE
 IsNotPublished known shown (refused.Unmade serial fault) = (last_serial shown ≡ serial)
     × IfSome (nothing_behind fault) (λ behind. IsShownTo behind known shown)
 IsNotPublished known shown (refused.Repeated serial fault) =
-    IsSome (nothing_behind fault) × IsShownTo serial known shown
+    (nothing_behind fault ≡ Some serial) × IsShownTo serial known shown
 IsNotPublished known shown (refused.Unexported serial fault) = IsShownTo serial known shown
 
 -- The edition of that serial couldn't be brought to the outlet.

@@ -1,4 +1,5 @@
 pub mod Named
+pub mod Limits
 pub mod Lists
 pub mod Found
 pub mod Risen

@@ -1,11 +1,12 @@
 -- The commands of the desks, as those know them who follow the desks' words.
-use Rattle.std.specs.Prelude.{◌≡◌, ◌↔◌, ◌<◌, ⊤, ℕ, suc, List, [], ◌∷◌, ◌++◌, map, All, None, Some, IfSome, slice_get, get_or}
+use Rattle.std.specs.Prelude.{◌≡◌, ◌↔◌, ◌<◌, ◌≤◌, ⊤, ℕ, suc, List, [], ◌∷◌, ◌++◌, map, All, None, Some, IfSome, slice_get, get_or}
 use Rattle.atomic_table.specs.Seated.{TableId}
 use Rattle.commit_word.specs.Seats.{FollowerSeat}
 use Rattle.authority_book.specs.declared.commands.Command.{Command}
 use Rattle.authority_book.specs.Fold.{fold_of}
 use Rattle.cmd_codec.specs.Spelling.{spelling}
-use Rattle.desk_core.specs.View.{View}
+use Rattle.gate_journal.specs.Format.{held_by}
+use Rattle.desk_core.specs.View.{View, journal_limit}
 use Rattle.desk_core.specs.Commands.{Records, HasCommands}
 
 -- ---- followers
@@ -55,12 +56,13 @@ pub record IsListed {D : Type 0} (signers : ℕ) (desk : View D) : Type 0 where
   pub signed : All (λ name. name.signer < signers) desk.settings.names
 
 -- The entry is the record of a command that may stand next: whatever commands the desk has, its records
--- and this one are those of these commands and that one.
+-- and this one are those of these commands and that one. It fits into the journal behind them.
 pub record IsNextEntry {D : Type 0} (desk : View D) (entry : List ℕ) : Type 0 where
   pub command : Command
   pub spelled : entry ≡ spelling command
   pub next : (commands : List Command) → HasCommands desk commands
       → Records desk.number (desk.records ++ entry ∷ []) (commands ++ command ∷ [])
+  pub fits : held_by (desk.records ++ entry ∷ []) ≤ journal_limit
 
 -- Where a record is in doubt it is that of a command which may stand next; and the desk is shut just
 -- where one is.

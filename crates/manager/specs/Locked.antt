@@ -1,5 +1,5 @@
 -- What holds of the press behind its lock, whenever the lock is taken.
-use Rattle.std.specs.Prelude.{◌≡◌, ◌<◌, ℕ, true, List, [], ◌∷◌, ◌++◌, None, IfSome, All, length}
+use Rattle.std.specs.Prelude.{◌≡◌, ◌⊎◌, ◌<◌, ℕ, true, List, [], ◌∷◌, ◌++◌, None, IfSome, All, length}
 use Rattle.outlet_api.specs.declared.outlet.Outlet.{Ghosts as OutletGhosts}
 use Rattle.authority_book.specs.declared.commands.Command.{Command}
 use Rattle.commit_word.specs.Seats.{FollowerSeat}
@@ -12,6 +12,7 @@ use Rattle.rrdp_state.specs.Exported.{Repository}
 use Rattle.notice_board.specs.Seats.{BoardSeat}
 use Rattle.editions.specs.Edition.{Edition}
 use Rattle.editions.specs.Step.{Premises, AreSteps}
+use Rattle.editions.specs.PlannedAndMade.{CanBeRead}
 use Rattle.editions.specs.Published.{IsPublished}
 use Rattle.editions.specs.PublishedState.{PublishedStateValue, desks}
 use Rattle.editions.specs.VouchedCalls.{IsVouchedBy}
@@ -25,6 +26,7 @@ use Rattle.press_core.specs.Stored.{StoredValue, HasRecordsOf}
 use Rattle.manager.specs.Named.{Named}
 use Rattle.manager.specs.Lists.{AreListsOf, AreSeen}
 use Rattle.manager.specs.Found.{AreFound}
+use Rattle.manager.specs.Limits.{FitsWhole, FitsWith}
 use Rattle.manager.specs.Run.{Stood, editions_of, last_of, AreAfter, shown_in}
 
 -- The press over its journal, a follower of each desk's word, the board on which editions are shown, and
@@ -95,13 +97,14 @@ pub record AreMade (named : Named) (editions : List Edition) (lists : List (List
 -- ---- the edition in doubt
 
 -- The disk failed while this record was written: that of an edition which the signers made by these
--- calls behind all others. It takes in no command that isn't among those of the desks, and is as good
--- as those before it.
+-- calls behind all others. It takes in no command that isn't among those of the desks, what it puts can
+-- be read, and it is as good as those before it.
 pub record IsInDoubt (named : Named) (editions : List Edition) (lists : List (List Command))
     (run : List Stood) (calls : List Call) (ring : List SignerState) (at : PublishedStateValue)
     (entry : List ℕ) : Type 0 where
   pub prepared : NextValue
   pub recorded : IsRecordOf at prepared entry
+  pub readable : All CanBeRead prepared.changes
   pub made : List Call
   pub told : AreTold named ring made
   pub left : IsLeftBy lists (all_of editions run ++ edition_of prepared ∷ []) prepared.next
@@ -124,8 +127,9 @@ WasCoherent named editions = IfSome named.files (IsCoherent (repository_in named
 -- ---- the locked press
 
 -- Behind these editions: the followers have seen these commands recorded, and editions were made over
--- them; the board shows these in their order, and the journal has their records; the outlet shows the
--- one that was exported last, where that ended well, and is coherent where it was.
+-- them; the board shows these in their order, and the journal has their records, and room for what was
+-- written; the outlet shows the one that was exported last, where that ended well, and is coherent where
+-- it was.
 pub record IsLockedOver {D O : Type 0} (outlet_of : OutletGhosts O) (named : Named)
     (editions : List Edition) (lists : List (List Command)) (run : List Stood) (calls : List Call)
     (locked : LockedValue D O) : Type 0 where
@@ -142,6 +146,8 @@ pub record IsLockedOver {D O : Type 0} (outlet_of : OutletGhosts O) (named : Nam
       (IsCoherent (repository_in named) (all_of editions run))
   pub limit : locked.press.journal.limit ≡ press_limit
   pub records : HasRecordsOf (all_of editions run) locked.press
+  pub room : (run ≡ []) ⊎ FitsWhole locked.press.journal
+  pub doubt_room : IfSome locked.press.journal.doubt (FitsWith locked.press.journal)
   pub settled : locked.press.journal.shut ≡ None → locked.press.journal.doubt ≡ None
   pub doubt : IfSome locked.press.journal.doubt (IsInDoubt named editions lists run calls
       locked.press.press.ring locked.press.press.at)

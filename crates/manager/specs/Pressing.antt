@@ -1,8 +1,8 @@
 -- What a press's calls make of it, one after another.
-use Rattle.std.specs.Prelude.{◌≡◌, ◌≤◌, None, List, [], ◌∷◌, ◌++◌}
+use Rattle.std.specs.Prelude.{◌≡◌, ◌≤◌, None, IfSome, IsSome, List, [], ◌∷◌, ◌++◌}
 use Rattle.authority_book.specs.declared.commands.Command.{Command}
 use Rattle.disk_api.specs.declared.disk.Disk.{Ghosts as DiskGhosts}
-use Rattle.gate_journal.specs.View.{IsSameButRoom}
+use Rattle.gate_journal.specs.View.{IsSameButRoom, HasSizes}
 use Rattle.signer_ring.specs.Ring.{Keeps}
 use Rattle.editions.specs.Edition.{Edition}
 use Rattle.editions.specs.PublishedState.{published_of}
@@ -28,6 +28,7 @@ pub record IsReady {D : Type 0} (start : PrepareInput) (old new : StoredValue D)
   pub held : HoldKeys old.press.ring new.press.ring
   pub same : new.press ≡ record old.press { ring = new.press.ring }
   pub journal : IsSameButRoom old.journal new.journal
+  pub sizes : HasSizes new.journal
   pub can : CanCommit new prepared
 
 -- None was prepared, for this reason.
@@ -55,6 +56,7 @@ pub record IsCommitted {D : Type 0} (disk_of : DiskGhosts D) (prepared : NextVal
   pub records : (lists : List (List Command)) (editions : List Edition)
       → IsLeftBy lists editions old.press.at → HasRecordsOf editions old
       → HasRecordsOf (editions ++ edition_of prepared ∷ []) new
+  pub known : IfSome new.journal.records (λ _. IsSome old.journal.records)
   pub limit : new.journal.limit ≡ old.journal.limit
   pub is_open : new.journal.shut ≡ None
   pub settled : new.journal.doubt ≡ None

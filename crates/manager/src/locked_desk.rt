@@ -7,6 +7,7 @@ ghost use Rattle.desk_core.specs.Answers.{IsDeskFault};
 ghost use Rattle.desk_core.specs.Commands.{HasCommands};
 ghost use Rattle.manager.specs.Commanding.{IsTaken, IsRefusedAt};
 ghost use Rattle.manager.specs.Risen.{IsRisenDesk};
+ghost use Rattle.manager.specs.Limits.{IsWithinLimit};
 
 use crate::Names;
 use authority_book::{Command, Config};
@@ -28,13 +29,14 @@ impl<N: Names, D: Disk> Model for LockedDesk<N, D> {
     ghost use Rattle.desk_core.specs.Counted.{CountedView};
     ghost use Rattle.manager.specs.Lists.{IsListed, IsDoubted};
     ghost use Rattle.manager.specs.Risen.{IsRisenDesk};
+    ghost use Rattle.manager.specs.Limits.{IsWithinLimit};
 
     ghost Value = { CountedView D };
 
     ghost view = { λ l. l.desk };
 
     ghost invariant = { λ l. (l.desk.word ≡ N.words l.desk.desk.number) × IsListed (length N.named.signers) l.desk.desk
-        × IsRisenDesk D.Disk N.named l.desk.desk × IsDoubted l.desk.desk };
+        × IsRisenDesk D.Disk N.named l.desk.desk × IsDoubted l.desk.desk × IsWithinLimit N.named l.desk.desk };
 }
 
 impl<N: Names, D: Disk> LockedDesk<N, D> {
@@ -47,6 +49,7 @@ impl<N: Names, D: Disk> LockedDesk<N, D> {
         requires listed { IsListed (length N.named.signers) desk.desk }
         requires faults { IsRisenDesk D.Disk N.named desk.desk }
         requires doubted { IsDoubted desk.desk }
+        requires limit { IsWithinLimit N.named desk.desk }
         ensures { result ≡ desk }
     {
         LockedDesk {
@@ -141,6 +144,7 @@ impl<N: Names, D: Disk> LockedDesk<N, D> {
         ensures listed { IsListed (length N.named.signers) result.desk }
         ensures faults { IsRisenDesk D.Disk N.named result.desk }
         ensures doubted { IsDoubted result.desk }
+        ensures limit { IsWithinLimit N.named result.desk }
     {
         self.desk
     }

@@ -5,6 +5,7 @@ ghost use Rattle.manager.specs.inner.AtPlaces.{AreWords};
 ghost use Rattle.manager.specs.Passes.{AreSeatsOf};
 ghost use Rattle.manager.specs.Ended.{IsEndedDesk, AreEnded, IsLeftDesk, AreLeftDesks};
 ghost use Rattle.manager.specs.Risen.{IsRisenDesk, AreRisenDesks};
+ghost use Rattle.manager.specs.Limits.{IsWithinLimit, AreWithinLimit};
 
 use crate::{DeskSeat, LockedDesk, LockedDesks, Names, Pass};
 use commit_word::Word;
@@ -24,6 +25,7 @@ impl<N: Names, D: Disk> LockedDesks<N, D> {
         ensures ended { AreEnded pass.seats into.new.items }
         ensures left { AreLeftDesks (length N.named.signers) into.new.items }
         ensures faults { AreRisenDesks D.Disk N.named into.new.items }
+        ensures limits { AreWithinLimit N.named into.new.items }
     {
         let (words, locks) = self.into_parts();
         end_all(rt, alloc, words.into_vec(), locks, pass.into_seats(), into);
@@ -48,6 +50,7 @@ fn end_all<N: Names, D: Disk, R: Wait>(
     ensures ended { AreEnded seats.items (reverse into.new.items) }
     ensures left { AreLeftDesks (length N.named.signers) (reverse into.new.items) }
     ensures faults { AreRisenDesks D.Disk N.named (reverse into.new.items) }
+    ensures limits { AreWithinLimit N.named (reverse into.new.items) }
 {
     let mut words = words;
     let mut locks = locks;
@@ -81,6 +84,7 @@ fn end<N: Names, D: Disk, R: Wait>(
     ensures ended { IsEndedDesk number seat result }
     ensures left { IsLeftDesk (length N.named.signers) result }
     ensures faults { IsRisenDesk D.Disk N.named result }
+    ensures limit { IsWithinLimit N.named result }
 {
     let mut desk = numbered(rt, lock.into_inner(), number);
     let mut seat = seat;

@@ -6,6 +6,7 @@ ghost use Rattle.manager.specs.Lists.{IsListed};
 ghost use Rattle.manager.specs.Starting.{AreOpenedDesks, IsFirstPass, first_seat, first_places};
 ghost use Rattle.manager.specs.Ready.{desk_in};
 ghost use Rattle.manager.specs.Risen.{IsRisenDesk, AreRisenDesks};
+ghost use Rattle.manager.specs.Limits.{IsWithinLimit};
 
 use crate::{DeskSeat, Followers, LockedDesk, LockedDesks, Names, OpenedDesk, Pass, Words};
 use commit_word::{Follower, Word};
@@ -123,6 +124,7 @@ fn put<N: Names, D: Disk>(alloc: Global, desk: CountedDesk<D>, word: Word, parts
     requires listed { IsListed (length N.named.signers) desk.desk }
     requires is_open { desk.desk.shut ≡ None }
     requires faults { IsRisenDesk D.Disk N.named desk.desk }
+    requires limit { IsWithinLimit N.named desk.desk }
     requires recovered { desk.recovered ≡ length desk.desk.records }
     requires words { length parts.old.words.items < vec_capacity parts.old.words }
     requires locks { length parts.old.locks.items < vec_capacity parts.old.locks }

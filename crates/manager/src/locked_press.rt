@@ -321,6 +321,7 @@ impl<N: Names, D: Disk, S: Signer + Send, O: Outlet> LockedPress<N, D, S, O> {
         gathered_commands_go_on();
         vouching_signers_vouch_for_editions();
         more_editions_stay_shown();
+        edition_records_go_on();
         let LockedPress { press, board, .. } = self;
         let prepared = match make_ready(rt, alloc, press, board, now, gathered) {
             Ok(prepared) => prepared,

@@ -44,6 +44,8 @@ pub(crate) fn make_ready<D: Disk, S: Signer + Send, R: Threads + Sync>(
     ensures same { OnErr result (board.new ≡ board.old) }
 {
     let prepared = press.prepare(rt, alloc, now, gathered)?;
+    // What its type says of the journal.
+    press.press();
     let Ok(sheet) = prepared.sheet(alloc) else {
         return Err(PrepareFault::Memory);
     };
@@ -69,6 +71,8 @@ pub(crate) fn commit_shown<D: Disk, S: Signer, R: Wait>(
     ensures limit { press.new.journal.limit ≡ press.old.journal.limit }
     ensures same { OnErr result (board.new ≡ board.old) }
 {
+    // What its type says of the journal.
+    press.press();
     let told = match press.commit(prepared) {
         Ok(told) => told,
         Err(fault) => return Err(fault),

@@ -4,6 +4,7 @@ ghost use Rattle.authority_book.specs.Verdict.{most_authorities};
 ghost use Rattle.manager.specs.Ended.{AreEnded, AreLeftDesks};
 ghost use Rattle.manager.specs.Ends.{AreEnds};
 ghost use Rattle.manager.specs.Risen.{AreRisenDesks};
+ghost use Rattle.manager.specs.Limits.{AreWithinLimit};
 
 use crate::{Closed, Manager, Names, Pass};
 use desk_core::Desk;
@@ -41,6 +42,7 @@ impl<N: Names, D: Disk, S: Signer, O: Outlet> Manager<N, D, S, O> {
         ensures ended { AreEnded pass.seats into.new.items }
         ensures left { AreLeftDesks (length N.named.signers) into.new.items }
         ensures faults { AreRisenDesks D.Disk N.named into.new.items }
+        ensures limits { AreWithinLimit N.named into.new.items }
         ensures ends { AreEnds D.Disk O.Outlet N.named pass.shown into.new.items result.disk result.ring result.outlet result.repeated }
     {
         let (desks, press) = self.into_parts();

@@ -7,6 +7,7 @@ ghost use Rattle.manager.specs.Passes.{IsSplitOff};
 ghost use Rattle.manager.specs.Ended.{AreLeftDesks};
 ghost use Rattle.manager.specs.Ends.{AreEnds};
 ghost use Rattle.manager.specs.Risen.{AreRisenDesks};
+ghost use Rattle.manager.specs.Limits.{AreWithinLimit};
 ghost use Rattle.manager.specs.Sharing.{pass_at, IsOfAll, AreShared};
 
 use crate::{ClosedStore, Manager, Names, Pass};
@@ -79,6 +80,7 @@ impl<N: Names, D: Disk, S: Signer, O: Outlet> Manager<N, D, S, O> {
         ensures shared { AreShared (pass ∷ others.items) into.new.items }
         ensures left { AreLeftDesks (length N.named.signers) into.new.items }
         ensures faults { AreRisenDesks D.Disk N.named into.new.items }
+        ensures limits { AreWithinLimit N.named into.new.items }
         ensures ends { (viewed : List ShownEdition) × ((number : ℕ) → IsPrefix (pass_at (pass ∷ others.items) number).shown viewed)
             × AreEnds D.Disk O.Outlet N.named viewed into.new.items result.disk result.ring result.outlet result.repeated }
     {

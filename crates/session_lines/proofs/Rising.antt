@@ -14,6 +14,7 @@ use Rattle.session_lines.specs.Own.{MakesRising}
 pub record GoesUp (old new : FollowerSeat) : Type 0 where
   pub mine : List (ℕ × List ℕ)
   pub made : new.mine ≡ old.mine ++ mine
+  pub grows : IsPrefix old.seen new.seen
   pub rises : Rises mine
   pub past : IsPast (length old.seen) mine
   pub within : (place : ℕ) (entry : List ℕ) → Has mine place entry → place < length new.seen
@@ -31,6 +32,7 @@ pub up_none : (old new : FollowerSeat) → IsMore old new → GoesUp old new
 up_none old new is = record {
   mine = [];
   made = ap (λ (s : FollowerSeat). s.mine) is.rest ∙ sym (append-nil old.mine);
+  grows = is.grows;
   rises = tt;
   past = λ place entry has. absurd has;
   within = λ place entry has. absurd has;
@@ -46,6 +48,7 @@ up_one desk command signers count old new is =
     record {
       mine = (length is.before, entry) ∷ [];
       made = ap (λ (s : FollowerSeat). s.mine) is.made;
+      grows = is.grows;
       rises = ((λ place other has. absurd has), tt);
       past = λ place other has. ⊎_elim
           (λ (same : (length is.before, entry) ≡ (place, other)). let at : length is.before ≡ place = ap (λ (p : ℕ × List ℕ). p.0) same in omega (arith, at, behind))
@@ -59,6 +62,9 @@ up_one desk command signers count old new is =
     }
 
 -- ---- one after another
+
+pub front_on : {X : Type 0} (xs ys zs : List X) → IsPrefix xs ys → IsPrefix ys zs → IsPrefix xs zs
+front_on xs ys zs one two = (one.0 ++ two.0, sym (append_assoc xs one.0 two.0) ∙ (ap (λ (l : List _). l ++ two.0) one.1 ∙ two.1))
 
 has_either : (xs ys : List (ℕ × List ℕ)) (place : ℕ) (entry : List ℕ) → Has (xs ++ ys) place entry → Has xs place entry ⊎ Has ys place entry
 has_either [] ys place entry has = inr has
@@ -78,6 +84,7 @@ pub up_both : (old mid new : FollowerSeat) → GoesUp old mid → GoesUp mid new
 up_both old mid new one two = record {
   mine = one.mine ++ two.mine;
   made = two.made ∙ (ap (λ (l : List (ℕ × List ℕ)). l ++ two.mine) one.made ∙ append_assoc old.mine one.mine two.mine);
+  grows = front_on old.seen mid.seen new.seen one.grows two.grows;
   rises = rises_on one.mine two.mine (length mid.seen) one.rises one.within two.rises two.past;
   past = λ place entry has. ⊎_elim
       (λ h. one.past place entry h)

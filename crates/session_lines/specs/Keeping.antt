@@ -79,3 +79,23 @@ abbrev pub keeps_of_publication : {D O : Type 0} → PublishFault D O → KeptVa
 keeps_of_publication (publish.Unmade serial fault) kept = keeps_of_unmade fault kept
 keeps_of_publication (publish.Repeated serial fault) kept = keeps_of_unmade fault kept
 keeps_of_publication (publish.Unexported serial fault) kept = keeps_of_export fault kept
+
+-- ---- several sessions
+
+abbrev pub later_or : {X : Type 0} → Option X → Option X → Option X
+later_or earlier None = earlier
+later_or earlier (Some later) = Some later
+
+-- What two of them keep: of each kind the value of the later one, if it has one.
+abbrev pub merged : KeptValue → KeptValue → KeptValue
+merged earlier later = record {
+  desk = later_or earlier.desk later.desk;
+  press = later_or earlier.press later.press;
+  outlet = later_or earlier.outlet later.outlet;
+  journal_full = later_or earlier.journal_full later.journal_full;
+  nothing = later_or earlier.nothing later.nothing;
+  clock_range = later_or earlier.clock_range later.clock_range;
+  serial_end = later_or earlier.serial_end later.serial_end;
+  signer_fault = later_or earlier.signer_fault later.signer_fault;
+  key_clash = later_or earlier.key_clash later.key_clash;
+}

@@ -18,6 +18,7 @@ use Rattle.manager.specs.Sharing.{pass_at, AreShared}
 use Rattle.manager.specs.Ended.{AreLeftDesks}
 use Rattle.manager.specs.Ends.{AreEnds}
 use Rattle.manager.specs.Risen.{AreRisenDesks}
+use Rattle.manager.specs.Limits.{AreWithinLimit}
 use Rattle.session_lines.specs.Keeping.{KeptValue, nothing_kept}
 use Rattle.session_lines.specs.Replies.{SessionState}
 use Rattle.session_lines.specs.Sessions.{Streams, Converses}
@@ -100,6 +101,7 @@ pub record IsRun {D G O S K C : Type 0} (disk_of : DiskGhosts D) (outlet_of : Ou
   pub shared : AreShared (record first { places = places } ∷ left) desks
   pub kept : AreLeftDesks (length named.signers) desks
   pub faults : AreRisenDesks disk_of named desks
+  pub limits : AreWithinLimit named desks
   pub viewed : List ShownEdition
   pub seen : (number : ℕ)
       → IsPrefix (pass_at (record first { places = places } ∷ left) number).shown viewed

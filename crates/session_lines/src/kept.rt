@@ -1,6 +1,6 @@
 //! What a session keeps of its refusals: each one's word that a device failed, or what met a publication.
 ghost use Rattle.std.specs.Prelude.{◌≡◌};
-ghost use Rattle.session_lines.specs.Keeping.{nothing_kept, keeps_of_command, keeps_of_desk, keeps_of_publication, keeps_of_unmade, keeps_of_preparation, keeps_of_export};
+ghost use Rattle.session_lines.specs.Keeping.{nothing_kept, keeps_of_command, keeps_of_desk, keeps_of_publication, keeps_of_unmade, keeps_of_preparation, keeps_of_export, later_or, merged};
 
 use desk_core::{DeskFault, DeskRose};
 use disk_api::Disk;
@@ -58,6 +58,23 @@ impl<D: Disk, O: Outlet> Kept<D, O> {
             serial_end: None,
             signer_fault: None,
             key_clash: None,
+        }
+    }
+
+    /// Of each kind the value of the later one, if that has one.
+    pub fn merge(self, later: Kept<D, O>) -> Kept<D, O>
+        ensures { result ≡ merged self later }
+    {
+        Kept {
+            desk: later_or(self.desk, later.desk),
+            press: later_or(self.press, later.press),
+            outlet: later_or(self.outlet, later.outlet),
+            journal_full: later_or(self.journal_full, later.journal_full),
+            nothing: later_or(self.nothing, later.nothing),
+            clock_range: later_or(self.clock_range, later.clock_range),
+            serial_end: later_or(self.serial_end, later.serial_end),
+            signer_fault: later_or(self.signer_fault, later.signer_fault),
+            key_clash: later_or(self.key_clash, later.key_clash),
         }
     }
 
@@ -123,5 +140,14 @@ impl<D: Disk, O: Outlet> Kept<D, O> {
         if let ExportFault::OutletFault { rose } = fault {
             self.outlet = Some(rose);
         }
+    }
+}
+
+fn later_or<T: Drop>(earlier: Option<T>, later: Option<T>) -> Option<T>
+    ensures { result ≡ later_or earlier later }
+{
+    match later {
+        Some(value) => Some(value),
+        None => earlier,
     }
 }

@@ -9,9 +9,9 @@ use disk_api::Disk;
 use line_loop::{Sink, Source};
 use outlet_api::Outlet;
 
-/// What a session makes is the commands that its replies say are accepted, in their order and at these places. Where its
-/// replies break off, it is at most one more, the last.
+/// What a session makes is the commands that its replies say are accepted, in their order and at these places; each other line is no
+/// command, or refused. Only where the sink failed or found no memory it is at most one more, that of the last line.
 pub fn sessions_make_what_is_accepted<D: Disk, O: Outlet, S: Source, K: Sink>()
     ensures { (signers : ℕ) (old new : Streams S K) (end : SessionEnd) (begun ended : SessionState)
-        (is : Converses O D.Disk signers S.Source K.Sink old new end begun ended) → SessionMakes is.given is.written begun.pass.seats ended.pass.seats }
+        (is : Converses O D.Disk signers S.Source K.Sink old new end begun ended) → SessionMakes end is.given is.written begun.pass.seats ended.pass.seats }
 {}

@@ -3,6 +3,7 @@ use Rattle.std.proofs.lemmas.List.{take_all, length_push, reverse-append}
 use Rattle.desk_core.specs.View.{View}
 use Rattle.manager.specs.Ended.{IsEndedDesk, AreLeftDesks}
 use Rattle.manager.specs.Risen.{AreRisenDesks}
+use Rattle.manager.specs.Limits.{AreWithinLimit}
 use Rattle.manager.proofs.Seating.{popped}
 use Rattle.manager.proofs.Ending.{EndedFrom, ended_start, ended_all, ended_popped, word_popped, seat_popped}
 use Rattle.manager.proofs.locked_desks_ending.end_all.Goals as goal
@@ -18,6 +19,7 @@ loop-init g c = (
   ended_start c.args.seats.items c.args.into.now.items c.requires.empty,
   subst (λ (l : List (View _)). AreRisenDesks g.D.Disk g.N.Names.named (reverse l)) (sym c.requires.empty) tt,
   subst (λ (l : List (View _)). AreLeftDesks (length g.N.Names.named.signers) (reverse l)) (sym c.requires.empty) tt,
+  subst (λ (l : List (View _)). AreWithinLimit g.N.Names.named (reverse l)) (sym c.requires.empty) tt,
 )
 
 pub end-desk-requires-clause-word : goal.end-desk-requires-clause-word
@@ -56,6 +58,8 @@ loop-preserved g c =
           (c.end-desk.ensures.faults, c.loop.invariant.7),
       subst (λ (l : List (View _)). AreLeftDesks (length g.N.Names.named.signers) l) (sym (ap reverse c.push_reserved.ensures.items ∙ reverse-append c.loop.into.items (c.end-desk.result ∷ [])))
           (c.end-desk.ensures.left, c.loop.invariant.8),
+      subst (λ (l : List (View _)). AreWithinLimit g.N.Names.named l) (sym (ap reverse c.push_reserved.ensures.items ∙ reverse-append c.loop.into.items (c.end-desk.result ∷ [])))
+          (c.end-desk.ensures.limit, c.loop.invariant.9),
     )
 
 pub returns-clause-faults : goal.returns-clause-faults
@@ -63,6 +67,9 @@ returns-clause-faults g c = c.loop.invariant.7
 
 pub returns-clause-left : goal.returns-clause-left
 returns-clause-left g c = c.loop.invariant.8
+
+pub returns-clause-limits : goal.returns-clause-limits
+returns-clause-limits g c = c.loop.invariant.9
 
 pub returns-clause-ended : goal.returns-clause-ended
 returns-clause-ended g c =

@@ -2,6 +2,7 @@ use Rattle.std.proofs.Common.{◌≡◌, ◌+◌, length, take, reverse}
 use Rattle.std.specs.Vec.{vec_capacity}
 use Rattle.manager.specs.Ended.{AreLeftDesks}
 use Rattle.manager.specs.Risen.{AreRisenDesks}
+use Rattle.manager.specs.Limits.{AreWithinLimit}
 use Rattle.manager.proofs.Ending.{EndedFrom}
 use Rattle.manager.proofs.locked_desks_ending.end_all.Given as goal
 
@@ -13,3 +14,4 @@ invariant-loop g l =
     × EndedFrom (length l.seats.items) l.fn.seats.items (reverse l.into.items)
     × AreRisenDesks g.D.Disk g.N.Names.named (reverse l.into.items)
     × AreLeftDesks (length g.N.Names.named.signers) (reverse l.into.items)
+    × AreWithinLimit g.N.Names.named (reverse l.into.items)

@@ -1,5 +1,5 @@
 use Rattle.std.specs.Prelude.{None}
-use Rattle.std.proofs.Common.{◌≡◌, ◌∙◌, ◌++◌, ◌∷◌, [], ℕ, List, length, map, ap, sym, subst, arith}
+use Rattle.std.proofs.Common.{◌≡◌, ◌∙◌, ◌++◌, ◌∷◌, [], ℕ, List, length, map, get_or, ap, sym, subst, arith, inl}
 use Rattle.std.specs.Vec.Iter.{into_iter_items}
 use Rattle.std.proofs.lemmas.List.{nil_from_length, length_push}
 use Rattle.atomic_table.specs.Seated.{TableId}
@@ -7,6 +7,7 @@ use Rattle.desk_core.specs.Counted.{CountedView}
 use Rattle.manager.specs.Starting.{AreOpenedDesks, first_seat}
 use Rattle.manager.specs.Ready.{desk_in}
 use Rattle.manager.specs.Risen.{IsRisenDesk, AreRisenDesks}
+use Rattle.manager.specs.Limits.{IsWithinLimit}
 use Rattle.manager.proofs.Starting.{moved, moved_all}
 use Rattle.manager.proofs.locked_desks_starting.put_all.Goals as goal
 
@@ -19,6 +20,13 @@ pub put-requires-clause-is_open : goal.put-requires-clause-is_open
 put-requires-clause-is_open g c =
     let here = subst (λ (l : List (CountedView _)). AreOpenedDesks g.N.Names.words g.N.Names.named (length c.loop-desk.parts.words.items) l) c.in-Some.ensures.steps.0 c.loop-desk.invariant.desks in
     subst (λ (d : CountedView _). d.desk.shut ≡ None) (sym c.into_parts-counted.ensures.desk) here.0.is_open
+
+-- it has the records that were found
+pub put-requires-clause-limit : goal.put-requires-clause-limit
+put-requires-clause-limit g c =
+    let here = subst (λ (l : List (CountedView _)). AreOpenedDesks g.N.Names.words g.N.Names.named (length c.loop-desk.parts.words.items) l) c.in-Some.ensures.steps.0 c.loop-desk.invariant.desks in
+    subst (λ (d : CountedView _). IsWithinLimit g.N.Names.named d.desk) (sym c.into_parts-counted.ensures.desk)
+    (inl (here.0.found ∙ ap (λ (n : ℕ). get_or g.N.Names.named.records n []) (sym here.0.number_is)))
 
 pub loop-desk-preserved : goal.loop-desk-preserved
 loop-desk-preserved g c =

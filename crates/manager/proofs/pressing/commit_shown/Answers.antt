@@ -1,7 +1,11 @@
 use Rattle.std.proofs.Common.{◌∙◌, Some, sym, ap}
+use Rattle.std.specs.Prelude.{IsSome}
+use Rattle.gate_journal.specs.Format.{held_for}
+use Rattle.gate_journal.specs.Storing.{stored, entry_bytes}
 use Rattle.editions.specs.PublishedState.{PublishedStateValue}
 use Rattle.editions.specs.Sheets.{sheet_of}
 use Rattle.manager.proofs.Readying.{committed_of, shown_then}
+use Rattle.manager.proofs.Rooms.{told_before}
 use Rattle.manager.proofs.pressing.commit_shown.Goals as goal
 
 pub show_last-requires-clause-ready : goal.show_last-requires-clause-ready
@@ -18,6 +22,9 @@ returns-clause-committed g c =
       last_export = c.commit.ensures.last_export;
       files = c.in-Ok.ensures.files;
       records = c.in-Ok.ensures.records;
+      known = told_before c.commit.new.self.journal.records (g.D.Disk.content c.commit.new.self.journal.disk) (g.D.Disk.content c.args.press.now.journal.disk)
+          (stored (held_for c.args.press.now.journal.sizes) (entry_bytes c.args.prepared.entry)) (IsSome c.args.press.now.journal.records)
+          c.commit.ensures.safe.told c.in-Ok.ensures.bytes c.press.ensures.safe.known;
       is_open = c.in-Ok.ensures.open;
       limit = c.commit.ensures.limit;
       later = c.commit.ensures.later;

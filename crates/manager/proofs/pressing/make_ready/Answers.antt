@@ -16,6 +16,7 @@ returns-in_default-clause-refused g c =
       held = c.prepare.ensures.keys;
       same = c.prepare.ensures.kept;
       journal = c.prepare.ensures.journal;
+      sizes = c.press.ensures.sizes;
       can = c.in_ok-prepared.ensures.ready;
     })
 
@@ -27,5 +28,6 @@ returns-then-is_err-clause-refused g c =
       held = c.prepare.ensures.keys;
       same = c.prepare.ensures.kept;
       journal = c.prepare.ensures.journal;
+      sizes = c.press.ensures.sizes;
       can = c.in_ok-prepared.ensures.ready;
     })

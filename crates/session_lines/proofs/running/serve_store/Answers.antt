@@ -19,6 +19,7 @@ returns-clause-run g c =
       shared = subst (λ (p : PassValue). AreShared (p ∷ left) c.close_all-store.new.into.items) c.serve_passes-passes.ensures.rest c.close_all-store.ensures.shared;
       kept = c.close_all-store.ensures.left;
       faults = c.close_all-store.ensures.faults;
+      limits = c.close_all-store.ensures.limits;
       viewed = ended.0;
       seen = subst (λ (p : PassValue). (number : ℕ) → IsPrefix (pass_at (p ∷ left) number).shown ended.0) c.serve_passes-passes.ensures.rest ended.1;
       ends = ended.2;

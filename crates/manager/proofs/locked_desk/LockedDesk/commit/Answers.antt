@@ -10,7 +10,8 @@ use Rattle.manager.specs.Risen.{IsRisen}
 use Rattle.manager.proofs.Doubted.{doubted_none, doubted_refused}
 use Rattle.manager.proofs.Knowing.{more_seen}
 use Rattle.manager.proofs.Risen.{risen_open, risen_refused}
-use Rattle.manager.proofs.Taking.{taken_is, taken_listed, taken_from, refused_is, refused_listed, refused_from}
+use Rattle.manager.proofs.Limits.{limit_taken, limit_same}
+use Rattle.manager.proofs.Taking.{taken_is, taken_listed, taken_from, refused_same, refused_is, refused_listed, refused_from}
 use Rattle.manager.proofs.locked_desk.LockedDesk.commit.Goals as goal
 
 pub returns-clause-taken : goal.returns-clause-taken
@@ -92,6 +93,8 @@ invariant_of-self g c = (
       (risen_refused g.D.Disk (get_or g.N.Names.named.faults.desks c.self.inside.desk.desk.number 0) c.self.inside.desk.desk c.commit.new.self.desk c.self.invariant.2
       c.in-Err.fault c.args.command c.args.signers c.in-Err.ensures.refused c.commit.ensures.later),
   doubted_refused g.D.Disk c.args.command c.args.signers c.self.inside.desk.desk c.commit.new.self.desk c.self.invariant.3 c.in-Err.fault c.in-Err.ensures.refused,
+  limit_same g.N.Names.named c.self.inside.desk.desk c.commit.new.self.desk
+      (refused_same g.D.Disk c.in-Err.fault c.args.command c.args.signers c.self.inside.desk.desk c.commit.new.self.desk c.in-Err.ensures.refused).0 c.commit.ensures.number c.self.invariant.4,
 )
 
 pub invariant_of-self-2 : goal.invariant_of-self-2
@@ -101,4 +104,5 @@ invariant_of-self-2 g c = (
   subst (λ (n : ℕ). IsRisen g.D.Disk (get_or g.N.Names.named.faults.desks n 0) c.commit.new.self.desk.disk c.commit.new.self.desk.shut) (sym c.commit.ensures.number)
       (risen_open g.D.Disk (get_or g.N.Names.named.faults.desks c.self.inside.desk.desk.number 0) c.self.inside.desk.desk c.commit.new.self.desk c.self.invariant.2 c.in-Ok.ensures.open.0 c.commit.ensures.later),
   doubted_none c.commit.new.self.desk c.in-Ok.ensures.open.0 c.in-Ok.ensures.open.1,
+  limit_taken g.N.Names.named c.self.inside.desk.desk c.commit.new.self.desk c.args.command c.in-Ok.ensures.place.fits c.in-Ok.ensures.recorded,
 )

@@ -125,7 +125,7 @@ invariant_of-self-2 g c =
     let groups = c.args.gathered.items in
     let since : Since g.N.Names.named inside.press inside.followers groups = since_inside g.N.Names.named groups _ _ c.self.view_is c.requires in (
       pressed_locked g.O.Outlet g.N.Names.named inside.press inside.followers inside.board inside.outlet c.self.invariant.0 c.args.now groups c.vouching_signers_vouch_for_editions.ensures since c.make_ready.new.press c.make_ready.new.board c.in-Ok.prepared c.in-Ok.ensures.ready c.in-Ok.ensures.board
-          c.more_editions_stay_shown.ensures.coherent c.more_editions_stay_shown.ensures.shown g.D.Disk c.in-Ok-commit_shown.told c.commit_shown.new.press c.commit_shown.new.board c.in-Ok-commit_shown.ensures.committed c.in-Ok-commit_shown.ensures.shown,
+          c.more_editions_stay_shown.ensures.coherent c.more_editions_stay_shown.ensures.shown c.edition_records_go_on.ensures g.D.Disk c.in-Ok-commit_shown.told c.commit_shown.new.press c.commit_shown.new.board c.in-Ok-commit_shown.ensures.committed c.in-Ok-commit_shown.ensures.shown,
       press_committed g.D.Disk g.O.Outlet g.N.Names.named c.make_ready.new.press.journal c.commit_shown.new.press.journal inside.outlet (press_asked g.D.Disk g.O.Outlet g.N.Names.named inside.press.journal c.make_ready.new.press.journal inside.outlet c.self.invariant.1 c.in-Ok.ensures.ready.journal)
           c.in-Ok-commit_shown.ensures.committed.is_open c.in-Ok-commit_shown.ensures.committed.later,
     )

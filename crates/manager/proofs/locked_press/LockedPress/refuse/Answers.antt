@@ -1,7 +1,7 @@
 use Rattle.std.proofs.Common.{◌∙◌, sym}
 use Rattle.std.specs.Prelude.{is_some}
 use Rattle.manager.specs.Answers.{nothing_behind, is_exported}
-use Rattle.manager.proofs.Refused.{known_last, none_left, to_repeat, not_exported}
+use Rattle.manager.proofs.Refused.{known_last, behind_last, none_left, to_repeat, not_exported}
 use Rattle.manager.proofs.locked_press.LockedPress.refuse.Goals as goal
 
 -- ---- nothing is exported
@@ -32,7 +32,8 @@ pub returns-clause-refused : goal.returns-clause-refused
 returns-clause-refused g c =
     let press = c.args.self.now.press.press in
     let repeat = sym c.is_to_repeat.ensures ∙ c.if-not-is_to_repeat.false in (
-      (to_repeat (is_some (nothing_behind c.args.fault)) (is_exported press.last_export press.at.serial) repeat).0,
+      behind_last c.args.self.now.seats c.args.self.now.board.shown (nothing_behind c.args.fault) (is_exported press.last_export press.at.serial) c.serial-serial.result
+          c.requires repeat c.serial-serial.ensures,
       known_last c.args.self.now.seats c.args.self.now.board.shown (nothing_behind c.args.fault) (is_exported press.last_export press.at.serial) c.serial-serial.result
           c.requires repeat c.serial-serial.ensures,
     )

@@ -19,6 +19,9 @@ returns-clause-ended g c =
 pub returns-clause-faults : goal.returns-clause-faults
 returns-clause-faults g c = c.close.ensures.faults
 
+pub returns-clause-limits : goal.returns-clause-limits
+returns-clause-limits g c = c.close.ensures.limits
+
 pub returns-clause-left : goal.returns-clause-left
 returns-clause-left g c = c.close.ensures.left
 
