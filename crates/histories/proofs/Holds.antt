@@ -3,7 +3,7 @@ use Rattle.std.proofs.Common.{◌≡◌, ◌≢◌, ℕ, ◌+◌, ◌<◌, ◌�
 use Rattle.std.specs.Prelude.{Option, IfSome, slice_get}
 use Rattle.std.specs.List.{All}
 use Rattle.std.proofs.lemmas.List.{length-take-le, take_all, take-take, take-append-drop}
-use Rattle.std.proofs.lemmas.Option.{none-some, slice_get_within}
+use Rattle.std.proofs.lemmas.Option.{none-some, slice_get_within, slice_get-get_or}
 use Rattle.names.specs.Name.{IsName}
 use Rattle.authority_book.specs.declared.commands.Command.{Command}
 use Rattle.entitle.specs.Certified.{names_of}
@@ -19,7 +19,7 @@ use Rattle.press_core.specs.JournalRecords.{press_limit}
 use Rattle.histories.specs.Devices.{Device, Signature, Store, lists_of, doubt_at, new_store}
 use Rattle.histories.specs.Events.{Happening, History, after_all, signing}
 use Rattle.histories.specs.Events.Event.{Reopen}
-use Rattle.histories.specs.Legal.{IsNextCommand, FollowsTheOthers, InTurn, ground_of, IsFound, MayReopen, IsLegal, bytes_for, most_bytes, press_bytes_for}
+use Rattle.histories.specs.Legal.{IsNextCommand, FollowsTheOthers, InTurn, ground_of, IsFound, IsOfBytes, MayReopen, IsLegal, bytes_for, most_bytes, press_bytes_for}
 use Rattle.histories.specs.Acknowledged.{acknowledged, commands_of, editions_of, ground_after}
 use Rattle.histories.specs.Found.{store_after, latest, TakesIn, AreFoundAfter}
 use Rattle.histories.specs.Published.{HasEdition, set_of, applied}
@@ -126,6 +126,9 @@ module _ (stay : Stay) (site : Bases) (history : History) (legal : IsLegal site 
 
   pub press_limits : editions_of history ≢ [] → press_bytes_for site (editions_of history) ≤ press_limit
   press_limits some = press_within (ground_after site history) (editions_of history) turned some
+
+  pub of_bytes : All (λ (e : Edition). All IsOfBytes e.changes) (editions_of history)
+  of_bytes place d below = (turned place (get_or (editions_of history) place d) (slice_get-get_or (editions_of history) place d below)).held
 
   pub some_desk : 0 < length (acknowledged history).commands
   some_desk =

@@ -5,6 +5,7 @@ mod Told
 mod Sets
 mod Trees
 mod Holds
+mod Sizes
 mod Texts
 mod Shown
 mod Shut
@@ -13,3 +14,4 @@ mod GoesOn
 mod Worked
 mod Crls
 mod Broken
+mod Working

@@ -65,7 +65,7 @@ same_vouched store (PressFault edition) = refl
 same_vouched store (Stop commands edition) = refl
 same_vouched store (Reopen lists editions) = refl
 
-vouched_through : (store : Store) (history : History) → (after_all store history).vouched ≡ store.vouched ++ signatures_of history
+pub vouched_through : (store : Store) (history : History) → (after_all store history).vouched ≡ store.vouched ++ signatures_of history
 vouched_through store [] = sym (append-nil store.vouched)
 vouched_through store (h ∷ rest) = vouched_through (after_one store h) rest
     ∙ (ap (λ (v : List Signature). v ++ signatures_of rest) (same_vouched (signing store h.signed) h.event)

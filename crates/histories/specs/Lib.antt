@@ -6,3 +6,4 @@ pub mod Found
 pub mod Published
 pub mod Refused
 pub mod Worked
+pub mod Work

@@ -1,7 +1,8 @@
 //! The theorem.
 
-ghost use Rattle.std.specs.Prelude.{◌≡◌, ◌≢◌, ℕ, ◌+◌, ◌<◌, ◌≤◌, ◌++◌, ◌∷◌, [], List, Bool, false, true, Option, None, Some, IfSome, Ok, drop, get_or, length, slice_get, take};
+ghost use Rattle.std.specs.Prelude.{◌≡◌, ◌≢◌, ℕ, ◌+◌, ◌<◌, ◌≤◌, ◌++◌, ◌∷◌, [], All, List, Bool, false, true, Option, None, Some, IfSome, Ok, drop, get_or, length, slice_get, take};
 ghost use Rattle.authority_book.specs.declared.commands.Command.{Command};
+ghost use Rattle.gate_journal.specs.Format.{held_by};
 ghost use Rattle.key_ids.specs.Base.{IsBase, rsync_scheme};
 ghost use Rattle.key_ids.specs.Uris.{Bases};
 ghost use Rattle.signer_api.specs.State.{SignerState};
@@ -17,14 +18,15 @@ ghost use Rattle.editions.specs.Held.{HaveOwnSerials};
 ghost use Rattle.editions.specs.PlannedAndMade.{IsPlannedAndMade};
 ghost use Rattle.editions.specs.Published.{IsPublished, ManifestsRise};
 ghost use Rattle.editions.specs.Step.{AreMore, AreSteps, BeginsWith};
-ghost use Rattle.histories.specs.Devices.{Device, Signature, doubt_at, for_desk, new_store};
+ghost use Rattle.histories.specs.Devices.{Device, Signature, are_vouched, doubt_at, for_desk, new_store};
 ghost use Rattle.histories.specs.Events.{Event, History, signing};
 ghost use Rattle.histories.specs.Events.Event.{Commit, Publish, DeskFault, PressFault, Stop, Reopen};
-ghost use Rattle.histories.specs.Legal.{CanBeWritten, IsLegal, IsNextCommand, InTurn, MayBePublished, bytes_for, ground_of, most_bytes, press_bytes_for};
-ghost use Rattle.press_core.specs.JournalRecords.{press_limit};
-ghost use Rattle.histories.specs.Acknowledged.{acknowledged, commands_of, editions_of, ground_after};
+ghost use Rattle.histories.specs.Legal.{CanBeWritten, IsLegal, IsNextCommand, IsOfBytes, InTurn, MayBePublished, bytes_for, ground_of, most_bytes, press_bytes_for};
+ghost use Rattle.press_core.specs.JournalRecords.{AreRecords, press_limit, store_for};
+ghost use Rattle.histories.specs.Acknowledged.{acknowledged, commands_of, editions_of, ground_after, signatures_of};
 ghost use Rattle.histories.specs.Found.{AreFoundAfter, TakesIn, latest, reopening_by, store_after};
 ghost use Rattle.histories.specs.Refused.{IsReopening, AreNoReopenings};
+ghost use Rattle.histories.specs.Work.{Work, IsWork, GoesOnAs};
 ghost use Rattle.histories.specs.Worked.{worked, with_edition, with_doubted_edition};
 ghost use Rattle.editions.specs.Superseded.{ListsSuperseded};
 ghost use Rattle.histories.specs.Published.{HasEdition, HasSnapshot, HasDelta, set_of, applied};
@@ -290,6 +292,28 @@ pub fn legal_histories_go_on()
 {
     steps_stay_steps();
     what_is_planned_and_made_follows();
+}
+
+/// Behind a legal history, what a reopening found and what was done then is a legal history too: commands in their turns
+/// at each desk, editions in theirs over all of these, and at each journal the record in doubt, with no signature but
+/// those that were made. Which came first isn't asked.
+pub fn what_was_done_goes_on()
+    ensures { (site : Bases) (history : History) (signed : List Signature) (work : Work)
+        → IsLegal site history → AreFoundAfter history work.found.commands work.found.editions
+        → IsWork site (are_vouched (signatures_of history ++ signed)) work → GoesOnAs site history signed work }
+{
+    steps_stay_steps();
+}
+
+/// What the editions of a legal history put is bytes; and the records of a press's journal take as many bytes as are counted
+/// for its editions, whichever session its files have.
+pub fn what_a_press_holds()
+    ensures bytes { (site : Bases) (history : History) → IsLegal site history
+        → All (λ edition. All IsOfBytes edition.changes) (editions_of history) }
+    ensures records { (session : List ℕ) (site : Bases) (editions : List Edition) (records : List (List ℕ))
+        → AreRecords (store_for session site) editions records → held_by records ≡ press_bytes_for site editions }
+{
+    steps_stay_steps();
 }
 
 /// There are such histories.
