@@ -1,5 +1,5 @@
 -- Where a run ended well its last edition is exported.
-use Rattle.std.proofs.Common.{◌≡◌, ◌≢◌, ℕ, ◌==◌, ◌||◌, Bool, true, false, not, [], length, refl, sym, ◌∙◌, ap, arith, inl, inr}
+use Rattle.std.proofs.Common.{◌≡◌, ◌≢◌, ℕ, ◌==◌, ◌||◌, Bool, true, false, not, [], length, refl, sym, ◌∙◌, ap, subst, arith, inl, inr}
 use Rattle.std.specs.Prelude.{◌⊎◌, Result, Ok, Err}
 use Rattle.std.proofs.lemmas.Bool.{eq-eqb, eqb-true}
 use Rattle.std.proofs.lemmas.List.{nil_from_length}
@@ -21,7 +21,7 @@ or_second : (a b : Bool) → b ≡ true → (a || b) ≡ true
 or_second true b is = refl
 or_second false b is = is
 
-done_exported : (serial : ℕ) → is_exported_at (Done serial) serial ≡ true
+pub done_exported : (serial : ℕ) → is_exported_at (Done serial) serial ≡ true
 done_exported serial = or_second (serial == 0) (serial == serial) (eq-eqb serial serial refl)
 
 -- Where the last export failed the status is another one.
@@ -82,3 +82,10 @@ coherent_begun outlet_of instance opened begun stands unexported repeats some = 
   | inl none ↦ absurd (some none)
   | inr shown ↦ shown_coherent begun shown
 ]
+
+-- an export that is repeated changes what is exported alone
+pub repeats_same : {O : Type 0} (result : Result Bool (ExportFault O)) (before after : InstanceState) → Repeats result before after
+    → after ≡ record before { exported = after.exported; outlet = after.outlet }
+repeats_same (Ok true) before after step = step.1.exports.same
+repeats_same (Ok false) before after step = subst (λ (a : InstanceState). a ≡ record before { exported = a.exported; outlet = a.outlet }) (sym step.1) refl
+repeats_same (Err fault) before after step = step.1.exports.same

@@ -24,7 +24,9 @@ use Rattle.press_core.specs.declared.last_export.LastExport.{LastExport}
 use Rattle.press_core.specs.declared.last_export.LastExport.TheVariants.{NoExport, Failed, Done}
 use Rattle.krill_top.specs.InstanceState.{InstanceState, OutletState, outlet_state, lists_of, last_serial, is_of, is_exported, repository_in, IsCoherentIn, ShowsLastIn}
 use Rattle.krill_top.specs.Exports.{Exports, ExportsOrStops, stop_of}
-use Rattle.krill_top.specs.inner.Instances.{InstanceValue, IsInState, Arrives, Moves}
+use Rattle.krill_top.specs.inner.Instances.{InstanceValue, IsInState, Arrives, Moves, stored_in}
+use Rattle.manager.specs.Pressing.{exported_as}
+use Rattle.manager.specs.Ready.{ShowsItsLast}
 use Rattle.krill_top.proofs.Standing.{go_on_same}
 use Rattle.krill_top.proofs.PressStanding.{press_kept, grow_same}
 use Rattle.krill_top.proofs.Vouching.{keeps_same}
@@ -47,16 +49,16 @@ shows_newest session site editions serial (Some files) is shown = record {
   shown = subst (λ (e : List Edition). ShowsEdition session site e files) (sym (ap (λ (n : ℕ). take n editions) is ∙ take-length editions)) shown;
 }
 
-newest_shown : NewestLaw → (session : List ℕ) (site : Bases) (editions : List Edition) (files : Option Files) → ShowsLast (ShowsEdition session site) editions (Done (length editions)) files
+pub newest_shown : NewestLaw → (session : List ℕ) (site : Bases) (editions : List Edition) (files : Option Files) → ShowsLast (ShowsEdition session site) editions (Done (length editions)) files
     → IfSome files (ShowsEdition session site editions)
 newest_shown law session site editions None shows = tt
 newest_shown law session site editions (Some files) shows = law session site editions files shows
 
-or_parts : (a b : Bool) → (a || b) ≡ true → (a ≡ true) ⊎ (b ≡ true)
+pub or_parts : (a b : Bool) → (a || b) ≡ true → (a ≡ true) ⊎ (b ≡ true)
 or_parts true b is = inl refl
 or_parts false b is = inr is
 
-export_serial : (last : LastExport) (serial : ℕ) → is_of last serial ≡ true → last ≡ Done serial
+pub export_serial : (last : LastExport) (serial : ℕ) → is_of last serial ≡ true → last ≡ Done serial
 export_serial NoExport serial is = absurd (cc)
 export_serial Failed serial is = absurd (cc)
 export_serial (Done exported) serial is = ap Done (eqb-true exported serial is)
@@ -198,3 +200,14 @@ module _ {D O : Type 0} (disk_of : DiskGhosts D) (outlet_of : OutletGhosts O) wh
             (subst (λ (l : LastExport). ShowsLast (ShowsEdition state.session state.site) state.editions l state.outlet.files)
             (export_serial state.exported (last_serial state) done ∙ ap Done long) stands.shows))
       ]
+
+  -- whichever editions left what stands, the outlet shows the last one once it was exported
+  pub shows_itself : {T : Type 0} → FilesLaw → (old : InstanceValue D O) (result : Result T (ExportFault O)) (new : O) → IsExportOf result old.press (outlet_state outlet_of old.outlet) (outlet_state outlet_of new)
+      → ShowsItsLast outlet_of (stored_in old) old.outlet → ShowsItsLast outlet_of (exported_as (ended_by result old.press.at.serial) (stored_in old)) new
+  shows_itself files_law old (Ok done) new is was = λ lists editions count left files.
+      let session = old.press.rrdp.session in
+      let site = old.press.site in
+      let has : HasFilesOf editions old.press = record { kept = files.kept; set = files.set } in
+      shows_newest session site editions old.press.at.serial (outlet_of.files new) count
+      (is.shown lists editions left has (files_law session site editions old.press.last_export (outlet_of.files old.outlet) (was lists editions count left has)))
+  shows_itself files_law old (Err fault) new is was = λ lists editions count left files. tt

@@ -1,5 +1,5 @@
 -- The lists of the desks' commands, in their places.
-use Rattle.std.proofs.Common.{◌≡◌, ℕ, zero, suc, ◌+◌, ◌<◌, List, [], ◌∷◌, ◌++◌, length, take, drop, get_or, refl, sym, ◌∙◌, ap, arith}
+use Rattle.std.proofs.Common.{◌≡◌, ℕ, zero, suc, ◌+◌, ◌<◌, List, [], ◌∷◌, ◌++◌, length, take, drop, get_or, refl, sym, ◌∙◌, ap, subst, arith}
 use Rattle.std.specs.Prelude.{⊤, Option, None, Some, slice_get}
 use Rattle.std.proofs.lemmas.Option.{none-some, same_Some}
 use Rattle.std.proofs.lemmas.List.{take_all}
@@ -38,6 +38,12 @@ in_both number (Some desk) (Some state) is = tt
 
 pub as_many : {D : Type 0} (desks : List (View D)) (desk_states : DeskStates) → AreIn desks desk_states → length desks ≡ length desk_states
 as_many desks desk_states all = same_length desks desk_states (λ k. in_both k (slice_get desks k) (slice_get desk_states k) (all k))
+
+-- counted from the first on
+pub from_first : {D : Type 0} (desks : List (View D)) (desk_states : DeskStates) → AreIn desks desk_states → (k : ℕ) → InAt (0 + k) (slice_get desks k) (slice_get desk_states k)
+from_first desks desk_states all k =
+    let same : k ≡ 0 + k = omega arith in
+    subst (λ (n : ℕ). InAt n (slice_get desks k) (slice_get desk_states k)) same (all k)
 
 -- ---- the list of a desk
 

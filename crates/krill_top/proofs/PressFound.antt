@@ -157,10 +157,13 @@ module _ {D : Type 0} (disk_of : DiskGhosts D) (given : Given) (old : D) (press 
     doubt = subst (λ (d : Option (List ℕ)). HasInDoubt press.press.at None d) (sym has_editions.settled) tt;
   }
 
+  pub opened_long : (desks : List (View D)) → AreIn desks given.found → length desks ≡ most_desks → length (lists_of given.found) ≡ most_desks
+  opened_long desks all one_each = lists_long given.found ∙ sym (as_many desks given.found all) ∙ one_each
+
   -- the instance over it is in that state
   module _ {O : Type 0} (outlet_of : OutletGhosts O) (desks : List (View D)) (signers : ℕ) (outlet : O) (all : AreIn desks given.found) (one_each : length desks ≡ most_desks) where
     long : length (lists_of given.found) ≡ most_desks
-    long = lists_long given.found ∙ sym (as_many desks given.found all) ∙ one_each
+    long = opened_long desks all one_each
 
     left_by : IsLeftBy (lists_of given.found) opened.editions press.press.at
     left_by = opened.behind.goes_on.left (lists_of given.found) opened.editions opened.left long opened.behind.of_desks

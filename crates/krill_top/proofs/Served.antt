@@ -1,6 +1,6 @@
 -- A run over all desks, from what opening found, what the session did, and what closing leaves.
 use Rattle.std.proofs.Common.{◌≡◌, ℕ, zero, suc, ◌+◌, ◌≤◌, List, [], ◌∷◌, map, refl, sym, ◌∙◌, ap, subst, arith}
-use Rattle.std.specs.Prelude.{Bool, true, Option, None, Some, Result, IfSome, slice_get, ⊤}
+use Rattle.std.specs.Prelude.{Bool, true, not, Option, None, Some, Result, Ok, IfSome, slice_get, ⊤}
 use Rattle.std.specs.Option.{option_map}
 use Rattle.std.proofs.lemmas.Option.{IfSome_then}
 use Rattle.host_calls.specs.Rise.{HasRisen}
@@ -14,7 +14,7 @@ use Rattle.authority_book.specs.declared.commands.Command.{Command}
 use Rattle.cmd_codec.specs.Spelling.{spelling}
 use Rattle.desk_core.specs.View.{View}
 use Rattle.desk_core.specs.Commands.{Records, HasCommands}
-use Rattle.krill_top.specs.declared.serving.SessionEnds.{SessionEnds}
+use Rattle.session_lines.specs.declared.running.SessionEnds.{SessionEnds}
 use Rattle.krill_top.specs.declared.running.RunEnd.{RunEnd}
 use Rattle.krill_top.specs.DeskStates.{DeskStates, DeskState}
 use Rattle.signer_api.specs.State.{SignerState}
@@ -22,7 +22,7 @@ use Rattle.krill_top.specs.declared.ends.Ends.{Ends}
 use Rattle.krill_top.specs.declared.starting.Started.{Started}
 use Rattle.key_ids.specs.Uris.{Bases}
 use Rattle.gate_journal.specs.View.{IsSafe as IsSafeJournal}
-use Rattle.krill_top.specs.InstanceState.{InstanceState, at_clock, outlet_state, is_exported}
+use Rattle.krill_top.specs.InstanceState.{InstanceState, at_clock, lists_of, outlet_state, is_exported}
 use Rattle.krill_top.specs.declared.faults.RunFault.{RunFault}
 use Rattle.krill_top.specs.declared.faults.RunFault.TheVariants as run_faults
 use Rattle.krill_top.specs.inner.Started.{IsStarted, IsStartedIn}
@@ -42,11 +42,15 @@ use Rattle.krill_top.specs.Telling.{Tells}
 use Rattle.krill_top.specs.Working.{Works, ended_by}
 use Rattle.krill_top.specs.Run.{IsNext, IsServed, IsServedAt, AreServed, Leaves, ServesOne, TellsOne, IsFirstHeld, FindsHeld, WorksOne, streams_of, worked_by}
 use Rattle.krill_top.specs.Summaries.{summary_line}
+use Rattle.krill_top.specs.SharedRuns.{ServesNone}
+use Rattle.session_lines.specs.Keeping.{nothing_kept}
 use Rattle.krill_top.proofs.Standing.{go_on_same}
 use Rattle.krill_top.proofs.Moving.{arrives_then}
 use Rattle.krill_top.proofs.WorkedWell.{begun_exported, works_exported}
 use Rattle.krill_top.proofs.Exporting.{NewestLaw, exported_shown}
-use Rattle.krill_top.proofs.Closing.{well_exported, started_shown, coherent_begun}
+use Rattle.krill_top.proofs.Closing.{well_exported, started_shown, coherent_begun, repeats_same}
+use Rattle.krill_top.proofs.Lists.{lists_long}
+use Rattle.krill_top.proofs.RunHistories.{HistoryLaws, run_served, goes_on}
 use Rattle.krill_top.proofs.InTurn.{opened_stood_for, closed_left}
 
 module _ {D : Type 0} (disk_of : DiskGhosts D) where
@@ -62,22 +66,22 @@ module _ {D : Type 0} (disk_of : DiskGhosts D) where
       opened_state number disk desk all.0 ∷ opened_states (suc number) disks desks all.1
 
   -- a desk was opened, and has the commands of the state
-  record OpenedAs (number : ℕ) (disk : D) (desk : View D) (state : DeskState) : Type 0 where
+  pub record OpenedAs (number : ℕ) (disk : D) (desk : View D) (state : DeskState) : Type 0 where
     pub opened : IsOpened disk_of number disk desk
     pub has : HasCommands desk state.commands
     pub is_open : state.doubt ≡ None
 
-  abbrev OpenedAt : ℕ → Option D → Option (View D) → Option DeskState → Type 0
+  abbrev pub OpenedAt : ℕ → Option D → Option (View D) → Option DeskState → Type 0
   OpenedAt number None None None = ⊤
   OpenedAt number (Some disk) (Some desk) (Some state) = OpenedAs number disk desk state
   OpenedAt number disk desk state = ⊥
 
-  abbrev ClosedAt : Option (View D) → Option D → Type 0
+  abbrev pub ClosedAt : Option (View D) → Option D → Type 0
   ClosedAt None None = ⊤
   ClosedAt (Some desk) (Some disk) = IsClosed disk_of desk disk
   ClosedAt desk disk = ⊥
 
-  opened_at : (number : ℕ) (disks : List D) (desks : List (View D)) (all : AreOpened disk_of number disks desks) (n at : ℕ) → at ≡ number + n
+  pub opened_at : (number : ℕ) (disks : List D) (desks : List (View D)) (all : AreOpened disk_of number disks desks) (n at : ℕ) → at ≡ number + n
       → OpenedAt at (slice_get disks n) (slice_get desks n) (slice_get (opened_states number disks desks all) n)
   opened_at number [] [] all n at is = tt
   opened_at number [] (desk ∷ desks) all n at is = absurd all
@@ -89,7 +93,7 @@ module _ {D : Type 0} (disk_of : DiskGhosts D) where
   }
   opened_at number (disk ∷ disks) (desk ∷ desks) all (suc n) at is = opened_at (suc number) disks desks all.1 n at (omega (arith, is))
 
-  closed_at : (desks : List (View D)) (disks : List D) → AreClosed disk_of desks disks → (n : ℕ) → ClosedAt (slice_get desks n) (slice_get disks n)
+  pub closed_at : (desks : List (View D)) (disks : List D) → AreClosed disk_of desks disks → (n : ℕ) → ClosedAt (slice_get desks n) (slice_get disks n)
   closed_at [] [] all n = tt
   closed_at [] (disk ∷ disks) all n = absurd all
   closed_at (desk ∷ desks) [] all n = absurd all
@@ -115,26 +119,28 @@ module _ {D : Type 0} (disk_of : DiskGhosts D) where
   served_one number disk desk new back was is opened goes stands closed =
       let back_count : disk_of.fault_count back ≡ disk_of.fault_count new.disk = ap disk_of.fault_count closed.same in
       record {
-        found = opened_stood_for disk_of number disk desk was.commands opened.opened opened.has;
-        is_open = opened.is_open;
-        accepted = goes.accepted;
-        grows = goes.commands;
-        recorded = subst (λ (n : ℕ). Records n (map spelling is.commands) is.commands) stands.number_is
-            (subst (λ (r : List (List ℕ)). Records new.number r is.commands) stands.commands.recorded.spelled stands.commands.recorded);
-        next = stands.next;
-        left = closed_left disk_of new back is.commands is.doubt closed stands.commands.recorded.spelled stands.doubt;
+        kept = record {
+          found = opened_stood_for disk_of number disk desk was.commands opened.opened opened.has;
+          is_open = opened.is_open;
+          accepted = goes.accepted;
+          grows = goes.commands;
+          recorded = subst (λ (n : ℕ). Records n (map spelling is.commands) is.commands) stands.number_is
+              (subst (λ (r : List (List ℕ)). Records new.number r is.commands) stands.commands.recorded.spelled stands.commands.recorded);
+          next = stands.next;
+          left = closed_left disk_of new back is.commands is.doubt closed stands.commands.recorded.spelled stands.doubt;
+          cause = λ shut.
+              let rose = goes.cause opened.is_open shut in
+              record {
+                from = rose.from;
+                to = rose.to;
+                begins = omega (arith, opened.opened.later, rose.begins);
+                risen = rose.risen;
+                ends = omega (arith, rose.ends, back_count);
+              };
+          later = omega (arith, opened.opened.later, goes.later, back_count);
+        };
         bytes = λ none. ap disk_of.content closed.same ∙ goes.bytes none
             ∙ ap (option_map (all_stored (map spelling was.commands) (map spelling goes.accepted))) opened.opened.bytes;
-        cause = λ shut.
-            let rose = goes.cause opened.is_open shut in
-            record {
-              from = rose.from;
-              to = rose.to;
-              begins = omega (arith, opened.opened.later, rose.begins);
-              risen = rose.risen;
-              ends = omega (arith, rose.ends, back_count);
-            };
-        later = omega (arith, opened.opened.later, goes.later, back_count);
       }
 
   served_at : (number : ℕ) (disk : Option D) (desk new : Option (View D)) (back : Option D) (was is : Option DeskState)
@@ -159,6 +165,12 @@ module _ {D : Type 0} (disk_of : DiskGhosts D) where
     opened_states 0 disks desks opened,
     λ n. in_at n (slice_get disks n) (slice_get desks n) (slice_get (opened_states 0 disks desks opened) n) (opened_at 0 disks desks opened n n (omega arith)),
   )
+
+  -- each of them is in its state
+  pub opened_seen_at : (disks : List D) (desks : List (View D)) (opened : AreOpened disk_of 0 disks desks) (n : ℕ)
+      → OpenedAt n (slice_get disks n) (slice_get desks n) (slice_get (opened_seen disks desks opened).0 n)
+  unfolding opened_seen
+  opened_seen_at disks desks opened n = opened_at 0 disks desks opened n n (omega arith)
 
   -- desks that were opened and closed again
   pub desks_closed_again : (disks : List D) (desks : List (View D)) (news : List D) (opened : AreOpened disk_of 0 disks desks) → AreClosed disk_of desks news
@@ -188,6 +200,14 @@ pub record IsRun {D G S K O C : Type 0} (disk_of : DiskGhosts D) (state_of : G �
   pub source_later : source_of.fault_count before.source ≤ source_of.fault_count after.source
   pub sink_later : sink_of.fault_count before.sink ≤ sink_of.fault_count after.sink
 
+-- what opening found is what the run begins with
+pub found_first : (opened begun : InstanceState) → opened.found.lists ≡ lists_of opened.desk_states → opened.found.editions ≡ opened.editions → begun ≡ record opened { exported = begun.exported; outlet = begun.outlet }
+    → (begun.found.lists ≡ lists_of begun.desk_states) × (begun.found.editions ≡ begun.editions)
+found_first opened begun lists editions same = (
+  ap (λ (s : InstanceState). s.found.lists) same ∙ lists ∙ ap (λ (s : InstanceState). lists_of s.desk_states) (sym same),
+  ap (λ (s : InstanceState). s.found.editions) same ∙ editions ∙ ap (λ (s : InstanceState). s.editions) (sym same),
+)
+
 module _ {D G S K O C : Type 0} (disk_of : DiskGhosts D) (state_of : G → SignerState) (outlet_of : OutletGhosts O) (source_of : SourceGhosts S) (sink_of : SinkGhosts K) (clock_of : ClockGhosts C) where
   -- the instance, and what the clock tells of a session
   abbrev pub timed_by : SessionEnds S K C → InstanceValue D O → TimedInstance D O
@@ -201,6 +221,23 @@ module _ {D G S K O C : Type 0} (disk_of : DiskGhosts D) (state_of : G → Signe
     pub signers : map state_of run.ends.signers.items ≡ closed.press.ring
     pub outlet : run.ends.outlet ≡ closed.outlet
 
+  -- the desks' disks of such a run
+  pub leaves_disks : (P : InstanceState → InstanceState → Type 0) (site : Bases) (random : List ℕ) (ends : Ends D G O) (run : RunEnd D G S K O C) (started : Started D G O) (closed : InstanceValue D O)
+      (begins : IsStarted disk_of state_of outlet_of site (session_of random) ends started) → (at : IsStartedIn disk_of state_of outlet_of site (session_of random) ends started (opened_seen disk_of ends.desks.items started.instance.desks begins.desks).0)
+      → (done : Arrives disk_of outlet_of P started.instance closed at.begun) → IsHandedBack run closed
+      → AreServed disk_of ends.desks.items run.ends.desks.items at.begun.desk_states done.after.desk_states
+  unfolding opened_seen
+  leaves_disks P site random ends run started closed begins at done is =
+      let disks = ends.desks.items in
+      let instance : InstanceValue D O = started.instance in
+      let found = opened_seen disk_of disks instance.desks begins.desks in
+      let ended : InstanceState = done.after in
+      subst (λ (b : DeskStates). AreServed disk_of disks run.ends.desks.items b ended.desk_states) (sym at.same)
+      (λ n. served_at disk_of n (slice_get disks n) (slice_get instance.desks n) (slice_get closed.desks n) (slice_get run.ends.desks.items n) (slice_get found.0 n) (slice_get ended.desk_states n)
+      (opened_at disk_of 0 disks instance.desks begins.desks n n (omega arith))
+      (subst (λ (b : DeskStates). DesksGoOn disk_of instance.desks closed.desks b ended.desk_states) at.same done.disks n)
+      (done.stands.desks n) (closed_at disk_of closed.desks run.ends.desks.items is.desks n))
+
   -- what a run leaves that began so and went on so
   pub leaves : NewestLaw → RecordsLaw → (P : InstanceState → InstanceState → Type 0) (site : Bases) (random : List ℕ) (ends : Ends D G O) (run : RunEnd D G S K O C) (started : Started D G O) (closed : InstanceValue D O)
       (begins : IsStarted disk_of state_of outlet_of site (session_of random) ends started) → (at : IsStartedIn disk_of state_of outlet_of site (session_of random) ends started (opened_seen disk_of ends.desks.items started.instance.desks begins.desks).0)
@@ -208,17 +245,10 @@ module _ {D G S K O C : Type 0} (disk_of : DiskGhosts D) (state_of : G → Signe
       → Leaves disk_of state_of outlet_of random ends at.opened at.begun done.after run
   unfolding opened_seen
   leaves law records P site random ends run started closed begins at done is exported =
-      let disks = ends.desks.items in
       let instance : InstanceValue D O = started.instance in
-      let found = opened_seen disk_of disks instance.desks begins.desks in
       let begun : InstanceState = at.begun in
       let ended : InstanceState = done.after in
       record {
-        disks = subst (λ (b : DeskStates). AreServed disk_of disks run.ends.desks.items b ended.desk_states) (sym at.same)
-            (λ n. served_at disk_of n (slice_get disks n) (slice_get instance.desks n) (slice_get closed.desks n) (slice_get run.ends.desks.items n) (slice_get found.0 n) (slice_get ended.desk_states n)
-            (opened_at disk_of 0 disks instance.desks begins.desks n n (omega arith))
-            (subst (λ (b : DeskStates). DesksGoOn disk_of instance.desks closed.desks b ended.desk_states) at.same done.disks n)
-            (done.stands.desks n) (closed_at disk_of closed.desks run.ends.desks.items is.desks n));
         press = press_served disk_of outlet_of records (session_of random) ends.press instance.journal.disk run.ends.press closed begun ended at.press done.press done.stands is.safe is.press;
         same_site = done.same_site;
         same_session = done.same_session;
@@ -235,7 +265,7 @@ module _ {D G S K O C : Type 0} (disk_of : DiskGhosts D) (state_of : G → Signe
         well = λ zero. exported_shown disk_of outlet_of law closed ended done.stands (exported zero);
       }
 
-  pub serves : NewestLaw → RecordsLaw → (site : Bases) (random : List ℕ) (ends : Ends D G O) (before after : SessionEnds S K C) (end : SessionEnd) (closing : Result Bool (ExportFault O))
+  pub serves : NewestLaw → RecordsLaw → HistoryLaws → (site : Bases) (random : List ℕ) (ends : Ends D G O) (before after : SessionEnds S K C) (end : SessionEnd) (closing : Result Bool (ExportFault O))
       (run : RunEnd D G S K O C) (started : Started D G O) (served closed : InstanceValue D O)
       → IsStarted disk_of state_of outlet_of site (session_of random) ends started
       → Served disk_of outlet_of source_of sink_of (streams_of before) (streams_of after) (timed_by before started.instance) (timed_by after served) end
@@ -243,7 +273,7 @@ module _ {D G S K O C : Type 0} (disk_of : DiskGhosts D) (state_of : G → Signe
       → IsRun disk_of state_of outlet_of source_of sink_of before after end closing run closed
       → ServesOne disk_of state_of outlet_of source_of sink_of clock_of site random ends before run
   unfolding opened_seen arrives_then
-  serves law records site random ends before after end closing run started served closed begins session repeats is =
+  serves law records histories site random ends before after end closing run started served closed begins session repeats is =
       let disks = ends.desks.items in
       let instance : InstanceValue D O = started.instance in
       let found = opened_seen disk_of disks instance.desks begins.desks in
@@ -254,6 +284,9 @@ module _ {D G S K O C : Type 0} (disk_of : DiskGhosts D) (state_of : G → Signe
       let Q : InstanceState → InstanceState → Type 0 = Repeats closing in
       let whole : Arrives disk_of outlet_of (λ b a. Q done.after a) instance closed begun =
       arrives_then disk_of outlet_of (λ b a. Converses source_of sink_of (streams_of before) (streams_of after) end (at_clock (clock_of.readings before.clock) b) (at_clock (clock_of.readings after.clock) a)) Q (λ b a. Q done.after a) instance served closed begun done last (λ after step. step) in
+      let disks_then = leaves_disks (λ b a. Q done.after a) site random ends run started closed begins at whole
+      (record { desks = is.desks; press = is.press; safe = is.safe; signers = is.signers; outlet = is.outlet }) in
+      let at_first = found_first at.opened begun at.opens.just.lists at.opens.just.editions (repeats_same {O = O} (Ok (not (is_exported at.opened))) at.opened begun at.opens.exported) in
       record {
         after = after;
         end = end;
@@ -269,6 +302,11 @@ module _ {D G S K O C : Type 0} (disk_of : DiskGhosts D) (state_of : G → Signe
         opens = at.opens;
         session = done.step;
         repeats = last.step;
+        disks = disks_then;
+        goes_on = λ room history find. goes_on histories history begun last.after whole.same_site whole.same_found at_first.0 at_first.1 find room
+            (λ k. run_served disk_of k (slice_get disks k) (slice_get run.ends.desks.items k) (slice_get begun.desk_states k) (slice_get last.after.desk_states k) (disks_then k))
+            (sym (lists_long last.after.desk_states) ∙ last.stands.left.desks ∙ last.stands.one_each) whole.grown.0 whole.grown.1
+            (λ vouched all. (last.stands.stands vouched all).steps) (λ vouched all. IfSome_then last.after.in_doubt (last.stands.in_doubt vouched all) (λ edition is. is.1.steps));
         leaves = leaves law records (λ b a. Q done.after a) site random ends run started closed begins at whole
             (record { desks = is.desks; press = is.press; safe = is.safe; signers = is.signers; outlet = is.outlet })
             (λ zero. well_exported end closing done.after last.after last.step (sym is.status ∙ zero));
@@ -288,7 +326,7 @@ module _ {D G S K O C : Type 0} (disk_of : DiskGhosts D) (state_of : G → Signe
     pub fault : run.fault ≡ ended_by result
     pub source : after.source ≡ before.source
 
-  pub works_one : NewestLaw → RecordsLaw → (authorities : ℕ) (site : Bases) (random : List ℕ) (ends : Ends D G O) (before after : SessionEnds S K C) (result : Result (Unit {0}) (Option RunFault))
+  pub works_one : NewestLaw → RecordsLaw → HistoryLaws → (authorities : ℕ) (site : Bases) (random : List ℕ) (ends : Ends D G O) (before after : SessionEnds S K C) (result : Result (Unit {0}) (Option RunFault))
       (run : RunEnd D G S K O C) (started : Started D G O) (closed : InstanceValue D O)
       → IsStarted disk_of state_of outlet_of site (session_of random) ends started
       → ((state : InstanceState) → IsInState outlet_of started.instance state → IsFirstHeld state.desk_states None)
@@ -296,13 +334,15 @@ module _ {D G S K O C : Type 0} (disk_of : DiskGhosts D) (state_of : G → Signe
       → IsWorked before after run result closed
       → WorksOne disk_of state_of outlet_of sink_of clock_of authorities site random ends before run
   unfolding opened_seen
-  works_one law records authorities site random ends before after result run started closed begins none works is =
+  works_one law records histories authorities site random ends before after result run started closed begins none works is =
       let disks = ends.desks.items in
       let instance : InstanceValue D O = started.instance in
       let found = opened_seen disk_of disks instance.desks begins.desks in
       let at : IsStartedIn disk_of state_of outlet_of site (session_of random) ends started found.0 = begins.each found.0 found.1 in
       let begun : InstanceState = at.begun in
       let done = works begun at.stands in
+      let disks_then = leaves_disks (λ b a. Works sink_of authorities result (worked_by clock_of before b) (worked_by clock_of after a)) site random ends run started closed begins at done is.handed_back in
+      let at_first = found_first at.opened begun at.opens.just.lists at.opens.just.editions (repeats_same {O = O} (Ok (not (is_exported at.opened))) at.opened begun at.opens.exported) in
       record {
         after = after;
         opened = at.opened;
@@ -317,6 +357,11 @@ module _ {D G S K O C : Type 0} (disk_of : DiskGhosts D) (state_of : G → Signe
         same_source = is.source;
         opens = at.opens;
         works = done.step;
+        disks = disks_then;
+        goes_on = λ room history find. goes_on histories history begun done.after done.same_site done.same_found at_first.0 at_first.1 find room
+            (λ k. run_served disk_of k (slice_get disks k) (slice_get run.ends.desks.items k) (slice_get begun.desk_states k) (slice_get done.after.desk_states k) (disks_then k))
+            (sym (lists_long done.after.desk_states) ∙ done.stands.left.desks ∙ done.stands.one_each) done.grown.0 done.grown.1
+            (λ vouched all. (done.stands.stands vouched all).steps) (λ vouched all. IfSome_then done.after.in_doubt (done.stands.in_doubt vouched all) (λ edition is. is.1.steps));
         leaves = leaves law records (λ b a. Works sink_of authorities result (worked_by clock_of before b) (worked_by clock_of after a)) site random ends run started closed begins at done is.handed_back
             (λ zero. works_exported sink_of authorities result (worked_by clock_of before begun) (worked_by clock_of after done.after) (begun_exported O at.opened begun at.opens.exported) done.step (sym is.status ∙ zero));
       }
@@ -345,6 +390,40 @@ module _ {D G S K O C : Type 0} (disk_of : DiskGhosts D) (state_of : G → Signe
         held = held;
         holds = holds at.begun at.stands;
         untouched = is.sessions;
+        status = is.status;
+        fault = is.fault;
+        opens = at.opens;
+        disks = subst (λ (b : DeskStates). AreServed disk_of disks run.ends.desks.items b b) (sym at.same) found.2;
+        press = press_served disk_of outlet_of records (session_of random) ends.press instance.journal.disk run.ends.press instance at.begun at.begun at.press
+            (press_kept disk_of instance.journal.disk at.begun at.begun refl) at.stands is.handed_back.safe is.handed_back.press;
+        signers_ended = is.handed_back.signers ∙ at.stands.ring;
+        outlet_ended = ap (outlet_state outlet_of) is.handed_back.outlet ∙ at.stands.outlet;
+        coherent = at.coherent;
+        shown = started_shown outlet_of instance at.opened at.begun at.stands at.opens.just.exported at.opens.exported;
+      }
+
+  -- what closing leaves of a run that served no session
+  pub record IsUnserved (before : List (SessionEnds S K C)) (run : RunEnd D G S K O C) (closed : InstanceValue D O) : Type 0 where
+    pub handed_back : IsHandedBack run closed
+    pub sessions : run.sessions.items ≡ before
+    pub kept : run.kept ≡ nothing_kept
+    pub status : run.status ≡ 6
+    pub fault : run.fault ≡ Some run_faults.Memory
+
+  pub serves_none : RecordsLaw → (site : Bases) (random : List ℕ) (ends : Ends D G O) (before : List (SessionEnds S K C)) (run : RunEnd D G S K O C) (started : Started D G O)
+      → IsStarted disk_of state_of outlet_of site (session_of random) ends started
+      → IsUnserved before run started.instance → ServesNone disk_of state_of outlet_of site random ends before run
+  serves_none records site random ends before run started begins is =
+      let disks = ends.desks.items in
+      let instance : InstanceValue D O = started.instance in
+      let found = desks_closed_again disk_of disks instance.desks run.ends.desks.items begins.desks is.handed_back.desks in
+      let at : IsStartedIn disk_of state_of outlet_of site (session_of random) ends started found.0 = begins.each found.0 found.1 in
+      record {
+        opened = at.opened;
+        begun = at.begun;
+        summary = started.summary;
+        untouched = is.sessions;
+        kept = is.kept;
         status = is.status;
         fault = is.fault;
         opens = at.opens;

@@ -1,7 +1,7 @@
 -- An instance over opened desks and press, and what is handed back where there is none.
 use Rattle.std.proofs.Common.{◌≡◌, ◌≢◌, ◌≤◌, ◌<◌, ℕ, Bool, true, false, not, List, [], length, map, refl, sym, ◌∙◌, ap, subst, arith, inl, inr}
 use Rattle.std.proofs.lemmas.Bool.{true≢false}
-use Rattle.std.specs.Prelude.{Option, None, Some, IfSome, All, Result, Ok, Err, vec_capacity}
+use Rattle.std.specs.Prelude.{Option, None, Some, IfSome, All, Ok, Err, vec_capacity}
 use Rattle.disk_api.specs.declared.disk.Disk.{Ghosts as DiskGhosts}
 use Rattle.outlet_api.specs.declared.outlet.Outlet.{Ghosts as OutletGhosts}
 use Rattle.outlet_api.specs.declared.exports.ExportFault.{ExportFault}
@@ -15,7 +15,8 @@ use Rattle.notice_board.specs.declared.sheets.Sheet.{Sheet}
 use Rattle.editions.specs.Edition.{Edition, state_after}
 use Rattle.editions.specs.PublishedState.{PublishedStateValue}
 use Rattle.editions.specs.Sheets.{sheet_of}
-use Rattle.press_core.specs.Exports.{IsCoherent}
+use Rattle.press_core.specs.Exports.{IsCoherent, ShowsEdition, ShowsLast}
+use Rattle.press_core.specs.declared.last_export.LastExport.{LastExport}
 use Rattle.press_core.specs.JournalRecords.{AreRecords}
 use Rattle.press_core.specs.Loading.{LoadedValue, loaded_store}
 use Rattle.press_core.specs.Stored.{StoredValue}
@@ -35,17 +36,15 @@ use Rattle.krill_top.specs.Run.{Opens, given_with, signers_needed, IsBehind, IsC
 use Rattle.krill_top.specs.inner.Instances.{InstanceValue, IsInState, Arrives, Moves, HasInDoubt, stored_in}
 use Rattle.krill_top.specs.inner.Opened.{AreOpened, AreClosed}
 use Rattle.krill_top.specs.inner.PressOpened.{IsGiven, IsOpenedPress, IsUnopened}
-use Rattle.krill_top.specs.inner.Started.{IsPressFound, AreEndsOf, IsReadyFor, IsStartedIn, IsStarted}
+use Rattle.krill_top.specs.inner.Started.{IsPressFound, AreEndsOf, IsReadyFor, IsResumedIn, IsStartedIn, IsStarted}
+use Rattle.manager.specs.Pressing.{exported_as}
+use Rattle.manager.specs.Ready.{ShowsItsLast}
+use Rattle.krill_top.proofs.Closing.{repeats_same}
+use Rattle.krill_top.proofs.Resumed.{opened_open, resumed_of}
 use Rattle.krill_top.proofs.PressFound.{HasEditions, finds_now, finds_later, found_state, has_editions, stands_opened, summary_is, agrees, press_found}
 use Rattle.krill_top.proofs.Served.{desks_closed_again}
 
 -- ---- an export that is repeated
-
-pub repeats_same : {O : Type 0} (result : Result Bool (ExportFault O)) (before after : InstanceState) → Repeats result before after
-    → after ≡ record before { exported = after.exported; outlet = after.outlet }
-repeats_same (Ok true) before after step = step.1.exports.same
-repeats_same (Ok false) before after step = subst (λ (a : InstanceState). a ≡ record before { exported = a.exported; outlet = a.outlet }) (sym step.1) refl
-repeats_same (Err fault) before after step = step.1.exports.same
 
 repeats_told : (O : Type 0) (again : Bool) (before after : InstanceState) → Repeats {O = O} (Ok again) before after → Repeats {O = O} (Ok (not (is_exported before))) before after
 repeats_told O true before after step = subst (λ (e : Bool). Repeats {O = O} (Ok (not e)) before after) (sym step.0) step
@@ -149,7 +148,26 @@ module _ {D G O : Type 0} (disk_of : DiskGhosts D) (state_of : G → SignerState
       (stands_opened disk_of (given found) ends.press (stored_in instance) told (ready.opened found all) outlet_of instance.desks instance.signers instance.outlet all ready.one_each
       (needed found all) ready.counted (ap (outlet_state outlet_of) (sym ready.ends_of.outlet_is)))
 
-  module _ (new : InstanceValue D O) (same_desks : new.desks ≡ instance.desks) where
+  -- of the press before the export
+  shows_first : (found : DeskStates) → AreIn instance.desks found → ShowsItsLast outlet_of (stored_in instance) instance.outlet
+  shows_first found all = λ lists editions count left files.
+      subst (λ (last : LastExport). ShowsLast (ShowsEdition instance.press.rrdp.session instance.press.site) editions last (outlet_of.files instance.outlet)) (sym (ready.opened found all).behind.goes_on.last_export) tt
+
+  module _ (new : InstanceValue D O) (same_desks : new.desks ≡ instance.desks) (same_press : stored_in new ≡ exported_as new.press.last_export (stored_in instance))
+      (shows : ShowsItsLast outlet_of (stored_in instance) instance.outlet → ShowsItsLast outlet_of (stored_in new) new.outlet) where
+    resumed_in : (found : DeskStates) (all : AreIn instance.desks found) (begun : InstanceState) → begun.editions ≡ (before found all).editions → IsResumedIn outlet_of new begun
+    unfolding resumed_of
+    resumed_in found all begun same = record {
+      first = stored_in instance;
+      is = resumed_of disk_of (given found) ends.press (stored_in instance) told (ready.opened found all) new.desks
+          (subst (λ (l : List (View D)). AreIn l found) (sym same_desks) all)
+          (subst (λ (l : List (View D)). All (λ (desk : View D). desk.shut ≡ None) l) (sym same_desks) (opened_open disk_of 0 ends.desks.items instance.desks ready.ends_of.desks_are))
+          (ap length same_desks ∙ ready.one_each) (needed found all);
+      editions = sym same;
+      press = same_press;
+      shows = shows (shows_first found all);
+    }
+
     -- the last edition is exported, if there is one
     opens : (again : Bool) (found : DeskStates) (all : AreIn instance.desks found) (arrives : Arrives disk_of outlet_of (Repeats {O = O} (Ok again)) instance new (before found all))
         → Opens disk_of state_of outlet_of site ends (before found all) arrives.after told
@@ -176,6 +194,7 @@ module _ {D G O : Type 0} (disk_of : DiskGhosts D) (state_of : G → SignerState
           same = ap (λ (s : InstanceState). s.desk_states) same;
           opens = subst (λ (t : Summary). Opens disk_of state_of outlet_of site ends (before found all) arrives.after t) (sym same_told) (opens again found all arrives);
           stands = subst (λ (i : InstanceValue D O). IsInState outlet_of i arrives.after) (sym same_instance) arrives.stands;
+          resumed = subst (λ (i : InstanceValue D O). IsResumedIn outlet_of i arrives.after) (sym same_instance) (resumed_in found all arrives.after (ap (λ (s : InstanceState). s.editions) same));
           press = subst (λ (i : InstanceValue D O). IsPressFound disk_of session ends.press i.journal.disk arrives.after) (sym same_instance)
               (press_found disk_of (given found) ends.press (stored_in instance) told (ready.opened found all) new.journal.disk arrives.after
               arrives.same_session arrives.same_site (ap (λ (s : InstanceState). s.editions) same) (ap (λ (s : InstanceState). s.records) same) (ap (λ (s : InstanceState). s.in_doubt) same) arrives.press.later);

@@ -10,6 +10,10 @@ use Rattle.authority_book.specs.Fold.{fold_of}
 abbrev pub most_desks : ℕ
 most_desks = 64
 
+-- How many sessions a run serves at most.
+abbrev pub most_sessions : ℕ
+most_sessions = 8
+
 -- The number of the press's disk, which comes behind those of the desks.
 abbrev pub press_device : ℕ
 press_device = 64

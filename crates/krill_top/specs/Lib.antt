@@ -17,5 +17,8 @@ pub mod Summaries
 pub mod Telling
 pub mod Generated
 pub mod Working
+pub mod Histories
 pub mod Run
+pub mod SharedRuns
+pub mod Runs
 pub mod inner

@@ -1,5 +1,5 @@
 -- What a whole run leaves.
-use Rattle.std.specs.Prelude.{◌≡◌, ◌≢◌, ◌⊎◌, ℕ, ◌≤◌, ◌<◌, ◌+◌, ◌==◌, nat_lt, max, Bool, true, not, if◌then◌else◌, Result, Ok, String, Vec, List, [], ◌∷◌, ◌++◌, Option, None, Some, IfSome, All, length, map, slice_get, ⊤}
+use Rattle.std.specs.Prelude.{◌≡◌, ◌≢◌, ◌⊎◌, ℕ, ◌≤◌, ◌<◌, ◌+◌, ◌==◌, ◌||◌, nat_lt, max, Bool, true, not, if◌then◌else◌, Result, Ok, String, Vec, List, [], ◌∷◌, ◌++◌, Option, None, Some, IfSome, All, length, map, slice_get, ⊤}
 use Rattle.std.specs.Option.{option_map}
 use Rattle.gate_journal.specs.Format.{opened}
 use Rattle.host_calls.specs.Rise.{HasRisen}
@@ -23,7 +23,7 @@ use Rattle.krill_top.specs.declared.faults.RunFault.TheVariants as faults
 use Rattle.krill_top.specs.declared.ends.Ends.{Ends}
 use Rattle.krill_top.specs.declared.summary.Summary.{Summary}
 use Rattle.krill_top.specs.declared.words.Doing.{Doing}
-use Rattle.krill_top.specs.declared.words.Doing.TheVariants.{Run, Audit, Workload}
+use Rattle.krill_top.specs.declared.words.Doing.TheVariants.{Run}
 use Rattle.krill_top.specs.Words.{AskedValue, asked_of, bases_of}
 use Rattle.key_ids.specs.Base.{IsBase, rsync_scheme, https_scheme}
 use Rattle.key_ids.specs.declared.site.SiteFault.TheVariants as site
@@ -41,11 +41,14 @@ use Rattle.editions.specs.PublishedState.{PublishedStateValue}
 use Rattle.press_core.specs.Stands.{IsLeftBy}
 use Rattle.press_core.specs.Agreement.{owed_yield, AreSameOrigins, first_mismatch}
 use Rattle.press_core.specs.Loading.{anchor_of}
-use Rattle.krill_top.specs.declared.serving.SessionEnds.{SessionEnds}
+use Rattle.session_lines.specs.declared.running.SessionEnds.{SessionEnds}
 use Rattle.krill_top.specs.declared.running.RunEnd.{RunEnd}
-use Rattle.krill_top.specs.DeskStates.{DeskStates, DeskState, most_desks, names_in, commands_at}
+use Rattle.krill_top.specs.DeskStates.{DeskStates, DeskState, most_desks, most_sessions, names_in, commands_at}
 use Rattle.krill_top.specs.InstanceState.{InstanceState, OutletState, at_clock, outlet_state, lists_of, premises_of, IsJustOpened}
 use Rattle.krill_top.specs.InstanceState.{is_exported, AreVouchedIn, VouchForCalls, IsCoherentIn, ShowsLastIn}
+use Rattle.histories.specs.Events.{History}
+use Rattle.histories.specs.Work.{GoesOnAs}
+use Rattle.krill_top.specs.Histories.{HasRoom, MayFind, signatures, work_of}
 use Rattle.krill_top.specs.Exports.{Repeats}
 use Rattle.krill_top.specs.Session.{session_of}
 use Rattle.outlet_api.specs.declared.outlet.Outlet.{Ghosts as OutletGhosts}
@@ -87,14 +90,29 @@ IsUnwanted words fault = (asked : AskedValue) × (asked_of words ≡ Some asked)
     × AreRefusedBases (bases_of asked) fault
 
 -- What is wrong in number, before any device is called: sessions, disks or signers, asked in this order.
+-- `run` serves one to eight sessions; what else is done is told to one.
 abbrev pub wrong_count : ℕ → ℕ → ℕ → RunFault
 wrong_count what needed found = faults.Refused (WrongCount what needed found)
 
-abbrev pub miscounted : ℕ → ℕ → ℕ → Option RunFault
-miscounted sessions disks signers = if not (sessions == 1) then Some (wrong_count 2 1 sessions)
-    else if not (disks == most_desks) then Some (wrong_count 0 most_desks disks)
+abbrev pub wrong_sessions : Doing → ℕ → Option RunFault
+wrong_sessions Run sessions = if (sessions == 0) || nat_lt most_sessions sessions
+    then Some (wrong_count 2 most_sessions sessions) else None
+wrong_sessions other sessions =
+    if not (sessions == 1) then Some (wrong_count 2 1 sessions) else None
+
+abbrev pub wrong_devices : ℕ → ℕ → Option RunFault
+wrong_devices disks signers =
+    if not (disks == most_desks) then Some (wrong_count 0 most_desks disks)
     else if signers == 0 then Some (wrong_count 1 1 0)
     else if nat_lt 8 signers then Some (wrong_count 1 8 signers) else None
+
+abbrev pub or_else : Option RunFault → Option RunFault → Option RunFault
+or_else None other = other
+or_else (Some fault) other = Some fault
+
+abbrev pub miscounted : Doing → ℕ → ℕ → ℕ → Option RunFault
+miscounted doing sessions disks signers =
+    or_else (wrong_sessions doing sessions) (wrong_devices disks signers)
 
 -- A run that was refused at once: nothing was read or written, and no device was called.
 pub record IsRefusedRun {D G S K O C : Type 0} (ends : Ends D G O)
@@ -112,10 +130,9 @@ IsNext number desk command =
 
 -- The disk of the desk of that number went through the run: it held the commands with which the desk
 -- begins, and holds these and the accepted ones, in order, with the one in doubt or without it. So does
--- each image that a crash may leave, and all can be opened again. A known disk's bytes are those that
--- opening made of them, with the accepted commands' records. A command is in doubt only where the disk
--- failed in this run.
-pub record IsServed {D : Type 0} (disk_of : DiskGhosts D) (number : ℕ) (old new : D) (begun ended : DeskState) : Type 0 where
+-- each image that a crash may leave, and all can be opened again. A command is in doubt only where the
+-- disk failed in this run.
+pub record IsKept {D : Type 0} (disk_of : DiskGhosts D) (number : ℕ) (old new : D) (begun ended : DeskState) : Type 0 where
   pub found : RecoveredTo (disk_of.content old) number begun.commands
   pub is_open : begun.doubt ≡ None
   pub accepted : List Command
@@ -123,10 +140,14 @@ pub record IsServed {D : Type 0} (disk_of : DiskGhosts D) (number : ℕ) (old ne
   pub recorded : Records number (map spelling ended.commands) ended.commands
   pub next : IfSome ended.doubt (IsNext number ended)
   pub left : IsSafe disk_of ended.commands ended.doubt new
-  pub bytes : ended.doubt ≡ None → disk_of.content new
-      ≡ option_map (all_stored (map spelling begun.commands) (map spelling accepted)) (option_map opened (disk_of.content old))
   pub cause : ¬ (ended.doubt ≡ None) → RoseWithin (disk_of.fault_count old) (disk_of.fault_count new)
   pub later : disk_of.fault_count old ≤ disk_of.fault_count new
+
+-- And a known disk's bytes are those that opening made of it, with the accepted commands' records.
+pub record IsServed {D : Type 0} (disk_of : DiskGhosts D) (number : ℕ) (old new : D) (begun ended : DeskState) : Type 0 where
+  pub kept : IsKept disk_of number old new begun ended
+  pub bytes : ended.doubt ≡ None → disk_of.content new
+      ≡ option_map (all_stored (map spelling begun.commands) (map spelling kept.accepted)) (option_map opened (disk_of.content old))
 
 -- So of a number's disk, if there is one.
 abbrev pub IsServedAt : {D : Type 0} → DiskGhosts D → ℕ → Option D → Option D → Option DeskState → Option DeskState → Type 0
@@ -139,6 +160,17 @@ abbrev pub AreServed : {D : Type 0} → DiskGhosts D → List D → List D → D
     → Type 0
 AreServed disk_of old new begun ended = (number : ℕ)
     → IsServedAt disk_of number (slice_get old number) (slice_get new number) (slice_get begun number) (slice_get ended number)
+
+-- The same without the bytes.
+abbrev pub IsKeptAt : {D : Type 0} → DiskGhosts D → ℕ → Option D → Option D → Option DeskState → Option DeskState → Type 0
+IsKeptAt disk_of number None None None None = ⊤
+IsKeptAt disk_of number (Some old) (Some new) (Some begun) (Some ended) = IsKept disk_of number old new begun ended
+IsKeptAt disk_of number old new begun ended = ⊥
+
+abbrev pub AreKept : {D : Type 0} → DiskGhosts D → List D → List D → DeskStates → DeskStates
+    → Type 0
+AreKept disk_of old new begun ended = (number : ℕ)
+    → IsKeptAt disk_of number (slice_get old number) (slice_get new number) (slice_get begun number) (slice_get ended number)
 
 -- ---- signers
 
@@ -250,8 +282,8 @@ IsSummary begun told = ((begun.editions ≡ []) × (told ≡ no_edition))
     ⊎ ((audited : AuditedValue) × IsFoundSound begun audited
     × (told ≡ summary_of (state_after begun.editions) audited))
 
--- A run opened all: its desks hold what was found there, its press the editions, whatever they are; and
--- where there is one, it was exported.
+-- A run opened desks and press: the desks hold what was found there, the press the editions, whatever
+-- they are; and where there is one, it was exported.
 pub record Opens {D G O : Type 0} (disk_of : DiskGhosts D) (state_of : G → SignerState)
     (outlet_of : OutletGhosts O) (site : Bases) (old : Ends D G O) (opened begun : InstanceState)
     (summary : Summary) : Type 0 where
@@ -274,15 +306,13 @@ abbrev pub worked_by : {S K C : Type 0} → ClockGhosts C → SessionEnds S K C 
 worked_by clock_of ends state =
     record { sink = ends.sink; timed = at_clock (clock_of.readings ends.clock) state }
 
--- What a run leaves that opened all. Each desk's disk holds the commands that it held and the accepted
--- ones of its authority, and the press's the editions that it held and those that were published of the
--- commands. Each of these follows those before it where the signatures that were made for them are
--- vouched and those that were found are steps; and where all signers tell what they vouch for, the
--- signatures are among that.
+-- What a run leaves that opened desks and press, beside its desks. The press's disk holds the editions
+-- that it held and those that the run published. Each of these follows those before it where the
+-- signatures that were made for them are vouched and those that were found are steps; and where all
+-- signers tell what they vouch for, the signatures are among that.
 pub record Leaves {D G S K O C : Type 0} (disk_of : DiskGhosts D) (state_of : G → SignerState)
     (outlet_of : OutletGhosts O) (random : List ℕ) (ends : Ends D G O)
     (opened begun ended : InstanceState) (run : RunEnd D G S K O C) : Type 0 where
-  pub disks : AreServed disk_of ends.desks.items run.ends.desks.items begun.desk_states ended.desk_states
   pub press : IsPressServed disk_of (session_of random) ends.press run.ends.press begun ended
   pub same_site : ended.site ≡ begun.site
   pub same_session : ended.session ≡ begun.session
@@ -328,7 +358,11 @@ pub record ServesOne {D G S K O C : Type 0} (disk_of : DiskGhosts D) (state_of :
       (at_clock (clock_of.readings before.clock) begun)
       (at_clock (clock_of.readings after.clock) served)
   pub repeats : Repeats closing served ended
+  pub disks : AreServed disk_of ends.desks.items run.ends.desks.items begun.desk_states ended.desk_states
   pub leaves : Leaves disk_of state_of outlet_of random ends opened begun ended run
+  -- and what the run did, and its signers signed, is a part of a legal history
+  pub goes_on : HasRoom ended → (history : History) → MayFind history begun
+      → GoesOnAs begun.site history (signatures ended.calls) (work_of begun ended)
   pub source_fault : end ≡ SourceFault → HasRisen (source_of.fault_count before.source) (source_of.fault_count after.source)
   pub sink_fault : end ≡ SinkFault → HasRisen (sink_of.fault_count before.sink) (sink_of.fault_count after.sink)
   pub source_later : source_of.fault_count before.source ≤ source_of.fault_count after.source
@@ -410,7 +444,11 @@ pub record WorksOne {D G S K O C : Type 0} (disk_of : DiskGhosts D) (state_of : 
   pub opens : Opens disk_of state_of outlet_of site ends opened begun summary
   pub works : Works sink_of authorities result
       (worked_by clock_of before begun) (worked_by clock_of after ended)
+  pub disks : AreServed disk_of ends.desks.items run.ends.desks.items begun.desk_states ended.desk_states
   pub leaves : Leaves disk_of state_of outlet_of random ends opened begun ended run
+  -- and what the run did, and its signers signed, is a part of a legal history
+  pub goes_on : HasRoom ended → (history : History) → MayFind history begun
+      → GoesOnAs begun.site history (signatures ended.calls) (work_of begun ended)
 
 abbrev pub DoesWork : {D G S K O C : Type 0} → DiskGhosts D → (G → SignerState)
     → OutletGhosts O → SinkGhosts K → ClockGhosts C → ℕ → Bases → List ℕ → Ends D G O
@@ -418,35 +456,3 @@ abbrev pub DoesWork : {D G S K O C : Type 0} → DiskGhosts D → (G → SignerS
 DoesWork disk_of state_of outlet_of sink_of clock_of authorities site random ends before run =
     FindsHeld disk_of state_of outlet_of site random ends before run
     ⊎ WorksOne disk_of state_of outlet_of sink_of clock_of authorities site random ends before run
-
--- What is done where the words ask for it.
-abbrev pub Does : {D G S K O C : Type 0} → DiskGhosts D → (G → SignerState) → OutletGhosts O
-    → SourceGhosts S → SinkGhosts K → ClockGhosts C → Doing → Bases → List ℕ → Ends D G O
-    → SessionEnds S K C → RunEnd D G S K O C → Type 0
-Does disk_of state_of outlet_of source_of sink_of clock_of Run site random ends before run =
-    ServesOne disk_of state_of outlet_of source_of sink_of clock_of site random ends before run
-Does disk_of state_of outlet_of source_of sink_of clock_of Audit site random ends before run =
-    TellsOne disk_of state_of outlet_of sink_of site random ends before run
-Does disk_of state_of outlet_of source_of sink_of clock_of (Workload authorities) site random ends
-    before run =
-    DoesWork disk_of state_of outlet_of sink_of clock_of authorities site random ends before run
-
--- A run by these words: what is wrong in number, or it was refused at opening, or did what they ask for.
-abbrev pub RunsBy : {D G S K O C : Type 0} → DiskGhosts D → (G → SignerState) → OutletGhosts O
-    → SourceGhosts S → SinkGhosts K → ClockGhosts C → AskedValue → List ℕ → Ends D G O
-    → List (SessionEnds S K C) → RunEnd D G S K O C → Option RunFault → Type 0
-RunsBy disk_of state_of outlet_of source_of sink_of clock_of asked random ends sessions run
-    (Some fault) = IsRefusedRun ends sessions fault run
-RunsBy {D} {G} {S} {K} {O} {C} disk_of state_of outlet_of source_of sink_of clock_of asked random ends
-    sessions run None =
-    IsRefusedAtOpening disk_of state_of outlet_of (bases_of asked) (session_of random) ends sessions run
-    ⊎ ((before : SessionEnds S K C) × (sessions ≡ before ∷ [])
-    × Does disk_of state_of outlet_of source_of sink_of clock_of asked.doing (bases_of asked) random
-    ends before run)
-
-abbrev pub RunsAs : {D G S K O C : Type 0} → DiskGhosts D → (G → SignerState) → OutletGhosts O
-    → SourceGhosts S → SinkGhosts K → ClockGhosts C → AskedValue → List ℕ → Ends D G O
-    → List (SessionEnds S K C) → RunEnd D G S K O C → Type 0
-RunsAs disk_of state_of outlet_of source_of sink_of clock_of asked random ends sessions run =
-    RunsBy disk_of state_of outlet_of source_of sink_of clock_of asked random ends sessions run
-    (miscounted (length sessions) (length ends.desks.items) (length ends.signers.items))

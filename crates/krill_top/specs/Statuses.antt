@@ -52,6 +52,7 @@ export_fault (Err export.Memory) = Some faults.Memory
 abbrev pub graver : Option RunFault → Option RunFault → Option RunFault
 graver session None = session
 graver (Some faults.Device) (Some fault) = Some faults.Device
+graver (Some faults.Memory) (Some (faults.Spent bytes)) = Some faults.Memory
 graver session (Some fault) = Some fault
 
 -- Why a run ended whose session ended so, and then the export of the last edition.

@@ -9,3 +9,4 @@ pub mod Refusing
 pub mod Asking
 pub mod PressOpened
 pub mod Summing
+pub mod Shared

@@ -1,6 +1,6 @@
 //! The desks of a tree, and the press that publishes for it.
 
-ghost use Rattle.std.specs.Prelude.{◌≡◌, ◌≢◌, false, true, IfOk, IfErr};
+ghost use Rattle.std.specs.Prelude.{◌≡◌, ◌≢◌, false, true, length, IfOk, IfErr};
 ghost use Rattle.editions.specs.Edition.{state_after};
 ghost use Rattle.editions.specs.Sheets.{sheet_of};
 ghost use Rattle.krill_top.specs.InstanceState.{InstanceState, last_serial, is_of, is_exported_at, is_exported};
@@ -15,6 +15,8 @@ ghost use Rattle.krill_top.specs.Replies.{CommandedIn};
 ghost use Rattle.krill_top.specs.Run.{IsFirstHeld};
 ghost use Rattle.gate_journal.specs.View.{IsSafe};
 ghost use Rattle.krill_top.specs.inner.Instances.{IsInState, IsPressIn, Moves, stored_in};
+ghost use Rattle.manager.specs.Pressing.{exported_as};
+ghost use Rattle.manager.specs.Ready.{ShowsItsLast};
 
 use crate::command_fault::CommandFault;
 use crate::desks::Desks;
@@ -78,6 +80,15 @@ pub struct InstanceRefused<D: Disk, G: Signer, O: Outlet> {
     pub desks: Desks<D>,
     pub press: StoredPress<D, G>,
     pub outlet: O,
+}
+
+/// What an instance is made of.
+#[derive(Drop)]
+pub(crate) struct InstanceParts<D: Disk, G: Signer, O: Outlet> {
+    pub(crate) desks: Desks<D>,
+    pub(crate) press: StoredPress<D, G>,
+    pub(crate) signers: u32,
+    pub(crate) outlet: O,
 }
 
 // Whether the edition of that serial, if there is one, is at the outlet.
@@ -148,6 +159,28 @@ impl<D: Disk, G: Signer, O: Outlet> Instance<D, G, O> {
             signers,
             outlet,
         })
+    }
+
+    /// Desks, press and outlet, and how many signers there are.
+    pub(crate) fn into_parts(self) -> InstanceParts<D, G, O>
+        ensures desks { result.desks ≡ self.desks }
+        ensures press { result.press ≡ stored_in self }
+        ensures signers { result.signers ≡ length self.press.ring }
+        ensures outlet { result.outlet ≡ self.outlet }
+    {
+        let Instance {
+            desks,
+            press,
+            signers,
+            outlet,
+            ..
+        } = self;
+        InstanceParts {
+            desks,
+            press,
+            signers,
+            outlet,
+        }
     }
 
     /// The desks, with the commands that were accepted, the press's disk, with the editions, the signers,
@@ -228,6 +261,8 @@ impl<D: Disk, G: Signer, O: Outlet> Instance<D, G, O> {
     pub fn repeat_export(&mut self, alloc: Global) -> Result<bool, ExportFault<O>>
         ensures moves { Moves D.Disk O.Outlet (Repeats result) self.old self.new }
         ensures desks { self.new.desks ≡ self.old.desks }
+        ensures press { stored_in self.new ≡ exported_as self.new.press.last_export (stored_in self.old) }
+        ensures shows { ShowsItsLast O.Outlet (stored_in self.old) self.old.outlet → ShowsItsLast O.Outlet (stored_in self.new) self.new.outlet }
     {
         if self.is_exported() {
             return Ok(false);
@@ -252,6 +287,8 @@ impl<D: Disk, G: Signer, O: Outlet> Instance<D, G, O> {
         requires { self.old.press.at.serial ≢ 0 }
         ensures moves { Moves D.Disk O.Outlet (ExportsOrStops result) self.old self.new }
         ensures desks { self.new.desks ≡ self.old.desks }
+        ensures press { stored_in self.new ≡ exported_as self.new.press.last_export (stored_in self.old) }
+        ensures shows { ShowsItsLast O.Outlet (stored_in self.old) self.old.outlet → ShowsItsLast O.Outlet (stored_in self.new) self.new.outlet }
     {
         more_editions_stay_shown();
         self.press.export_to(alloc, &mut self.outlet)

@@ -20,6 +20,7 @@ mod reads;
 mod running;
 mod serving;
 mod session_id;
+mod sharing;
 mod sinks;
 mod starting;
 mod summary;
@@ -40,6 +41,7 @@ pub use line_loop::{
 pub use publication::Publication;
 pub use publish_fault::PublishFault;
 pub use running::{RunEnd, run_krill};
-pub use serving::{Session, SessionEnds};
+pub use serving::Session;
+pub use session_lines::{Kept, SessionEnds};
 pub use summary::Summary;
 pub use words::{Asked, Doing, read_words};

@@ -8,12 +8,14 @@ ghost use Rattle.krill_top.specs.Words.{AskedValue, asked_of, bases_of};
 ghost use Rattle.krill_top.specs.Summaries.{summary_line};
 ghost use Rattle.krill_top.specs.Statuses.{run_status, fault_of, export_fault, opening_fault};
 ghost use Rattle.krill_top.specs.Session.{session_of};
-ghost use Rattle.krill_top.specs.DeskStates.{most_desks};
+ghost use Rattle.krill_top.specs.DeskStates.{most_desks, most_sessions};
 ghost use Rattle.krill_top.specs.InstanceState.{InstanceState};
 ghost use Rattle.krill_top.specs.Telling.{Tells};
 ghost use Rattle.krill_top.specs.inner.Instances.{IsInState};
-ghost use Rattle.krill_top.specs.inner.Started.{IsStarted};
-ghost use Rattle.krill_top.specs.Run.{AreBases, IsUnwanted, ends_of, IsRefusedRun, IsRefusedAtOpening, ServesOne, TellsOne, IsFirstHeld, FindsHeld, WorksOne, DoesWork, Does, RunsAs, miscounted};
+ghost use Rattle.krill_top.specs.inner.Started.{IsResumedIn, IsStarted};
+ghost use Rattle.krill_top.specs.Run.{AreBases, IsUnwanted, ends_of, IsRefusedRun, IsRefusedAtOpening, ServesOne, TellsOne, IsFirstHeld, FindsHeld, WorksOne, DoesWork, wrong_sessions, wrong_devices, miscounted};
+ghost use Rattle.krill_top.specs.Runs.{DoesOne, Does, RunsAs};
+ghost use Rattle.session_lines.specs.Keeping.{KeptValue, nothing_kept};
 ghost use Rattle.krill_top.specs.declared.faults.RunFault.TheVariants as faults;
 ghost use Rattle.krill_top.specs.declared.faults.OpenFault.TheVariants as opening;
 
@@ -23,20 +25,26 @@ use crate::ends::Ends;
 use crate::faults::{OpenFault, RunFault};
 use crate::fronts::{put_in_front, take_first};
 use crate::handler::Handler;
-use crate::serving::{Session, SessionEnds};
+use crate::serving::Session;
 use crate::session_id::session_of;
+use crate::sharing::serve_many;
 use crate::sinks::{graver, told};
 use crate::starting::{NotStarted, SIGNERS_WRONG, Started, start, stop};
 use crate::summary::Summary;
 use crate::words::{Asked, Doing, read_words};
 use crate::working::{ended_by, work};
 use disk_api::Disk;
+use editions::steps_stay_steps;
+use histories::{headline, legal_histories_go_on, what_was_done_goes_on};
 use key_ids::Site;
 use line_loop::{Clock, SessionEnd, Sink, Source};
+use manager::MOST_SESSIONS;
 use outlet_api::{ExportFault, Outlet};
 use press_core::{edition_records_go_on, more_editions_stay_shown};
+use session_lines::{Kept, SessionEnds};
 use signer_api::Signer;
 use std::alloc::Global;
+use std::sync::Wait;
 use std::thread::Threads;
 
 /// What `WrongCount` says is wrong in number.
@@ -53,7 +61,8 @@ const RSYNC_BASE: &str = "rsync://rpki.example/repo/";
 
 const RRDP_BASE: &str = "https://rpki.example/rrdp/";
 
-/// What a run leaves: its status, why it isn't 0, the devices, and the sessions' ends, as they stand.
+/// What a run leaves: its status, why it isn't 0, the devices, and the sessions' ends, as they stand. Where it served
+/// several sessions it has of each kind of refusal the last value that one of them kept.
 #[derive(Drop)]
 pub struct RunEnd<D: Disk, G: Signer, S: Source, K: Sink, O: Outlet, C: Clock> {
     /// 0, or that of its fault.
@@ -62,10 +71,11 @@ pub struct RunEnd<D: Disk, G: Signer, S: Source, K: Sink, O: Outlet, C: Clock> {
     pub fault: Option<RunFault>,
     pub ends: Ends<D, G, O>,
     pub sessions: Vec<SessionEnds<S, K, C>>,
+    pub kept: Kept<D, O>,
 }
 
 /// Why a session ended otherwise than by the end of its source.
-fn fault_of(ended: SessionEnd) -> Option<RunFault>
+pub(crate) fn fault_of(ended: SessionEnd) -> Option<RunFault>
     ensures { result ≡ fault_of ended }
 {
     match ended {
@@ -76,8 +86,8 @@ fn fault_of(ended: SessionEnd) -> Option<RunFault>
     }
 }
 
-// Why the export at the end didn't end well.
-fn export_fault<O: Outlet>(closing: &Result<bool, ExportFault<O>>) -> Option<RunFault>
+/// Why the export at the end didn't end well.
+pub(crate) fn export_fault<O: Outlet>(closing: &Result<bool, ExportFault<O>>) -> Option<RunFault>
     ensures { result ≡ export_fault closing.now }
 {
     match closing {
@@ -117,6 +127,10 @@ fn serve_one<R: Threads + Sync, D: Disk, G: Signer + Send, S: Source, K: Sink, O
 {
     more_editions_stay_shown();
     edition_records_go_on();
+    headline();
+    legal_histories_go_on();
+    what_was_done_goes_on();
+    steps_stay_steps();
     let Started {
         instance,
         summary,
@@ -144,7 +158,7 @@ fn serve_one<R: Threads + Sync, D: Disk, G: Signer + Send, S: Source, K: Sink, O
         summary,
         disks,
     };
-    run_end(fault, stop(started), sessions)
+    run_end(fault, stop(started), sessions, Kept::new())
 }
 
 // Tells the one session what was found of the last edition, and closes the instance.
@@ -174,7 +188,7 @@ fn tell_one<D: Disk, G: Signer, S: Source, K: Sink, O: Outlet, C: Clock>(
         clock,
     };
     put_in_front(&mut sessions, ends);
-    run_end(fault, stop(started), sessions)
+    run_end(fault, stop(started), sessions, Kept::new())
 }
 
 // Why the summary's line couldn't be given whole, if it couldn't.
@@ -225,7 +239,7 @@ fn refuse_held<D: Disk, G: Signer, S: Source, K: Sink, O: Outlet, C: Clock>(
     edition_records_go_on();
     let (desk, held) = found;
     let fault = RunFault::NotEmpty { desk, held };
-    run_end(Some(fault), stop(started), sessions)
+    run_end(Some(fault), stop(started), sessions, Kept::new())
 }
 
 // Gives the commands to the instance, no desk of which holds any, and closes it.
@@ -246,6 +260,10 @@ fn work_over<R: Threads + Sync, D: Disk, G: Signer + Send, S: Source, K: Sink, O
 {
     more_editions_stay_shown();
     edition_records_go_on();
+    headline();
+    legal_histories_go_on();
+    what_was_done_goes_on();
+    steps_stay_steps();
     let Started {
         instance,
         summary,
@@ -271,7 +289,7 @@ fn work_over<R: Threads + Sync, D: Disk, G: Signer + Send, S: Source, K: Sink, O
         summary,
         disks,
     };
-    run_end(ended_by(worked), stop(started), sessions)
+    run_end(ended_by(worked), stop(started), sessions, Kept::new())
 }
 
 /// The status of a run that ended so.
@@ -284,27 +302,91 @@ fn status_of(fault: &Option<RunFault>) -> u8
     }
 }
 
-// What a run leaves that ended so.
-fn run_end<D: Disk, G: Signer, S: Source, K: Sink, O: Outlet, C: Clock>(
+/// What a run leaves that ended so.
+pub(crate) fn run_end<D: Disk, G: Signer, S: Source, K: Sink, O: Outlet, C: Clock>(
     fault: Option<RunFault>,
     ends: Ends<D, G, O>,
     sessions: Vec<SessionEnds<S, K, C>>,
+    kept: Kept<D, O>,
 ) -> RunEnd<D, G, S, K, O, C>
     ensures status { result.status ≡ run_status fault }
     ensures fault { result.fault ≡ fault }
     ensures ends { result.ends ≡ ends }
     ensures sessions { result.sessions.items ≡ sessions.items }
+    ensures kept { result.kept ≡ kept }
 {
     RunEnd {
         status: status_of(&fault),
         fault,
         ends,
         sessions,
+        kept,
     }
 }
 
+// Does what is done with one session.
+fn do_one<R: Threads + Sync, D: Disk, G: Signer + Send, S: Source, K: Sink, O: Outlet, C: Clock>(
+    rt: &R,
+    alloc: Global,
+    doing: Doing,
+    started: Started<D, G, O>,
+    sessions: Vec<SessionEnds<S, K, C>>,
+) -> RunEnd<D, G, S, K, O, C>
+    requires empty { started.disks.items ≡ [] }
+    requires room { most_desks ≤ vec_capacity started.disks }
+    requires session { length sessions.items ≡ 1 }
+    ensures { (bases : Bases) (random : List ℕ) (ends : Ends D G O) (before : SessionEnds S K C)
+        → IsStarted D.Disk G.state O.Outlet bases (session_of random) ends started → sessions.items ≡ before ∷ []
+        → DoesOne D.Disk G.state O.Outlet S.Source K.Sink C.Clock doing bases random ends before result }
+{
+    match doing {
+        Doing::Run => serve_one(rt, alloc, started, sessions),
+        Doing::Audit => tell_one(alloc, started, sessions),
+        Doing::Workload { authorities } => work_one(rt, alloc, authorities, started, sessions),
+    }
+}
+
+// Does what was asked for over what was opened. With one session `run` goes over the instance itself, since more can be
+// said then of what its lines come to; several share desks and press behind locks.
+fn do_asked<
+    R: Threads + Wait + Sync,
+    D: Disk + Send,
+    G: Signer + Send,
+    S: Source + Send,
+    K: Sink + Send,
+    O: Outlet + Send,
+    C: Clock + Send,
+>(
+    rt: &R,
+    alloc: Global,
+    doing: Doing,
+    started: Started<D, G, O>,
+    sessions: Vec<SessionEnds<S, K, C>>,
+) -> RunEnd<D, G, S, K, O, C>
+    requires empty { started.disks.items ≡ [] }
+    requires room { most_desks ≤ vec_capacity started.disks }
+    requires sessions { wrong_sessions doing (length sessions.items) ≡ None }
+    requires resumed { (begun : InstanceState) × IsResumedIn O.Outlet started.instance begun }
+    ensures { (bases : Bases) (random : List ℕ) (ends : Ends D G O)
+        → IsStarted D.Disk G.state O.Outlet bases (session_of random) ends started
+        → Does D.Disk G.state O.Outlet S.Source K.Sink C.Clock doing bases random ends sessions.items result }
+{
+    if sessions.len() == 1 {
+        return do_one(rt, alloc, doing, started, sessions);
+    }
+    serve_many(rt, alloc, started, sessions)
+}
+
 // Opens all, and does what was asked for.
-fn run_one<R: Threads + Sync, D: Disk, G: Signer + Send, S: Source, K: Sink, O: Outlet, C: Clock>(
+fn run_wanted<
+    R: Threads + Wait + Sync,
+    D: Disk + Send,
+    G: Signer + Send,
+    S: Source + Send,
+    K: Sink + Send,
+    O: Outlet + Send,
+    C: Clock + Send,
+>(
     rt: &R,
     alloc: Global,
     asked: Wanted,
@@ -314,18 +396,18 @@ fn run_one<R: Threads + Sync, D: Disk, G: Signer + Send, S: Source, K: Sink, O: 
 ) -> RunEnd<D, G, S, K, O, C>
     requires desks { length ends.desks.items ≡ most_desks }
     requires signers { length ends.signers.items ≤ 8 }
-    requires session { length sessions.items ≡ 1 }
-    ensures { (before : SessionEnds S K C) → sessions.items ≡ before ∷ []
-        → IsRefusedAtOpening D.Disk G.state O.Outlet asked.site (session_of random) ends sessions.items result
-        ⊎ Does D.Disk G.state O.Outlet S.Source K.Sink C.Clock asked.doing asked.site random ends before result }
+    requires sessions { wrong_sessions asked.doing (length sessions.items) ≡ None }
+    ensures { IsRefusedAtOpening D.Disk G.state O.Outlet asked.site (session_of random) ends sessions.items result
+        ⊎ Does D.Disk G.state O.Outlet S.Source K.Sink C.Clock asked.doing asked.site random ends sessions.items result }
 {
     match start(alloc, session_of(random), &asked.site, ends) {
-        Ok(started) => match asked.doing {
-            Doing::Run => serve_one(rt, alloc, started, sessions),
-            Doing::Audit => tell_one(alloc, started, sessions),
-            Doing::Workload { authorities } => work_one(rt, alloc, authorities, started, sessions),
-        },
-        Err(NotStarted { ends, fault }) => run_end(Some(opening_fault(fault)), ends, sessions),
+        Ok(started) => do_asked(rt, alloc, asked.doing, started, sessions),
+        Err(NotStarted { ends, fault }) => run_end(
+            Some(opening_fault(fault)),
+            ends,
+            sessions,
+            Kept::new(),
+        ),
     }
 }
 
@@ -341,12 +423,37 @@ fn wrong_count(what: u32, needed: usize, found: usize) -> RunFault
 }
 
 // Why as many are refused before any device is called.
-fn miscounted(disks: usize, signers: usize, sessions: usize) -> Option<RunFault>
-    ensures { result ≡ miscounted sessions disks signers }
+fn miscounted(doing: Doing, sessions: usize, disks: usize, signers: usize) -> Option<RunFault>
+    ensures { result ≡ miscounted doing sessions disks signers }
 {
-    if sessions != 1 {
-        return Some(wrong_count(SESSIONS_WRONG, 1, sessions));
+    match wrong_sessions(doing, sessions) {
+        Some(fault) => Some(fault),
+        None => wrong_devices(disks, signers),
     }
+}
+
+// `run` serves one to eight sessions; what else is done is told to one.
+fn wrong_sessions(doing: Doing, sessions: usize) -> Option<RunFault>
+    ensures { result ≡ wrong_sessions doing sessions }
+{
+    match doing {
+        Doing::Run => {
+            if sessions == 0 || sessions > MOST_SESSIONS {
+                return Some(wrong_count(SESSIONS_WRONG, MOST_SESSIONS, sessions));
+            }
+        }
+        Doing::Audit | Doing::Workload { .. } => {
+            if sessions != 1 {
+                return Some(wrong_count(SESSIONS_WRONG, 1, sessions));
+            }
+        }
+    }
+    None
+}
+
+fn wrong_devices(disks: usize, signers: usize) -> Option<RunFault>
+    ensures { result ≡ wrong_devices disks signers }
+{
     if disks != DESKS {
         return Some(wrong_count(DISKS_WRONG, DESKS, disks));
     }
@@ -383,26 +490,28 @@ fn read_wanted(alloc: Global, words: &[String]) -> Result<Wanted, RunFault>
 
 /// Does what the words name. `run` opens the 64 desks over their disks, in order, behind them the press over
 /// its own, and the instance over all of these; audits what was published last, and exports it; and serves
-/// the one session: each command goes to the desk of its authority, and what the desks have accepted is
-/// published and brought to the outlet. Where the last edition couldn't be, that is tried once more at the
+/// the sessions, one to eight, at the same time: each command goes to the desk of its authority, and what the desks have
+/// accepted is published and brought to the outlet. Where the last edition couldn't be, that is tried once more at the
 /// end. `audit` opens all so, and gives the session's sink one line that tells of the last edition. `workload`
 /// opens all so, gives the commands of a tree of so many authorities where no desk holds a command yet, publishes
 /// them, changes a grant and publishes that, and gives the sink a line on each of the two editions. The RRDP session of
 /// a new store is drawn from `random`.
 ///
 /// Where opening is refused no source is read and no sink is given anything. All devices come back as they
-/// stand.
+/// stand. Where several sessions are served it waits, for locks and for the sessions to end, and promises its clauses
+/// where it returns.
 ///
-/// Asked before anything is opened, in this order: the words (`Words`), the bases (`Base`), that there is one
-/// session, 64 desks, and 1 to 8 signers (`WrongCount` with 2, 0 and 1).
+/// Asked before anything is opened, in this order: the words (`Words`), the bases (`Base`), that there are 1 to 8
+/// sessions, for `audit` and `workload` just one, that there are 64 desks, and 1 to 8 signers (`WrongCount` with 2, 0
+/// and 1).
 pub fn run_krill<
-    R: Threads + Sync,
-    D: Disk,
+    R: Threads + Wait + Sync,
+    D: Disk + Send,
     G: Signer + Send,
-    S: Source,
-    K: Sink,
-    O: Outlet,
-    C: Clock,
+    S: Source + Send,
+    K: Sink + Send,
+    O: Outlet + Send,
+    C: Clock + Send,
 >(
     rt: &R,
     alloc: Global,
@@ -435,10 +544,11 @@ pub fn run_krill<
     };
     let asked = match read_wanted(alloc, words) {
         Ok(asked) => asked,
-        Err(fault) => return run_end(Some(fault), ends, sessions),
+        Err(fault) => return run_end(Some(fault), ends, sessions, Kept::new()),
     };
-    match miscounted(ends.desks.len(), ends.signers.len(), sessions.len()) {
-        Some(fault) => run_end(Some(fault), ends, sessions),
-        None => run_one(rt, alloc, asked, random, ends, sessions),
+    let (disks, signers) = (ends.desks.len(), ends.signers.len());
+    match miscounted(asked.doing, sessions.len(), disks, signers) {
+        Some(fault) => run_end(Some(fault), ends, sessions, Kept::new()),
+        None => run_wanted(rt, alloc, asked, random, ends, sessions),
     }
 }

@@ -14,17 +14,6 @@ use signer_api::Signer;
 use std::alloc::{AllocError, Global};
 use std::thread::Threads;
 
-/// The ends of a session.
-#[derive(Drop)]
-pub struct SessionEnds<S: Source, K: Sink, C: Clock> {
-    /// Where its lines come from.
-    pub source: S,
-    /// Where its replies go.
-    pub sink: K,
-    /// What its publications take the time from.
-    pub clock: C,
-}
-
 /// Serves sessions.
 pub struct Session;
 

@@ -35,9 +35,10 @@ pub(crate) fn graver(session: Option<RunFault>, export: Option<RunFault>) -> Opt
 {
     match export {
         None => session,
-        Some(fault) => match session {
-            Some(RunFault::Device) => Some(RunFault::Device),
-            _ => Some(fault),
+        Some(fault) => match (session, fault) {
+            (Some(RunFault::Device), _) => Some(RunFault::Device),
+            (Some(RunFault::Memory), RunFault::Spent { .. }) => Some(RunFault::Memory),
+            (_, fault) => Some(fault),
         },
     }
 }

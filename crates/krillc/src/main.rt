@@ -1,11 +1,13 @@
 //! `krillc`: the daemon over standard input and output, and the files of a folder.
 //!
 //! The folder `krill-data` of the working directory has a file for each desk, `desk-00` to `desk-63`, that of
-//! the press, `press`, the pipes of the signers, `signer-0.in` and `signer-0.out` to `signer-7.in` and `signer-7.out`, and `repo`,
+//! the press, `press`, the files of more sessions, `session-2.in` and `session-2.out` to `session-8.in` and
+//! `session-8.out`, the pipes of the signers, `signer-0.in` and `signer-0.out` to `signer-7.in` and `signer-7.out`, and `repo`,
 //! the folder of the files that are exported.
 #![tactic(auto)]
 
 mod clock;
+mod sessions;
 mod signers;
 mod waits;
 
@@ -16,6 +18,7 @@ use krill_top::{
     read_words, run_krill,
 };
 use outlet_api::FolderOutlet;
+use sessions::{Input, Output, Streams, open_sessions};
 use signer_api::Signer;
 use signers::{Pipes, find_signers, open_signers, rehearsal};
 use std::io::{ErrorKind, Write};
@@ -67,6 +70,10 @@ told, and the next run goes on from the last one, with its keys. Keys and signat
 signers whose pipes stand in that folder, signer-0.in and signer-0.out to signer-7.in and signer-7.out;
 where there are none, they are a rehearsal's, which no relying party accepts, and standard error says so.
 
+Where session-2.in to session-8.in stand in that folder, each is a session of its own beside standard input and
+output, served at the same time, and writes session-2.out to session-8.out. A session at a FIFO goes on when a client
+leaves it, so krillc then ends by a signal alone; one at a regular file ends where the file does.
+
 Before it reads a line, run audits what was published last: by the rules of relying parties, against what the
 signers vouch for, and against the accepted commands. audit does so too, and then writes one line on it.
 
@@ -80,17 +87,17 @@ KRILL_CLOCK_BEHIND=SECONDS lets its clock run behind by so many, 0 to 3600, so t
 clock is behind find each new edition, too.
 
 statuses:
-    0  standard input was read to its end, every line has its reply, and krill-data/repo has what was
+    0  every session was read to its end, every line has its reply, and krill-data/repo has what was
        published last
     2  the words are none of those above, a base is none, or KRILL_CLOCK_BEHIND is no such number
     3  the store is damaged, holds what is no accepted command or no edition, or what it published last
        doesn't stand: standard error says where; or it has other bases, or uses more signers than there are;
        or workload was asked for, and an authority has commands already
-    4  a device failed: standard input or output failed or is closed, a file of the store or a pipe of a
-       signer can't be opened, read or written at the start, signers are numbered with a gap, one gives
+    4  a device failed: standard input or output failed or is closed, a file of the store or of a session
+       or a pipe of a signer can't be opened, read or written at the start, signers are numbered with a gap, one gives
        no answer to `hello`, another krillc has the store, or what was published last couldn't be put
        into krill-data/repo
-    5  standard input brought 2^40 bytes, the most that a session may
+    5  a session brought 2^40 bytes, the most that one may
     6  out of memory
 ";
 
@@ -363,8 +370,34 @@ fn make_folder_locked(rt: &HostRuntime) -> Result<fs::File, io::Error> {
     Ok(folder)
 }
 
-/// Runs over standard input and output, and tells why it ended otherwise than well.
-fn run<G: Signer + Send, R: Threads + Sync>(
+/// The ends of a session, as they are handed in.
+type StreamEnds = SessionEnds<
+    StreamSource<Input>,
+    StreamSink<Output>,
+    ClockBehind<SystemClock<HostRuntime>>,
+>;
+
+/// The ends of the sessions, whose clocks are so many seconds behind. Files stand for sessions in a run alone.
+fn sessions_of(
+    rt: &HostRuntime,
+    words: &[String],
+    behind: u64,
+) -> Result<Vec<StreamEnds>, DiskStop> {
+    let opened = open_sessions(rt, asked_for(words) == Some(Doing::Run))?;
+    let mut sessions = Vec::with_capacity(rt.alloc(), opened.len())?;
+    for streams in opened {
+        let Streams { input, output } = streams;
+        sessions.push(SessionEnds {
+            source: StreamSource::new(input),
+            sink: StreamSink::new(output),
+            clock: ClockBehind::new(SystemClock::new(*rt), behind),
+        })?;
+    }
+    Ok(sessions)
+}
+
+/// Runs over the sessions, and tells why it ended otherwise than well.
+fn run<G: Signer + Send, R: Threads + Wait + Sync>(
     rt: &HostRuntime,
     handle: &R,
     words: &[String],
@@ -376,13 +409,9 @@ fn run<G: Signer + Send, R: Threads + Sync>(
         Err(ClockFault::Value) => return refused_clock(rt),
         Err(ClockFault::Memory) => return refused(rt, RunFault::Memory),
     };
-    let session = SessionEnds {
-        source: StreamSource::new(rt.stdin()),
-        sink: StreamSink::new(rt.stdout()),
-        clock: ClockBehind::new(SystemClock::new(*rt), behind),
-    };
-    let Ok(sessions) = vec![in rt.alloc(); session] else {
-        return refused(rt, RunFault::Memory);
+    let sessions = match sessions_of(rt, words, behind) {
+        Ok(sessions) => sessions,
+        Err(stop) => return refused(rt, fault_of(stop)),
     };
     let (random, outlet) = match open_repository(rt) {
         Ok(opened) => opened,
@@ -405,6 +434,7 @@ fn run<G: Signer + Send, R: Threads + Sync>(
         fault,
         ends: _ends,
         sessions: _sessions,
+        kept: _kept,
     } = end;
     match fault {
         None => ExitCode::from(status),

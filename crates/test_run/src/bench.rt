@@ -9,6 +9,7 @@ use outlet_api::MemoryOutlet;
 use sha2::{Digest, Sha256};
 use signer_api::{MemorySigner, Rehearsal, Signer};
 use std::alloc::Global;
+use std::sync::Wait;
 use std::thread::Threads;
 
 type Session = SessionEnds<MemorySource, MemorySink, ListClock>;
@@ -27,6 +28,8 @@ pub struct Bench {
     random: [u8; 32],
     clock: Vec<u64>,
     sessions: u32,
+    /// The inputs of the first sessions, and that of the next one and of all behind it.
+    earlier: Vec<Vec<u8>>,
     input: Vec<u8>,
     piece: usize,
     source_fails: Vec<u64>,
@@ -48,6 +51,7 @@ impl Bench {
             random: [0; 32],
             clock: Vec::new(alloc),
             sessions: 1,
+            earlier: Vec::new(alloc),
             input: Vec::new(alloc),
             piece: usize::MAX,
             source_fails: Vec::new(alloc),
@@ -212,12 +216,26 @@ impl Bench {
         Ok(self.input.extend_from_slice(bytes)?)
     }
 
-    /// The ends of a session over the input.
-    fn session(&self, alloc: Global) -> Result<Session> {
+    /// What is added from now on is the input of the next session, and of those behind it.
+    pub fn begin_input(&mut self, alloc: Global) -> Result<()> {
+        let input = std::mem::replace(&mut self.input, Vec::new(alloc));
+        Ok(self.earlier.push(input)?)
+    }
+
+    /// The input of the session of that number, from 0 on.
+    fn input_of(&self, number: usize) -> &[u8] {
+        match self.earlier.as_slice().get(number) {
+            Some(input) => input.as_slice(),
+            None => self.input.as_slice(),
+        }
+    }
+
+    /// The ends of a session over this input.
+    fn session(&self, alloc: Global, input: &[u8]) -> Result<Session> {
         if self.piece == 0 {
             bail!("pieces without a byte");
         }
-        let input = self.input.as_slice().to_vec(alloc)?;
+        let input = input.to_vec(alloc)?;
         let source_fails = self.source_fails.as_slice().to_vec(alloc)?;
         let sink_fails = self.sink_fails.as_slice().to_vec(alloc)?;
         Ok(SessionEnds {
@@ -230,15 +248,15 @@ impl Bench {
     /// The sessions that are handed in.
     fn all_sessions(&self, alloc: Global) -> Result<Vec<Session>> {
         let mut sessions = Vec::new(alloc);
-        for _ in 0..self.sessions {
-            sessions.push(self.session(alloc)?)?;
+        for number in 0..self.sessions as usize {
+            sessions.push(self.session(alloc, self.input_of(number))?)?;
         }
         Ok(sessions)
     }
 
     /// Runs with the signers, all of one kind, and keeps the disks and the signers as they are left. The
     /// input is used up.
-    pub fn run<R: Threads + Sync>(&mut self, rt: &R, alloc: Global) -> Result<()> {
+    pub fn run<R: Threads + Wait + Sync>(&mut self, rt: &R, alloc: Global) -> Result<()> {
         if self.memory_signers.is_empty() {
             let signers = std::mem::replace(&mut self.rehearsals, Vec::new(alloc));
             self.rehearsals = self.run_with(rt, alloc, signers)?;
@@ -251,13 +269,14 @@ impl Bench {
         Ok(())
     }
 
-    fn run_with<G: Signer + Send, R: Threads + Sync>(
+    fn run_with<G: Signer + Send, R: Threads + Wait + Sync>(
         &mut self,
         rt: &R,
         alloc: Global,
         signers: Vec<G>,
     ) -> Result<Vec<G>> {
         let sessions = self.all_sessions(alloc)?;
+        self.earlier.clear();
         self.input.clear();
         let disks = std::mem::replace(&mut self.disks, Vec::new(alloc));
         let outlet = std::mem::replace(&mut self.outlet, MemoryOutlet::new(alloc, Vec::new(alloc)));
@@ -285,6 +304,7 @@ impl Bench {
             fault,
             ends,
             sessions,
+            kept: _kept,
         } = end;
         let Ends {
             desks,

@@ -11,6 +11,7 @@ mod steps;
 
 use anyhow::{Context, Result};
 use bench::Bench;
+use std::sync::Wait;
 use std::thread::Threads;
 
 fn main(rt: HostRuntime) -> Result<()> {
@@ -20,7 +21,7 @@ fn main(rt: HostRuntime) -> Result<()> {
     Ok(())
 }
 
-fn print_case<R: Threads + Sync>(rt: &HostRuntime, handle: &R, line: &str) -> Result<()> {
+fn print_case<R: Threads + Wait + Sync>(rt: &HostRuntime, handle: &R, line: &str) -> Result<()> {
     let (name, steps) = line.split_once('\t').context("a case without steps")?;
     let mut bench = Bench::new(rt.alloc())?;
     for step in steps.split('\t') {

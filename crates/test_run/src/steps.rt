@@ -4,11 +4,17 @@ use crate::bench::Bench;
 use anyhow::{Context, Result, bail};
 use krill_top::RunFault;
 use std::alloc::Global;
+use std::sync::Wait;
 use std::thread::Threads;
 use test_support::{fixed_of, numbers_of};
 
 /// Takes a step: a word, and behind a blank what goes with it.
-pub fn take<R: Threads + Sync>(rt: &R, alloc: Global, bench: &mut Bench, step: &str) -> Result<()> {
+pub fn take<R: Threads + Wait + Sync>(
+    rt: &R,
+    alloc: Global,
+    bench: &mut Bench,
+    step: &str,
+) -> Result<()> {
     let (word, text) = step.split_once(' ').unwrap_or((step, ""));
     match word {
         // What is handed in.
@@ -22,7 +28,7 @@ pub fn take<R: Threads + Sync>(rt: &R, alloc: Global, bench: &mut Bench, step: &
     }
 }
 
-fn take_store_step<R: Threads + Sync>(
+fn take_store_step<R: Threads + Wait + Sync>(
     rt: &R,
     alloc: Global,
     bench: &mut Bench,
@@ -55,7 +61,7 @@ fn take_store_step<R: Threads + Sync>(
     }
 }
 
-fn take_signer_step<R: Threads + Sync>(
+fn take_signer_step<R: Threads + Wait + Sync>(
     rt: &R,
     alloc: Global,
     bench: &mut Bench,
@@ -77,7 +83,7 @@ fn take_signer_step<R: Threads + Sync>(
     }
 }
 
-fn take_session_step<R: Threads + Sync>(
+fn take_session_step<R: Threads + Wait + Sync>(
     rt: &R,
     alloc: Global,
     bench: &mut Bench,
@@ -88,6 +94,7 @@ fn take_session_step<R: Threads + Sync>(
         "outlet" => bench.set_outlet(alloc, numbers_of(alloc, text, ' ')?),
         "random" => bench.set_random(fixed_of(alloc, text)?),
         "sessions" => bench.set_sessions(text.parse::<u32>()?),
+        "next" => bench.begin_input(alloc)?,
         "pieces" => bench.set_piece(text.parse::<usize>()?),
         "source" => bench.set_source_fails(numbers_of(alloc, text, ' ')?),
         "sink" => bench.set_sink_fails(numbers_of(alloc, text, ' ')?),
@@ -101,7 +108,7 @@ fn take_session_step<R: Threads + Sync>(
     Ok(())
 }
 
-fn take_run_step<R: Threads + Sync>(
+fn take_run_step<R: Threads + Wait + Sync>(
     rt: &R,
     alloc: Global,
     bench: &mut Bench,

@@ -16,7 +16,10 @@ use Rattle.krill_top.specs.InstanceState.{InstanceState, IsCoherentIn, store_in}
 use Rattle.krill_top.specs.DesksInStates.{AreIn}
 use Rattle.krill_top.specs.PressDisk.{AreBegun}
 use Rattle.krill_top.specs.Run.{Opens, given_with, signers_needed}
-use Rattle.krill_top.specs.inner.Instances.{IsInState}
+use Rattle.krill_top.specs.inner.Instances.{InstanceValue, IsInState, stored_in}
+use Rattle.manager.specs.Pressing.{exported_as}
+use Rattle.manager.specs.Ready.{ShowsItsLast}
+use Rattle.manager.specs.Resumed.{IsResumed}
 use Rattle.krill_top.specs.inner.Opened.{AreOpened}
 use Rattle.krill_top.specs.inner.PressOpened.{IsOpenedPress}
 
@@ -58,6 +61,16 @@ pub record IsReadyFor {D G O : Type 0} (disk_of : DiskGhosts D) (state_of : G �
 
 -- ---- an instance that was started
 
+-- Its press goes on behind what was loaded of its disk, which the state's editions left, but that the last
+-- one may have been exported; and whichever editions left it, the outlet shows the last one then.
+pub record IsResumedIn {D O : Type 0} (outlet_of : OutletGhosts O) (instance : InstanceValue D O)
+    (begun : InstanceState) : Type 0 where
+  pub first : StoredValue D
+  pub is : IsResumed instance.desks first
+  pub editions : is.editions ≡ begun.editions
+  pub press : stored_in instance ≡ exported_as instance.press.last_export first
+  pub shows : ShowsItsLast outlet_of (stored_in instance) instance.outlet
+
 -- With the desks as they were found.
 pub record IsStartedIn {D G O : Type 0} (disk_of : DiskGhosts D) (state_of : G → SignerState)
     (outlet_of : OutletGhosts O) (site : Bases) (session : List ℕ) (ends : Ends D G O)
@@ -67,6 +80,7 @@ pub record IsStartedIn {D G O : Type 0} (disk_of : DiskGhosts D) (state_of : G �
   pub same : begun.desk_states ≡ found
   pub opens : Opens disk_of state_of outlet_of site ends opened begun started.summary
   pub stands : IsInState outlet_of started.instance begun
+  pub resumed : IsResumedIn outlet_of started.instance begun
   pub press : IsPressFound disk_of session ends.press started.instance.journal.disk begun
   pub coherent : IsCoherentIn opened → IsCoherentIn begun
 

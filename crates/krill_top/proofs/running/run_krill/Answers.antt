@@ -1,7 +1,6 @@
 use Rattle.std.specs.declared.alloc.Global.{Global}
-use Rattle.std.proofs.Common.{◌≡◌, ◌∙◌, ℕ, Bool, true, false, List, [], ◌∷◌, length, rules, sym, ap, refl, subst, inl, inr, arith}
-use Rattle.std.specs.Prelude.{Option, Some, None, String, Vec, vec_len, not, ◌==◌, if◌then◌else◌}
-use Rattle.std.proofs.lemmas.Bool.{eqb-true}
+use Rattle.std.proofs.Common.{◌≡◌, ◌∙◌, ℕ, List, length, rules, sym, ap, refl, subst, inl, inr}
+use Rattle.std.specs.Prelude.{Option, Some, None, String, Vec, vec_len}
 use Rattle.key_ids.specs.Base.{IsBase, rsync_scheme, https_scheme}
 use Rattle.key_ids.specs.Uris.{Bases}
 use Rattle.key_ids.specs.declared.site.SiteFault.TheVariants as site
@@ -12,7 +11,8 @@ use Rattle.krill_top.specs.declared.words.Doing.{Doing}
 use Rattle.krill_top.specs.Session.{session_of}
 use Rattle.krill_top.specs.Statuses.{fault_status}
 use Rattle.krill_top.specs.Words.{AskedValue, asked_of, bases_of}
-use Rattle.krill_top.specs.Run.{AreBases, AreRefusedBases, IsUnwanted, IsRefusedAtOpening, Does, RunsBy, ends_of, miscounted}
+use Rattle.krill_top.specs.Run.{AreBases, AreRefusedBases, IsUnwanted, IsRefusedAtOpening, ends_of, miscounted, or_else, wrong_devices, wrong_sessions}
+use Rattle.krill_top.specs.Runs.{Does, RunsBy}
 use Rattle.krill_top.proofs.running.run_krill.Goals as goal
 
 -- ---- why nothing is done
@@ -83,20 +83,19 @@ returns-in-Err-clause-asked g c asked is good =
 
 -- ---- what is done
 
-alone : {A : Type 0} (xs : List A) → length xs ≡ 1 → (x : A) × (xs ≡ x ∷ [])
-alone [] one = absurd (omega arith)
-alone (x ∷ []) one = (x, refl)
-alone (x ∷ y ∷ xs) one = absurd (omega arith)
-
-right_first : (b : Bool) (fault : RunFault) (rest : Option RunFault) → (if not b then Some fault else rest) ≡ None → b ≡ true
-right_first true fault rest is = refl
-right_first false fault rest is = absurd (cc)
-
 as_long : {X Z : Type 0} (v : Vec X Z) → vec_len v ≡ length v.items
 as_long v = search rules
 
-one_session : (sessions disks signers : ℕ) → miscounted sessions disks signers ≡ None → sessions ≡ 1
-one_session sessions disks signers is = eqb-true sessions 1 (right_first (sessions == 1) _ _ is)
+first_none : (one other : Option RunFault) → or_else one other ≡ None → one ≡ None
+first_none None other is = refl
+first_none (Some fault) other is = absurd (cc)
+
+pub run_wanted-requires-clause-sessions : goal.run_wanted-requires-clause-sessions
+run_wanted-requires-clause-sessions g c = λ lifetimes lives.
+    let sessions = length c.args.sessions.items in
+    let none : miscounted c.in-Ok.asked.doing sessions c.len-disks.result c.len-signers.result ≡ None =
+    ap (λ (n : ℕ). miscounted c.in-Ok.asked.doing n c.len-disks.result c.len-signers.result) (sym (c.len.ensures ∙ as_long c.args.sessions)) ∙ sym c.miscounted.ensures ∙ c.in-None.is in
+    first_none (wrong_sessions c.in-Ok.asked.doing sessions) (wrong_devices c.len-disks.result c.len-signers.result) none
 
 pub returns-in-None-clause-asked : goal.returns-in-None-clause-asked
 returns-in-None-clause-asked g c asked is bases =
@@ -106,17 +105,13 @@ returns-in-None-clause-asked g c asked is bases =
     let same : told.0 ≡ asked = some_is told.0 asked (sym told.1 ∙ is) in
     let doing : c.in-Ok.asked.doing ≡ asked.doing = told.2 ∙ ap (λ (a : AskedValue). a.doing) same in
     let site : c.in-Ok.asked.site ≡ bases_of asked = told.3 ∙ ap bases_of same in
-    let none : miscounted (length sessions) (length c.args.desks.items) (length c.args.signers.items) ≡ None =
-    (λ i. miscounted (sym (c.len-3.ensures ∙ as_long c.args.sessions) i) (sym (c.len.ensures ∙ as_long c.args.desks) i) (sym (c.len-2.ensures ∙ as_long c.args.signers) i))
+    let none : miscounted asked.doing (length sessions) (length c.args.desks.items) (length c.args.signers.items) ≡ None =
+    (λ i. miscounted (sym doing i) (sym (c.len.ensures ∙ as_long c.args.sessions) i) (sym (c.len-disks.ensures ∙ as_long c.args.desks) i) (sym (c.len-signers.ensures ∙ as_long c.args.signers) i))
     ∙ sym c.miscounted.ensures ∙ c.in-None.is in
-    let one = alone sessions (one_session (length sessions) (length c.args.desks.items) (length c.args.signers.items) none) in
-    inr (subst (λ (count : Option RunFault). RunsBy g.D.Disk g.G.Signer.state g.O.Outlet g.S.Source g.K.Sink g.C.Clock asked c.args.random ends sessions c.run_one.result count) (sym none)
-    (elim (c.run_one.ensures one.0 one.1) [
-      | inl refused ↦ inl (subst (λ (s : Bases). IsRefusedAtOpening g.D.Disk g.G.Signer.state g.O.Outlet s (session_of c.args.random) ends sessions c.run_one.result) site refused)
-      | inr does ↦ inr (
-        one.0,
-        one.1,
-        subst (λ (s : Bases). Does g.D.Disk g.G.Signer.state g.O.Outlet g.S.Source g.K.Sink g.C.Clock asked.doing s c.args.random ends one.0 c.run_one.result) site
-            (subst (λ (d : Doing). Does g.D.Disk g.G.Signer.state g.O.Outlet g.S.Source g.K.Sink g.C.Clock d c.in-Ok.asked.site c.args.random ends one.0 c.run_one.result) doing does),
-      )
+    let run = c.run_wanted.result in
+    inr (subst (λ (count : Option RunFault). RunsBy g.D.Disk g.G.Signer.state g.O.Outlet g.S.Source g.K.Sink g.C.Clock asked c.args.random ends sessions run count) (sym none)
+    (elim c.run_wanted.ensures [
+      | inl refused ↦ inl (subst (λ (s : Bases). IsRefusedAtOpening g.D.Disk g.G.Signer.state g.O.Outlet s (session_of c.args.random) ends sessions run) site refused)
+      | inr does ↦ inr (subst (λ (s : Bases). Does g.D.Disk g.G.Signer.state g.O.Outlet g.S.Source g.K.Sink g.C.Clock asked.doing s c.args.random ends sessions run) site
+          (subst (λ (d : Doing). Does g.D.Disk g.G.Signer.state g.O.Outlet g.S.Source g.K.Sink g.C.Clock d c.in-Ok.asked.site c.args.random ends sessions run) doing does))
     ]))

@@ -2,13 +2,14 @@ use Rattle.std.proofs.Common.{◌≡◌, [], ◌∷◌, List, map, sym, ◌∙�
 use Rattle.std.specs.Prelude.{Option}
 use Rattle.krill_top.specs.declared.faults.RunFault.{RunFault}
 use Rattle.krill_top.specs.declared.ends.Ends.{Ends}
-use Rattle.krill_top.specs.declared.serving.SessionEnds.{SessionEnds}
+use Rattle.session_lines.specs.declared.running.SessionEnds.{SessionEnds}
 use Rattle.krill_top.specs.Statuses.{run_status, graver, end_fault}
 use Rattle.krill_top.specs.Sessions.{Served}
 use Rattle.krill_top.specs.inner.Opened.{AreClosed}
 use Rattle.krill_top.specs.inner.Instances.{InstanceValue, TimedInstance}
 use Rattle.krill_top.specs.inner.Handlers.{timed}
 use Rattle.krill_top.specs.Run.{ServesOne, streams_of}
+use Rattle.krill_top.proofs.RunHistories.{HistoryLaws}
 use Rattle.krill_top.proofs.Served.{serves}
 use Rattle.krill_top.proofs.running.serve_one.Goals as goal
 
@@ -24,6 +25,7 @@ returns g c bases random ends before started one =
     let taken = only_one first before c.take_first-source.new.list.items (sym one ∙ c.take_first-source.ensures.items) in
     let after : Session = record { source = c.serve-ended.new.source; sink = c.serve-ended.new.sink; clock = c.into_parts-instance.result.1 } in
     let run = c.run_end.result in
+    let histories : HistoryLaws = record { work = c.what_was_done_goes_on.ensures; reopen = c.legal_histories_go_on.ensures.reopenings; steps = c.headline.ensures.steps; stay = c.steps_stay_steps.ensures.all } in
     let served : InstanceValue D g.row.O.Denot = c.into_parts-instance.result.0 in
     let closed : InstanceValue D g.row.O.Denot = c.repeat_export-closing.new.self in
     let begins : timed g.C.Clock c.new-handler.result ≡ record { instance = c.args.started.instance; clock = g.C.Clock.readings first.clock } =
@@ -36,7 +38,7 @@ returns g c bases random ends before started one =
     let fault : c.graver-fault.result ≡ end_fault c.serve-ended.result c.repeat_export-closing.result =
     c.graver-fault.ensures ∙ ap (λ (s : Option RunFault). graver s c.export_fault.result) c.fault_of.ensures ∙ ap (graver _) c.export_fault.ensures in
     subst (λ (b : Session). ServesOne g.D.Disk g.G.Signer.state g.O.Outlet g.S.Source g.K.Sink g.C.Clock bases random ends b run) taken.0
-    (serves g.D.Disk g.G.Signer.state g.O.Outlet g.S.Source g.K.Sink g.C.Clock c.more_editions_stay_shown.ensures.newest c.edition_records_go_on.ensures bases random ends first after c.serve-ended.result c.repeat_export-closing.result
+    (serves g.D.Disk g.G.Signer.state g.O.Outlet g.S.Source g.K.Sink g.C.Clock c.more_editions_stay_shown.ensures.newest c.edition_records_go_on.ensures histories bases random ends first after c.serve-ended.result c.repeat_export-closing.result
     run c.args.started served closed started session c.repeat_export-closing.ensures.moves
     (record {
       desks = subst (λ (e : Ends D g.row.G.Denot g.row.O.Denot). AreClosed g.D.Disk closed.desks e.desks.items) (sym c.run_end.ensures.ends) c.stop.ensures.desks;

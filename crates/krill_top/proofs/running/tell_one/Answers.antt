@@ -2,7 +2,7 @@ use Rattle.std.proofs.Common.{◌≡◌, [], ◌∷◌, List, map, sym, refl, �
 use Rattle.std.specs.Prelude.{Option}
 use Rattle.krill_top.specs.declared.faults.RunFault.{RunFault}
 use Rattle.krill_top.specs.declared.ends.Ends.{Ends}
-use Rattle.krill_top.specs.declared.serving.SessionEnds.{SessionEnds}
+use Rattle.session_lines.specs.declared.running.SessionEnds.{SessionEnds}
 use Rattle.krill_top.specs.Statuses.{run_status}
 use Rattle.krill_top.specs.Summaries.{summary_line}
 use Rattle.krill_top.specs.inner.Opened.{AreClosed}

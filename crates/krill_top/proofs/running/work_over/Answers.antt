@@ -1,12 +1,13 @@
 use Rattle.std.proofs.Common.{◌≡◌, [], ◌∷◌, List, map, sym, refl, ◌∙◌, ap, subst}
 use Rattle.krill_top.specs.declared.ends.Ends.{Ends}
-use Rattle.krill_top.specs.declared.serving.SessionEnds.{SessionEnds}
+use Rattle.session_lines.specs.declared.running.SessionEnds.{SessionEnds}
 use Rattle.krill_top.specs.Statuses.{run_status}
 use Rattle.krill_top.specs.Working.{Works}
 use Rattle.krill_top.specs.inner.Opened.{AreClosed}
 use Rattle.krill_top.specs.inner.Instances.{InstanceValue, TimedInstance, MovesTimed}
 use Rattle.krill_top.specs.inner.Handlers.{timed, worked}
 use Rattle.krill_top.specs.Run.{WorksOne}
+use Rattle.krill_top.proofs.RunHistories.{HistoryLaws}
 use Rattle.krill_top.proofs.Served.{works_one}
 use Rattle.krill_top.proofs.running.work_over.Goals as goal
 
@@ -22,6 +23,7 @@ returns g c bases random ends before started one =
     let taken = only_one first before c.take_first-source.new.list.items (sym one ∙ c.take_first-source.ensures.items) in
     let after : Session = record { source = first.source; sink = c.work-worked.new.sink; clock = c.into_parts-instance.result.1 } in
     let run = c.run_end.result in
+    let histories : HistoryLaws = record { work = c.what_was_done_goes_on.ensures; reopen = c.legal_histories_go_on.ensures.reopenings; steps = c.headline.ensures.steps; stay = c.steps_stay_steps.ensures.all } in
     let closed : InstanceValue D g.row.O.Denot = c.into_parts-instance.result.0 in
     let worked_so : TimedInstance D g.row.O.Denot → TimedInstance D g.row.O.Denot → Type 0 =
     (λ old new. MovesTimed g.D.Disk g.O.Outlet (λ b a. Works g.K.Sink c.args.authorities c.work-worked.result (worked first.sink b) (worked after.sink a)) old new) in
@@ -33,7 +35,7 @@ returns g c bases random ends before started one =
     subst (λ (t : TimedInstance D g.row.O.Denot). worked_so t (record { instance = closed; clock = g.C.Clock.readings after.clock })) begins
     (subst (λ (t : TimedInstance D g.row.O.Denot). worked_so (timed g.C.Clock c.new-handler.result) t) timed_ends c.work-worked.ensures) in
     subst (λ (b : Session). WorksOne g.D.Disk g.G.Signer.state g.O.Outlet g.K.Sink g.C.Clock c.args.authorities bases random ends b run) taken.0
-    (works_one g.D.Disk g.G.Signer.state g.O.Outlet g.S.Source g.K.Sink g.C.Clock c.more_editions_stay_shown.ensures.newest c.edition_records_go_on.ensures c.args.authorities bases random ends first after c.work-worked.result
+    (works_one g.D.Disk g.G.Signer.state g.O.Outlet g.S.Source g.K.Sink g.C.Clock c.more_editions_stay_shown.ensures.newest c.edition_records_go_on.ensures histories c.args.authorities bases random ends first after c.work-worked.result
     run c.args.started closed started c.requires.none works
     (record {
       handed_back = record {

@@ -1,0 +1,140 @@
+-- The journals have room for what they hold and for what is in doubt, behind a legal history that left what
+-- was found.
+use Rattle.std.proofs.Common.{◌≡◌, ◌≢◌, ◌<◌, ◌≤◌, ℕ, zero, suc, List, [], ◌∷◌, ◌++◌, map, length, get_or, replicate, refl, sym, ap, ◌∙◌, subst, arith, inl, inr, append-nil}
+use Rattle.std.specs.Prelude.{◌⊎◌, Option, None, Some, IfSome, All}
+use Rattle.std.proofs.lemmas.List.Elements.{All-nil, All-cons, All-append}
+use Rattle.authority_book.specs.declared.commands.Command.{Command}
+use Rattle.authority_book.specs.Verdict.{most_authorities}
+use Rattle.gate_journal.specs.Format.{held_by}
+use Rattle.key_ids.specs.Uris.{Bases}
+use Rattle.signer_api.specs.State.{SignerState}
+use Rattle.signer_ring.specs.Calls.{Call}
+use Rattle.pub_set.specs.declared.steps.Change.{Change}
+use Rattle.pub_set.specs.declared.steps.Change.TheVariants.{Put, Withdraw}
+use Rattle.editions.specs.Edition.{Edition}
+use Rattle.editions.specs.PlannedAndMade.{CanBeRead}
+use Rattle.editions.specs.PublishedState.{PublishedStateValue}
+use Rattle.press_core.specs.Follows.{edition_of}
+use Rattle.press_core.specs.JournalRecords.{AreRecords, press_limit, store_for}
+use Rattle.press_core.specs.Stands.{IsLeftBy}
+use Rattle.histories.specs.Acknowledged.{Acknowledged, acknowledged, commands_of, editions_of}
+use Rattle.histories.specs.Devices.{Signature}
+use Rattle.histories.specs.Events.{History}
+use Rattle.histories.specs.Events.Event.{Reopen}
+use Rattle.histories.specs.Found.{AreFoundAfter}
+use Rattle.histories.specs.Legal.{IsLegal, IsOfBytes, bytes_for, most_bytes, press_bytes_for}
+use Rattle.manager.specs.Closing.{doubted_edition}
+use Rattle.manager.specs.Locked.{IsInDoubt, all_of}
+use Rattle.manager.specs.Named.{Named}
+use Rattle.manager.specs.Run.{Stood, editions_of as made_in, AreAfter}
+use Rattle.krill_top.specs.DeskStates.{DeskStates, commands_at}
+use Rattle.krill_top.specs.Histories.{MayFind, and_doubt}
+use Rattle.krill_top.specs.InstanceState.{InstanceState, lists_of}
+use Rattle.krill_top.proofs.PressServed.{RecordsLaw}
+use Rattle.krill_top.proofs.RunHistories.{ReopenLaw, told_on}
+
+-- ---- laws
+
+abbrev pub LimitLaw : Type 0
+LimitLaw = (site : Bases) (history : History) (desk : ℕ) → IsLegal site history → bytes_for (commands_of history desk) ≤ most_bytes
+
+abbrev pub PressLimitLaw : Type 0
+PressLimitLaw = (site : Bases) (history : History) → IsLegal site history → editions_of history ≢ [] → press_bytes_for site (editions_of history) ≤ press_limit
+
+abbrev pub AreOfBytes : Edition → Type 0
+AreOfBytes edition = All IsOfBytes edition.changes
+
+abbrev pub BytesLaw : Type 0
+BytesLaw = (site : Bases) (history : History) → IsLegal site history → All AreOfBytes (editions_of history)
+
+abbrev pub TakesLaw : Type 0
+TakesLaw = (session : List ℕ) (site : Bases) (editions : List Edition) (records : List (List ℕ)) → AreRecords (store_for session site) editions records
+    → held_by records ≡ press_bytes_for site editions
+
+pub record RoomLaws : Type 0 where
+  pub reopen : ReopenLaw
+  pub limits : LimitLaw
+  pub press_limits : PressLimitLaw
+  pub bytes : BytesLaw
+  pub takes : TakesLaw
+  pub records : RecordsLaw
+
+-- ---- what was found
+
+module _ (laws : RoomLaws) (history : History) (begun : InstanceState) (find : MayFind history begun) where
+  abbrev reopened : History
+  reopened = history ++ record { signed = []; event = Reopen (lists_of begun.desk_states) begun.editions } ∷ []
+
+  abbrev first_told : Acknowledged
+  first_told = record { commands = replicate most_authorities []; editions = [] }
+
+  told : acknowledged reopened ≡ record { commands = lists_of begun.desk_states; editions = begun.editions }
+  told = told_on first_told history (record { signed = []; event = Reopen (lists_of begun.desk_states) begun.editions } ∷ [])
+
+  legal : IsLegal begun.site reopened
+  legal = laws.reopen begun.site history [] (lists_of begun.desk_states) begun.editions find.legal find.found
+
+  got_commands : (states : DeskStates) (desk : ℕ) → get_or (lists_of states) desk [] ≡ commands_at states desk
+  got_commands [] desk = refl
+  got_commands (state ∷ states) zero = refl
+  got_commands (state ∷ states) (suc desk) = got_commands states desk
+
+  pub found_fits : (desk : ℕ) → bytes_for (commands_at begun.desk_states desk) ≤ most_bytes
+  found_fits desk =
+      let same : commands_of reopened desk ≡ commands_at begun.desk_states desk = ap (λ (a : Acknowledged). get_or a.commands desk []) told ∙ got_commands begun.desk_states desk in
+      subst (λ (l : List Command). bytes_for l ≤ most_bytes) same (laws.limits begun.site reopened desk legal)
+
+  pub found_press : begun.editions ≢ [] → press_bytes_for begun.site begun.editions ≤ press_limit
+  found_press some =
+      let same : editions_of reopened ≡ begun.editions = ap (λ (a : Acknowledged). a.editions) told in
+      subst (λ (l : List Edition). press_bytes_for begun.site l ≤ press_limit) same (laws.press_limits begun.site reopened legal (λ none. some (sym same ∙ none)))
+
+  pub found_bytes : All AreOfBytes begun.editions
+  found_bytes = subst (λ (l : List Edition). All AreOfBytes l) (ap (λ (a : Acknowledged). a.editions) told) (laws.bytes begun.site reopened legal)
+
+-- ---- the press
+
+module _ (laws : RoomLaws) (named : Named) (editions : List Edition) (lists : List (List Command)) (run : List Stood) (calls : List Call) (ring : List SignerState) (at : PublishedStateValue)
+    (session : List ℕ) (site : Bases) where
+  abbrev all : List Edition
+  all = all_of editions run
+
+  abbrev doubted : (doubt : Option (List ℕ)) → IfSome doubt (IsInDoubt named editions lists run calls ring at) → Option Edition
+  doubted = doubted_edition named editions lists run calls ring at
+
+  pub press_room : (records : Option (List (List ℕ))) → IfSome records (AreRecords (store_for session site) all) → IsLeftBy lists all at
+      → (run ≡ []) ⊎ IfSome records (λ r. held_by r ≤ press_limit) → (doubt : Option (List ℕ)) (is : IfSome doubt (IsInDoubt named editions lists run calls ring at))
+      → IfSome doubt (λ entry. IfSome records (λ r. held_by (r ++ entry ∷ []) ≤ press_limit)) → (editions ≢ [] → press_bytes_for site editions ≤ press_limit)
+      → (records ≡ None → and_doubt all (doubted doubt is) ≢ [] → press_bytes_for site (and_doubt all (doubted doubt is)) ≤ press_limit)
+      → and_doubt all (doubted doubt is) ≢ [] → press_bytes_for site (and_doubt all (doubted doubt is)) ≤ press_limit
+  press_room None are left room doubt is fits small unknown some = unknown refl some
+  press_room (Some records) are left (inl none) None is fits small unknown some =
+      let same : all ≡ editions = ap (λ (r : List Stood). editions ++ made_in r) none ∙ append-nil editions in
+      subst (λ (l : List Edition). press_bytes_for site l ≤ press_limit) (sym same) (small (λ e. some (same ∙ e)))
+  press_room (Some records) are left (inr whole) None is fits small unknown some = subst (λ (n : ℕ). n ≤ press_limit) (laws.takes session site all records are) whole
+  press_room (Some records) are left room (Some entry) is fits small unknown some =
+      subst (λ (n : ℕ). n ≤ press_limit)
+      (laws.takes session site (all ++ edition_of is.prepared ∷ []) (records ++ entry ∷ [])
+      (laws.records lists all at is.prepared (store_for session site) records entry left are is.recorded)) fits
+
+  -- what is put
+
+  read_bytes : (change : Change) → CanBeRead change → IsOfBytes change
+  read_bytes (Put uri bytes replaces) is = is.bytes
+  read_bytes (Withdraw uri hash) is = tt
+
+  read_all : (changes : List Change) → All CanBeRead changes → All IsOfBytes changes
+  read_all changes are k d within = read_bytes (get_or changes k d) (are k d within)
+
+  run_bytes : (before : List Edition) (stood : List Stood) → AreAfter lists before stood → All AreOfBytes (made_in stood)
+  run_bytes before [] after = All-nil AreOfBytes
+  run_bytes before (one ∷ stood) after = All-cons AreOfBytes one.edition (made_in stood) (read_all one.edition.changes after.0.readable) (run_bytes (before ++ one.edition ∷ []) stood after.1)
+
+  doubt_bytes : All AreOfBytes all → (doubt : Option (List ℕ)) (is : IfSome doubt (IsInDoubt named editions lists run calls ring at)) → All AreOfBytes (and_doubt all (doubted doubt is))
+  doubt_bytes are None is = are
+  doubt_bytes are (Some entry) is = All-append AreOfBytes all (edition_of is.prepared ∷ []) are
+      (All-cons AreOfBytes (edition_of is.prepared) [] (read_all is.prepared.changes is.readable) (All-nil AreOfBytes))
+
+  pub made_bytes : All AreOfBytes editions → AreAfter lists editions run → (doubt : Option (List ℕ)) (is : IfSome doubt (IsInDoubt named editions lists run calls ring at))
+      → All AreOfBytes (and_doubt all (doubted doubt is))
+  made_bytes found after doubt is = doubt_bytes (All-append AreOfBytes editions (made_in run) found (run_bytes editions run after)) doubt is
