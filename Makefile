@@ -25,7 +25,7 @@ test:
 	bash .ci/run
 
 bench:
-	@status=0; for it in lines sets der commits reopen published objects rrdp export tree audit board make editions publish side signer; do \
+	@status=0; for it in lines sets der commits reopen published objects rrdp export tree audit board make editions publish side signer sessions; do \
 	    echo "bench/$$it"; python3 "bench/$$it" || status=1; \
 	done; exit $$status
 

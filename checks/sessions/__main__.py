@@ -1,0 +1,43 @@
+"""Sessions over one store, by a judge from outside (judge.py).
+
+First the judge is tried: it finds nothing in runs of a program that is right, which is played (played.py), and each fault
+that is planted in them, and each program that is made wrong (planted.py). Then krillc is tried: what stands in a session's
+place, and what clients do (ends.py); and sessions of random lines at files and FIFOs, with publications, kills and
+reopenings (trials.py).
+
+Usage: python3 checks/sessions TURNS PROGRAM, in a scratch folder. '-' stands for a program that isn't there."""
+import random, sys
+
+# The folder stays as it is.
+sys.dont_write_bytecode = True
+
+from parts import KRILLC, SEED, TURNS, fail, numbers_of_files
+import planted
+
+# Runs of the judge's trials, by their seeds.
+RIGHT, PLANTED, WRONG = range(8), range(100, 106), range(200, 204)
+
+
+def try_judge():
+    missed, told = planted.try_right(RIGHT)
+    missed += planted.try_faults(random.Random(SEED), PLANTED)
+    missed += planted.try_programs(WRONG)
+    for it in missed:
+        print(f"checks/sessions: the judge: {it}")
+    if missed:
+        fail("the judge isn't to be trusted")
+    return f"the judge found nothing in {told}, and {len(planted.FAULTS)} faults and {len(planted.PROGRAMS)} wrong programs"
+
+
+def main():
+    told = try_judge()
+    if KRILLC is None or not numbers_of_files():
+        why = "isn't built" if KRILLC is None else "has one session alone, by its --help"
+        print(f"checks/sessions: krillc {why}: it isn't tried; {told}")
+        return
+    import ends, trials
+    cases = ends.try_ends()
+    print(f"checks/sessions: ok, {cases} cases of files and FIFOs; {trials.try_turns()}; {told}")
+
+
+main()
