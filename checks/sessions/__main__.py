@@ -31,10 +31,11 @@ def try_judge():
 
 def main():
     told = try_judge()
-    if KRILLC is None or not numbers_of_files():
-        why = "isn't built" if KRILLC is None else "has one session alone, by its --help"
-        print(f"checks/sessions: krillc {why}: it isn't tried; {told}")
+    if KRILLC is None:
+        print(f"checks/sessions: krillc isn't built: it isn't tried; {told}")
         return
+    if not numbers_of_files():
+        fail("krillc --help names no files of sessions")
     import ends, trials
     cases = ends.try_ends()
     print(f"checks/sessions: ok, {cases} cases of files and FIFOs; {trials.try_turns()}; {told}")
