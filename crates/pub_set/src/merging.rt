@@ -17,8 +17,8 @@ use std::cmp::Ordering;
 use std::collections::VecDeque;
 use std::mem;
 
-// So few changes are made one by one, each at its place. More are merged in.
-const FEW: usize = 8;
+// So few changes are made one by one, each at its place. More are merged in, for which each object's URI is compared.
+const FEW: usize = 64;
 
 /// Makes what the overlay says stand at each of its URIs.
 ///

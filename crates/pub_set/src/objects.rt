@@ -6,7 +6,7 @@ ghost use Rattle.pub_set.specs.Changes.{IsApplied};
 ghost use Rattle.pub_set.specs.Queries.{first_refusal, IsRefusal};
 
 use crate::merging::carry_out;
-use crate::overlays::overlay_query;
+use crate::overlays::{overlay_of, overlay_query};
 use crate::parts::{Content, Uri};
 use crate::refusals::QueryRefused;
 use crate::steps::Change;
@@ -131,6 +131,17 @@ impl ObjectSet {
         ensures kept { OnErr result (self.new ≡ self.old) }
     {
         let overlay = overlay_query(alloc, &self.objects, base, changes)?;
+        carry_out(alloc, &mut self.objects, overlay)?;
+        Ok(())
+    }
+
+    /// Makes of the set what the changes make of it, one after another, whatever stands at their URIs: nothing is
+    /// hashed.
+    pub fn apply(&mut self, alloc: Global, changes: Vec<Change>) -> Result<(), AllocError>
+        ensures applied { OnOk result (IsApplied self.old changes.items self.new) }
+        ensures kept { OnErr result (self.new ≡ self.old) }
+    {
+        let overlay = overlay_of(alloc, &self.objects, changes)?;
         carry_out(alloc, &mut self.objects, overlay)?;
         Ok(())
     }

@@ -5,13 +5,12 @@ ghost use Rattle.pub_set.specs.Objects.{content_at, IsAscending};
 ghost use Rattle.pub_set.specs.Changes.{after_all};
 ghost use Rattle.pub_set.specs.Queries.{first_refusal, IsRefusal};
 ghost use Rattle.pub_set.specs.inner.Overlays.{overlaid, Overlays, IsNoted};
-ghost use Rattle.pub_set.specs.declared.refusals.QueryRefused.TheVariants.{Memory};
 
 use crate::objects::{Object, content_of};
 use crate::parts::{Content, Uri};
 use crate::refusals::{QueryRefused, refusal_code};
 use crate::steps::Change;
-use std::alloc::Global;
+use std::alloc::{AllocError, Global};
 use std::collections::BTreeMap;
 
 /// At each URI that is changed, what stands there in the end: bytes, or nothing.
@@ -43,14 +42,29 @@ pub fn overlay_query(
     Ok(overlay)
 }
 
+/// The overlay of these changes over the objects, whatever stands at their URIs.
+pub fn overlay_of(
+    alloc: Global,
+    objects: &[Object],
+    changes: Vec<Change>,
+) -> Result<Overlay, AllocError>
+    ensures { IfOk result (Overlays (content_at objects.now) changes.items) }
+{
+    let mut overlay = BTreeMap::new(alloc);
+    for change in changes {
+        let (uri, left) = change.into_end();
+        note(&mut overlay, uri, left)?;
+    }
+    Ok(overlay)
+}
+
 // Notes what stands at the URI in the end.
-fn note(overlay: &mut Overlay, uri: Uri, left: Option<Content>) -> Result<(), QueryRefused>
-    ensures noted { OnOk result (IsNoted overlay.old.entries uri left overlay.new.entries) }
-    ensures memory { IfErr result (λ refused. refused ≡ Memory) }
+fn note(overlay: &mut Overlay, uri: Uri, left: Option<Content>) -> Result<(), AllocError>
+    ensures { OnOk result (IsNoted overlay.old.entries uri left overlay.new.entries) }
 {
     match overlay.insert(uri.into_string(), left) {
         Ok(_) => Ok(()),
-        Err(_) => Err(QueryRefused::Memory),
+        Err(_) => Err(AllocError),
     }
 }
 

@@ -26,7 +26,7 @@ loop-change-preserved c =
     let there : option_copied c.overlaid_at-held.result ≡ held (uri_of change) = c.overlaid_at-held.ensures ∙ ap held (c.as_str.ensures ∙ c.uri.ensures) in
     let none : code_of base (held (uri_of change)) change ≡ None = ap (λ h. code_of base h change) (sym there) ∙ sym c.in_default.ensures in
     let end = c.into_end-uri-in-loop-change in
-    let is : next ≡ after held change = overlaid-change (content_at c.args.objects.now) c.loop-change.overlay.entries c.note.new.overlay.entries end.result.0 end.result.1 change c.in_ok-note.ensures.noted end.ensures.uri end.ensures.left in record {
+    let is : next ≡ after held change = overlaid-change (content_at c.args.objects.now) c.loop-change.overlay.entries c.note.new.overlay.entries end.result.0 end.result.1 change c.in_ok-note.ensures end.ensures.uri end.ensures.left in record {
       refusal = refusal_kept base held next change rest left _ none is step before.refusal;
       applied = λ at. applied_kept held next change rest left at _ is step (before.applied at);
       left = let shorter = ap length step in omega (arith, c.in-Some.ensures.steps.1);
