@@ -10,3 +10,4 @@ pub mod Answered
 pub mod Commas
 pub mod Once
 pub mod Told
+pub mod Taken

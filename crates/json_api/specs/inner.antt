@@ -4,3 +4,4 @@ pub mod Slots
 pub mod Passes
 pub mod Tokens
 pub mod Members
+pub mod Plain

@@ -98,13 +98,14 @@ impl Field {
         ensures { result ≡ field_named name.now }
     {
         match name {
-            "add" => Some(Field::Add),
-            "ca" => Some(Field::Ca),
-            "child" => Some(Field::Child),
+            // What stands in most lines comes first.
             "command" => Some(Field::Command),
+            "ca" => Some(Field::Ca),
+            "add" => Some(Field::Add),
+            "remove" => Some(Field::Remove),
+            "child" => Some(Field::Child),
             "looks" => Some(Field::Looks),
             "parent" => Some(Field::Parent),
-            "remove" => Some(Field::Remove),
             "resources" => Some(Field::Resources),
             "serial" => Some(Field::Serial),
             "signer" => Some(Field::Signer),
@@ -150,6 +151,8 @@ impl Row {
         ensures { result ≡ row_named text.now }
     {
         match text {
+            // What most lines say comes first.
+            "roas update" => Some(Row::RoasUpdate),
             "add" => Some(Row::Add),
             "delete" => Some(Row::Delete),
             "parents add" => Some(Row::ParentsAdd),
@@ -158,7 +161,6 @@ impl Row {
             "children remove" => Some(Row::ChildrenRemove),
             "children suspend" => Some(Row::ChildrenSuspend),
             "children unsuspend" => Some(Row::ChildrenUnsuspend),
-            "roas update" => Some(Row::RoasUpdate),
             "keyroll init" => Some(Row::KeyrollInit),
             "keyroll activate" => Some(Row::KeyrollActivate),
             "publish" => Some(Row::Publish),

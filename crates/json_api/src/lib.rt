@@ -5,6 +5,7 @@ mod fields;
 mod history;
 mod laws;
 mod line;
+mod plain;
 mod refusals;
 mod reply;
 mod rows;

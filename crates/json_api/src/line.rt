@@ -16,7 +16,6 @@ use crate::slots::{Slot, Slots};
 use crate::tokens::read_slots;
 use crate::values::{first_left, slots_of};
 use authority_book::Command;
-use json::Scratch;
 use line_loop::LINE_LIMIT;
 use names::Name;
 use serde_json::Value;
@@ -135,7 +134,6 @@ impl<T: Drop> From<AllocFailed<T>> for LineFault {
 /// Reads lines one after another, and keeps what a read takes for the next one.
 #[derive(Drop)]
 pub struct LineReader {
-    scratch: Scratch,
     // What the members of a line hold.
     slots: Slots,
 }
@@ -149,9 +147,8 @@ impl Model for LineReader {
 
 impl LineReader {
     /// A reader that has taken nothing yet.
-    pub fn new(alloc: Global) -> LineReader {
+    pub fn new(_alloc: Global) -> LineReader {
         LineReader {
-            scratch: Scratch::new(alloc),
             slots: Slots::absent(),
         }
     }
@@ -169,7 +166,7 @@ impl LineReader {
             return Err(LineFault::BadLine);
         };
         self.slots.clear();
-        if let Some(line) = read_plain(alloc, text, &mut self.scratch, &mut self.slots)? {
+        if let Some(line) = read_plain(alloc, text, &mut self.slots)? {
             return Ok(line);
         }
         let value = read_value(alloc, text)?;
@@ -186,12 +183,7 @@ pub fn read_line(alloc: Global, line: &[u8]) -> Result<Line, LineFault>
 
 // The line that the text is, or its fault, where its tokens tell it. It is `None` for any other text,
 // and for some that are lines.
-fn read_plain(
-    alloc: Global,
-    text: &str,
-    scratch: &mut Scratch,
-    slots: &mut Slots,
-) -> Result<Option<Line>, LineFault>
+fn read_plain(alloc: Global, text: &str, slots: &mut Slots) -> Result<Option<Line>, LineFault>
     requires absent { (f : Field) → slot_at slots.old f ≡ Slot.Absent }
     ensures { MatchResult result
         (λ found. IfSome found (λ line. (value : Data)
@@ -199,7 +191,7 @@ fn read_plain(
         (λ fault. fault ≢ Memory → (value : Data)
         × (read text.now ≡ Some value) × ReadsValue value (Err fault)) }
 {
-    if !read_slots(alloc, text, scratch, slots)? {
+    if !read_slots(alloc, text, slots)? {
         return Ok(None);
     }
     let Some(row) = slots.row() else {

@@ -11,39 +11,34 @@ ghost use Rattle.json_api.specs.Names.{kind_of};
 ghost use Rattle.json_api.specs.inner.Passes.{ReadsValue, ReadsItems, ReadsMembers, AreMembers};
 
 use crate::fields::{Field, Kind, Row};
+use crate::plain::PlainReader;
 use crate::slots::{Slot, Slots};
 use crate::values::origin_of;
 use authority_book::OriginList;
-use json::{Reader, Scratch, Token};
 use names::Name;
 use origins::Origin;
 use std::alloc::{AllocError, Global};
 
 /// Whether the text is a line whose members are all fields, each a text or a list of origins in good
 /// form. Their slots are filled then.
-pub(crate) fn read_slots(
-    alloc: Global,
-    text: &str,
-    scratch: &mut Scratch,
-    slots: &mut Slots,
-) -> Result<bool, AllocError>
+pub(crate) fn read_slots(alloc: Global, text: &str, slots: &mut Slots) -> Result<bool, AllocError>
     requires absent { (f : Field) → slot_at slots.old f ≡ Slot.Absent }
     ensures { IfOk result (λ good. IsTrue good
         → (ms : Members) × (read text.now ≡ Some (object ms)) × AreMembers ms slots.new) }
 {
-    let mut reader = Reader::new(text, scratch)?;
-    let Some(Token::BeginObject) = reader.next() else {
+    let mut reader = PlainReader::new(text);
+    if !reader.begins_object() {
         return Ok(false);
-    };
+    }
     if !read_members(alloc, &mut reader, slots)? {
         return Ok(false);
     }
-    Ok(reader.next().is_none())
+    Ok(reader.is_over())
 }
 
 fn read_members(
     alloc: Global,
-    reader: &mut Reader<'_>,
+    reader: &mut PlainReader<'_>,
     slots: &mut Slots,
 ) -> Result<bool, AllocError>
     requires absent { (f : Field) → slot_at slots.old f ≡ Slot.Absent }
@@ -51,11 +46,11 @@ fn read_members(
         → (ms : Members) × ReadsMembers reader.old ms reader.new × AreMembers ms slots.new) }
 {
     'members: loop {
-        let Ok(next) = reader.next_key() else {
-            return Ok(false);
-        };
-        let Some(name) = next else {
+        if reader.ends_object() {
             return Ok(true);
+        }
+        let Some(name) = reader.next_key() else {
+            return Ok(false);
         };
         if !read_member(alloc, reader, name, slots)? {
             return Ok(false);
@@ -66,7 +61,7 @@ fn read_members(
 // Whether the member of that name is a field in good form.
 fn read_member(
     alloc: Global,
-    reader: &mut Reader<'_>,
+    reader: &mut PlainReader<'_>,
     name: &str,
     slots: &mut Slots,
 ) -> Result<bool, AllocError>
@@ -86,7 +81,11 @@ fn read_member(
 }
 
 // What the next value says, where it is a text or a list in its grammar.
-fn take_slot(alloc: Global, reader: &mut Reader<'_>, kind: Kind) -> Result<Option<Slot>, AllocError>
+fn take_slot(
+    alloc: Global,
+    reader: &mut PlainReader<'_>,
+    kind: Kind,
+) -> Result<Option<Slot>, AllocError>
     ensures good { IfOk result (λ found. IfSome found
         (λ slot. (d : Data) × ReadsValue reader.old d reader.new × Says kind d slot)) }
     ensures shorter { length reader.new ≤ length reader.old }
@@ -99,48 +98,51 @@ fn take_slot(alloc: Global, reader: &mut Reader<'_>, kind: Kind) -> Result<Optio
     }
 }
 
-fn take_row(reader: &mut Reader<'_>) -> Option<Slot>
+fn take_row(reader: &mut PlainReader<'_>) -> Option<Slot>
     ensures good { IfSome result
         (λ slot. (d : Data) × ReadsValue reader.old d reader.new × Says Kind.Row d slot) }
     ensures shorter { length reader.new ≤ length reader.old }
 {
-    let text = next_text(reader)?;
+    let text = reader.next_text()?;
     let row = Row::named(text)?;
     Some(Slot::Row(row))
 }
 
-fn take_name(reader: &mut Reader<'_>) -> Option<Slot>
+fn take_name(reader: &mut PlainReader<'_>) -> Option<Slot>
     ensures good { IfSome result
         (λ slot. (d : Data) × ReadsValue reader.old d reader.new × Says Kind.Name d slot) }
     ensures shorter { length reader.new ≤ length reader.old }
 {
-    let text = next_text(reader)?;
+    let text = reader.next_text()?;
     let name = Name::read(text)?;
     Some(Slot::Name(name))
 }
 
-fn take_origins(alloc: Global, reader: &mut Reader<'_>) -> Result<Option<Slot>, AllocError>
+fn take_origins(alloc: Global, reader: &mut PlainReader<'_>) -> Result<Option<Slot>, AllocError>
     ensures good { IfOk result (λ found. IfSome found
         (λ slot. (d : Data) × ReadsValue reader.old d reader.new × Says Kind.Origins d slot)) }
     ensures shorter { length reader.new ≤ length reader.old }
 {
-    let Some(Token::BeginArray) = reader.next() else {
+    if !reader.begins_list() {
         return Ok(None);
-    };
+    }
     let Some(origins) = take_items(alloc, reader)? else {
         return Ok(None);
     };
     Ok(Some(Slot::Origins(OriginList::new(alloc, origins)?)))
 }
 
-fn take_items(alloc: Global, reader: &mut Reader<'_>) -> Result<Option<Vec<Origin>>, AllocError>
+fn take_items(
+    alloc: Global,
+    reader: &mut PlainReader<'_>,
+) -> Result<Option<Vec<Origin>>, AllocError>
     ensures good { IfOk result (λ found. IfSome found
         (λ origins. (ds : Items) × ReadsItems reader.old ds reader.new
         × AreOriginTexts ds origins.items)) }
     ensures shorter { length reader.new ≤ length reader.old }
 {
     let mut origins = Vec::new(alloc);
-    'items: while !reader.take_end_array() {
+    'items: while !reader.ends_list() {
         let Some(origin) = take_origin(reader) else {
             return Ok(None);
         };
@@ -150,23 +152,13 @@ fn take_items(alloc: Global, reader: &mut Reader<'_>) -> Result<Option<Vec<Origi
 }
 
 // The origin whose text the next value is.
-fn take_origin(reader: &mut Reader<'_>) -> Option<Origin>
+fn take_origin(reader: &mut PlainReader<'_>) -> Option<Origin>
     ensures good { IfSome result (λ origin. (text : List ℕ)
         × (reader.old ≡ string_token text ∷ reader.new) × SpellsOrigin text origin) }
     ensures shorter { length reader.new ≤ length reader.old }
 {
-    match next_text(reader) {
+    match reader.next_text() {
         Some(text) => origin_of(text),
         None => None,
-    }
-}
-
-fn next_text<'a>(reader: &mut Reader<'a>) -> Option<&'a str>
-    ensures good { IfSome result (λ text. reader.old ≡ string_token text.now ∷ reader.new) }
-    ensures shorter { length reader.new ≤ length reader.old }
-{
-    match reader.next() {
-        Some(Token::String(text)) => Some(text),
-        _ => None,
     }
 }

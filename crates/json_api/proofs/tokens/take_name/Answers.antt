@@ -9,6 +9,6 @@ returns-clause-good c =
     let text = c.in_ok-text.text.now in
     let name = c.in_ok-name.ensures.name in (
       string text,
-      text_read c.args.reader.now c.next_text.new.reader text c.in_ok-text.ensures.good,
+      text_read c.args.reader.now c.next_text.new.self text c.in_ok-text.ensures.good,
       (ap (λ t. Some t) (sym name), subst IsName (sym name) (c.in_ok-name.ensures.found.0 refl)),
     )

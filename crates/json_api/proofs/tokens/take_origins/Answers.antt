@@ -9,7 +9,7 @@ use Rattle.json_api.proofs.tokens.take_origins.Goals as goal
 
 pub returns-clause-good : goal.returns-clause-good
 returns-clause-good c =
-    let first : c.args.reader.now ≡ Token.begin_array ∷ c.next.new.self = rw c.in-Some-BeginArray.field-0-is at c.in-Some-BeginArray.ensures.value in
-    let list = subst (λ (o : Option (Vec Origin Global)). IfSome o (λ origins. (ds : Items) × ReadsItems c.next.new.self ds c.take_items.new.reader × AreOriginTexts ds origins.items))
+    let first : c.args.reader.now ≡ Token.begin_array ∷ c.begins_list.new.self = c.if-not-begins_list.ensures.taken in
+    let list = subst (λ (o : Option (Vec Origin Global)). IfSome o (λ origins. (ds : Items) × ReadsItems c.begins_list.new.self ds c.take_items.new.reader × AreOriginTexts ds origins.items))
     c.in-Some.is c.in_ok-origins.ensures.good in
-    (array list.0, list_read c.args.reader.now c.next.new.self c.take_items.new.reader list.0 first list.1, subst (λ os. AreOriginTexts list.0 os) (sym c.in_ok-new.ensures) list.2)
+    (array list.0, list_read c.args.reader.now c.begins_list.new.self c.take_items.new.reader list.0 first list.1, subst (λ os. AreOriginTexts list.0 os) (sym c.in_ok-new.ensures) list.2)

@@ -8,4 +8,4 @@ pub returns-clause-good : goal.returns-clause-good
 returns-clause-good c =
     let text = c.in_ok-text.text.now in
     let named : row_named text ≡ Some c.in_ok-row.row = let e = c.in_ok-row.ensures in cc in
-    (string text, text_read c.args.reader.now c.next_text.new.reader text c.in_ok-text.ensures.good, named)
+    (string text, text_read c.args.reader.now c.next_text.new.self text c.in_ok-text.ensures.good, named)
