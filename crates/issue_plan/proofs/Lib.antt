@@ -7,3 +7,4 @@ pub mod OwedLemmas
 pub mod PlaceLemmas
 pub mod PositionLemmas
 pub mod SpellingLemmas
+pub mod StayLemmas

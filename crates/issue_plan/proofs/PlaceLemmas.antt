@@ -1,5 +1,5 @@
 -- Where the ROAs of owed origins stand.
-use Rattle.std.proofs.Common.{◌≡◌, ℕ, ◌+◌, ◌<◌, ◌⊎◌, inl, inr, Option, None, Some, List, [], ◌∷◌, ◌++◌, length, get_or, set, replicate, refl, sym, ap, subst, ◌≤◌, ◌∙◌, arith}
+use Rattle.std.proofs.Common.{◌≡◌, ℕ, suc, ◌+◌, ◌<◌, ◌⊎◌, inl, inr, Option, None, Some, List, [], ◌∷◌, ◌++◌, length, map, get_or, set, replicate, refl, sym, ap, ap₂, subst, ◌≤◌, ◌∙◌, arith}
 use Rattle.std.specs.Prelude.{slice_get, option_map, option_and_then}
 use Rattle.std.specs.Ordering.{on}
 use Rattle.std.proofs.lemmas.Map.Keys.{Less-from_sorted}
@@ -132,25 +132,29 @@ group-place s desk first end i d stand group after before =
     (stand.roas i d (let within = group.within in omega (arith, before, within)))
 
 -- The origin that a row was guessed to be of, and where its ROA stands.
-pub that-noted : (s : Standing) (owed : List Owed) (noted : List (Option ℕ)) (index desk position : ℕ) (origin : Origin) (row : IssuedRow)
-    → is_that owed index desk origin ≡ true → row.what ≡ Route origin → IsPlaceIn s desk row
-    → position_in s.issued.now row.uri ≡ Some position
-    → AreNoted s owed noted → AreNoted s owed (set noted index (Some position))
-that-noted s owed noted index desk position origin row that what place at are = by (slice_get owed index) refl that
+pub that-each : (owed : List Owed) (index desk : ℕ) (origin : Origin) → is_that owed index desk origin ≡ true
+    → (index < length owed) × ((d : Owed) → get_or owed index d ≡ record { desk = desk; origin = origin })
+that-each owed index desk origin that = by (slice_get owed index) refl that
   where
     by : (o : Option Owed) → slice_get owed index ≡ o
         → option_map_or (λ (each : Owed). (each.desk == desk) && is_same_origin each.origin origin) o false ≡ true
-        → AreNoted s owed (set noted index (Some position))
+        → (index < length owed) × ((d : Owed) → get_or owed index d ≡ record { desk = desk; origin = origin })
     by None is so = absurd (false≢true so)
     by (Some each) is so =
         let parts = and_parts (each.desk == desk) (is_same_origin each.origin origin) so in
         let same : each ≡ record { desk = desk; origin = origin } = whole (eqb-true each.desk desk parts.0) (origin-is each.origin origin parts.1) in
-        one-noted s owed noted index position (slice_get_within owed index each is) (λ d.
-        ap (owed_position s) (get_or_from_slice_get owed index each d is ∙ same)
-        ∙ (ap (option_and_then (position_in s.issued.now)) (place origin what) ∙ at)) are
+        (slice_get_within owed index each is, λ d. get_or_from_slice_get owed index each d is ∙ same)
       where
         whole : each.desk ≡ desk → each.origin ≡ origin → each ≡ record { desk = desk; origin = origin }
         whole a b = λ i. record { desk = a i; origin = b i }
+
+pub that-place : (s : Standing) (owed : List Owed) (index desk position : ℕ) (origin : Origin) (row : IssuedRow)
+    → is_that owed index desk origin ≡ true → row.what ≡ Route origin → IsPlaceIn s desk row
+    → position_in s.issued.now row.uri ≡ Some position
+    → (d : Owed) → owed_position s (get_or owed index d) ≡ Some position
+that-place s owed index desk position origin row that what place at d =
+    ap (owed_position s) ((that-each owed index desk origin that).1 d)
+    ∙ (ap (option_and_then (position_in s.issued.now)) (place origin what) ∙ at)
 
 -- What is noted at an index is the position of what stands at its owed origin's place.
 pub noted-at : (s : Standing) (owed : List Owed) (noted : List (Option ℕ)) (index : ℕ) (each : Owed) (here : Option ℕ)
@@ -160,6 +164,70 @@ noted-at s owed noted index each here are inside is-each is-here =
     λ position is. ap (owed_position s) is-each
     ∙ are.each index each inside position
     (get_or_default noted index None here (omega (arith, inside, are.long)) ∙ (sym is-here ∙ is))
+
+-- The positions of what stands at the places of the first owed origins are all known, those of others where they are noted.
+pub record AreFilled (s : Standing) (owed : List Owed) (positions : List (Option ℕ)) (n : ℕ) : Type 0 where
+  pub noted : AreNoted s owed positions
+  pub filled : (i : ℕ) (d : Owed) → i < n → get_or positions i None ≡ owed_position s (get_or owed i d)
+
+pub none-filled : (s : Standing) (owed : List Owed) (positions : List (Option ℕ))
+    → AreNoted s owed positions → AreFilled s owed positions 0
+none-filled s owed positions are = record { noted = are; filled = λ i d below. absurd (omega (arith, below)) }
+
+-- One more is known.
+pub one-filled : (s : Standing) (owed : List Owed) (positions : List (Option ℕ)) (index : ℕ) (each : Owed) (here : Option ℕ)
+    → index < length owed → each ≡ get_or owed index each → here ≡ owed_position s each
+    → AreFilled s owed positions index → AreFilled s owed (set positions index here) (index + 1)
+one-filled s owed positions index each here inside is-each is-here are = record {
+  noted = record {
+    long = length-set positions index here ∙ are.noted.long;
+    each = λ i d within at is. by i d within at is (cases_eq i index);
+  };
+  filled = λ i d below. before i d below (cases_eq i index);
+}
+  where
+    set-here : get_or (set positions index here) index None ≡ here
+    set-here = get_or-set_same positions index here None (let long = are.noted.long in omega (arith, inside, long))
+
+    that : (d : Owed) → here ≡ owed_position s (get_or owed index d)
+    that d = is-here ∙ ap (owed_position s) (is-each ∙ get_or_default owed index each d inside)
+
+    by : (i : ℕ) (d : Owed) → i < length owed → (at : ℕ) → get_or (set positions index here) i None ≡ Some at
+        → (i ≡ index) ⊎ (i ≡ index → ⊥) → owed_position s (get_or owed i d) ≡ Some at
+    by i d within at is (inl same) =
+        ap (λ k. owed_position s (get_or owed k d)) same
+        ∙ (sym (that d) ∙ (sym set-here ∙ (sym (ap (λ k. get_or (set positions index here) k None) same) ∙ is)))
+    by i d within at is (inr other) =
+        are.noted.each i d within at (sym (get_or-set_other positions index i here None other) ∙ is)
+
+    before : (i : ℕ) (d : Owed) → i < index + 1 → (i ≡ index) ⊎ (i ≡ index → ⊥)
+        → get_or (set positions index here) i None ≡ owed_position s (get_or owed i d)
+    before i d below (inl same) =
+        ap (λ k. get_or (set positions index here) k None) same
+        ∙ (set-here ∙ (that d ∙ ap (λ k. owed_position s (get_or owed k d)) (sym same)))
+    before i d below (inr other) =
+        get_or-set_other positions index i here None other
+        ∙ are.filled i d (by-cases (cases_lt i index))
+      where
+        by-cases : (i < index) ⊎ (index ≤ i) → i < index
+        by-cases (inl less) = less
+        by-cases (inr over) =
+            let same : i ≡ index = omega (arith, over, below) in absurd (other same)
+
+each-known : (f : Owed → Option ℕ) (owed : List Owed) (positions : List (Option ℕ)) → length positions ≡ length owed
+    → ((i : ℕ) (d : Owed) → i < length owed → get_or positions i None ≡ f (get_or owed i d))
+    → positions ≡ map f owed
+each-known f [] [] long each = refl
+each-known f [] (x ∷ positions) long each = absurd (omega (arith, long))
+each-known f (o ∷ owed) [] long each = absurd (omega (arith, long))
+each-known f (o ∷ owed) (x ∷ positions) long each =
+    ap₂ (λ (a : Option ℕ) (l : List (Option ℕ)). a ∷ l) (each 0 o (omega arith))
+    (each-known f owed positions (omega (arith, long)) (λ i d inside. each (suc i) d (omega (arith, inside))))
+
+pub all-filled : (s : Standing) (owed : List Owed) (positions : List (Option ℕ)) (n : ℕ) → length owed ≤ n
+    → AreFilled s owed positions n → positions ≡ owed_positions s owed
+all-filled s owed positions n all are =
+    each-known (owed_position s) owed positions are.noted.long (λ i d inside. are.filled i d (omega (arith, all, inside)))
 
 -- What holds of all rows before one, and of that one.
 pub named-more : (P : IssuedRow → Type 0) (issued : List IssuedRow) (i : ℕ) (row : IssuedRow) → i < length issued

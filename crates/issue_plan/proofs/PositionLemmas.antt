@@ -1,6 +1,6 @@
 -- What stands at a place, by its position in the table.
 use Rattle.std.proofs.Common.{◌≡◌, ℕ, ◌+◌, ◌<◌, ◌≤◌, ◌⊎◌, inl, inr, zero, suc, Bool, true, false, ◌&&◌, ◌||◌, not, cond}
-use Rattle.std.proofs.Common.{Option, None, Some, List, [], ◌∷◌, ◌++◌, length, get_or, map, take, ◌∙◌, refl, sym, ap, ap₂, arith}
+use Rattle.std.proofs.Common.{Option, None, Some, List, [], ◌∷◌, ◌++◌, length, get_or, set, map, take, ◌∙◌, refl, sym, ap, ap₂, subst, arith}
 use Rattle.std.specs.Prelude.{◌==◌, Ok, Err, is_some, option_map, option_and_then, slice_get, filter}
 use Rattle.std.specs.Option.{option_map_or}
 use Rattle.std.specs.List.{list_any, filter_map, cons_option}
@@ -10,10 +10,11 @@ use Rattle.std.specs.Ordering.{is_lt, is_eq, on, ordering_reverse}
 use Rattle.std.specs.declared.cmp.Ordering.{Ordering}
 use Rattle.std.specs.declared.cmp.Ordering.TheVariants.{Less, Equal, Greater}
 use Rattle.std.proofs.Math.Dec.{eqb-suc-zero, eqb-zero-suc, eqb-suc-suc}
-use Rattle.std.proofs.lemmas.Bool.{cases_lt}
+use Rattle.std.proofs.lemmas.Bool.{cases_lt, cases_eq, eq-eqb, ne_eqb}
 use Rattle.std.proofs.lemmas.Bool.Decides.{same_from_decides, Decides-like}
 use Rattle.std.proofs.lemmas.List.Sorted.{searchable_from_sorted}
-use Rattle.std.proofs.lemmas.List.{append_assoc, take_more, length-take}
+use Rattle.std.proofs.lemmas.List.{append_assoc, append-nil, take_more, length-take, length-set, get_or-set_same, get_or-set_other}
+use Rattle.std.proofs.lemmas.List.Elements.{filter_map-append}
 use Rattle.std.proofs.lemmas.Map.Keys.{Less-from_sorted}
 use Rattle.std.proofs.lemmas.Slice.Eq.{bytes_eq-Decides}
 use Rattle.key_roll.specs.declared.issued.IssuedRow.{IssuedRow}
@@ -307,3 +308,89 @@ withdrawn-are issued wanted count positions marks uris up counted are marked all
     ∙ (ap (list_any (λ n. n == i)) are
     ∙ (hits-any (position_in issued) i wanted
     ∙ ap (λ p. list_any p wanted) (λ j uri. hits-position issued uri i d up inside j)))))
+
+-- ---- marks of positions that there may be
+
+-- None more.
+pub no-mark : (count : ℕ) (positions : List ℕ) (marks : List Bool)
+    → AreMarks count positions marks → AreMarks count (positions ++ []) marks
+no-mark count positions marks are =
+    subst (λ (l : List ℕ). AreMarks count l marks) (sym (append-nil positions)) are
+
+any-one-more : (positions : List ℕ) (position i : ℕ)
+    → list_any (λ other. other == i) (positions ++ position ∷ []) ≡ (list_any (λ other. other == i) positions || (position == i))
+any-one-more [] position i = or-false (position == i)
+  where
+    or-false : (b : Bool) → (b || false) ≡ b
+    or-false true = refl
+    or-false false = refl
+any-one-more (p ∷ positions) position i =
+    ap (λ b. (p == i) || b) (any-one-more positions position i)
+    ∙ assoc (p == i) (list_any (λ other. other == i) positions) (position == i)
+  where
+    assoc : (a b c : Bool) → (a || (b || c)) ≡ ((a || b) || c)
+    assoc true b c = refl
+    assoc false b c = refl
+
+-- One more that is marked, or that is past the marks.
+pub one-mark : (count : ℕ) (positions : List ℕ) (marks : List Bool) (position : ℕ) → position < length marks
+    → AreMarks count positions marks → AreMarks count (positions ++ position ∷ []) (set marks position true)
+one-mark count positions marks position inside are = record {
+  long = length-set marks position true ∙ are.long;
+  each = λ i within. by i within (cases_eq i position);
+}
+  where
+    or-true : (b : Bool) → true ≡ (b || true)
+    or-true true = refl
+    or-true false = refl
+
+    or-false : (b : Bool) → b ≡ (b || false)
+    or-false true = refl
+    or-false false = refl
+
+    by : (i : ℕ) → i < count → (i ≡ position) ⊎ (i ≡ position → ⊥)
+        → get_or (set marks position true) i false ≡ list_any (λ other. other == i) (positions ++ position ∷ [])
+    by i within (inl same) =
+        ap (λ k. get_or (set marks position true) k false) same
+        ∙ (get_or-set_same marks position true false inside
+        ∙ (or-true (list_any (λ other. other == i) positions)
+        ∙ (ap (λ b. list_any (λ other. other == i) positions || b) (sym (eq-eqb position i (sym same)))
+        ∙ sym (any-one-more positions position i))))
+    by i within (inr other) =
+        get_or-set_other marks position i true false other
+        ∙ (are.each i within
+        ∙ (or-false (list_any (λ other. other == i) positions)
+        ∙ (ap (λ b. list_any (λ other. other == i) positions || b) (sym (ne_eqb position i (λ same. other (sym same))))
+        ∙ sym (any-one-more positions position i))))
+
+pub past-mark : (count : ℕ) (positions : List ℕ) (marks : List Bool) (position : ℕ) → length marks ≤ position
+    → AreMarks count positions marks → AreMarks count (positions ++ position ∷ []) marks
+past-mark count positions marks position past are = record {
+  long = are.long;
+  each = λ i within.
+      are.each i within
+      ∙ (or-false (list_any (λ other. other == i) positions)
+      ∙ (ap (λ b. list_any (λ other. other == i) positions || b)
+      (sym (ne_eqb position i (λ same. absurd (let long = are.long in omega (arith, within, past, same, long)))))
+      ∙ sym (any-one-more positions position i)));
+}
+  where
+    or-false : (b : Bool) → b ≡ (b || false)
+    or-false true = refl
+    or-false false = refl
+
+-- One of those that there may be more.
+pub more-found : (positions : List ℕ) (found : List (Option ℕ)) (i : ℕ) (d : Option ℕ) → i < length found
+    → (positions ++ filter_map (λ p. p) (take i found)) ++ cons_option (get_or found i d) []
+    ≡ positions ++ filter_map (λ p. p) (take (i + 1) found)
+more-found positions found i d inside =
+    append_assoc positions (filter_map (λ p. p) (take i found)) (cons_option (get_or found i d) [])
+    ∙ ap (λ (l : List ℕ). positions ++ l)
+    (sym (ap (filter_map (λ p. p)) (take_more found i d inside)
+    ∙ filter_map-append (λ p. p) (take i found) (get_or found i d ∷ [])))
+
+pub all-taken : (found : List (Option ℕ)) (i : ℕ) → length found ≤ i → take i found ≡ found
+all-taken [] zero past = refl
+all-taken [] (suc i) past = refl
+all-taken (each ∷ found) zero past = absurd (omega (arith, past))
+all-taken (each ∷ found) (suc i) past = ap (λ (l : List (Option ℕ)). each ∷ l) (all-taken found i (omega (arith, past)))

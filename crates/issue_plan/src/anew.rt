@@ -9,6 +9,7 @@ ghost use Rattle.issue_plan.specs.inner.Anew as spec;
 
 use crate::changed::has_changed;
 use crate::firsts::stands_first;
+use crate::keys::is_same_id;
 use crate::live::{LiveKey, live_at};
 use crate::places;
 use crate::positions::{position_of, row_at};
@@ -181,7 +182,7 @@ fn point_stands(standing: &Standing<'_>, key: &KeyName, place: &Uri) -> bool
 fn is_in_place(key: &KeyId, crl: &Uri, manifest: &Uri, row: &IssuedRow) -> bool
     ensures { result ≡ is_in_place key.now crl.now manifest.now row.now }
 {
-    row.issuer.bytes.as_slice() != key.bytes.as_slice()
+    !is_same_id(&row.issuer, key)
         || !is_point(&row.what)
         || row.uri.as_str() == crl.as_str()
         || row.uri.as_str() == manifest.as_str()

@@ -5,6 +5,7 @@ ghost use Rattle.std.specs.List.{filter_map};
 ghost use Rattle.issue_plan.specs.inner.Positions.{unmarked};
 ghost use Rattle.issue_plan.specs.inner.Changed as spec;
 
+use crate::keys::is_same_id;
 use crate::positions::marks;
 use crate::serving::is_point;
 use key_ids::KeyId;
@@ -99,7 +100,5 @@ pub fn changed_keys(
 pub fn has_changed(changed: &[KeyId], id: &KeyId) -> bool
     ensures { result ≡ spec.has_changed changed.now id.now }
 {
-    changed
-        .iter()
-        .any(|other| other.bytes.as_slice() == id.bytes.as_slice())
+    changed.iter().any(|other| is_same_id(other, id))
 }

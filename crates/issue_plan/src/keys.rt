@@ -1,6 +1,7 @@
 //! The keys of the next edition (RFC 6489 section 2).
 
 ghost use Rattle.std.specs.Prelude.{◌≡◌, ◌++◌, ◌∷◌, [], Some, None, length, option_map, slice_get, IfOk, OnOk};
+ghost use Rattle.std.specs.Str.{bytes_eq};
 ghost use Rattle.key_roll.specs.declared.rows.Role.TheVariants.{New, Current, Old};
 ghost use Rattle.issue_plan.specs.declared.keys.Asked.{Asked};
 ghost use Rattle.entitle.specs.Certified.{settings_of, names_of};
@@ -51,12 +52,20 @@ pub fn id_of(row: &KeyRow) -> KeyId
     KeyId::of(&row.key.bytes)
 }
 
+/// Whether the two are one identifier. They are compared as arrays: their length is known, so that this
+/// takes a few comparisons of words and no call.
+pub fn is_same_id(a: &KeyId, b: &KeyId) -> bool
+    ensures { result ≡ bytes_eq a.now.bytes b.now.bytes }
+{
+    a.bytes == b.bytes
+}
+
 /// Whether the key's name is that identifier.
 pub fn is_live(id: &KeyId, name: &KeyName) -> bool
     ensures { result ≡ spec.is_live id.now name.now }
 {
     match name {
-        KeyName::Live { id: other } => other.bytes.as_slice() == id.bytes.as_slice(),
+        KeyName::Live { id: other } => is_same_id(other, id),
         KeyName::Fresh { .. } => false,
     }
 }

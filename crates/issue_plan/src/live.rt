@@ -4,7 +4,7 @@ ghost use Rattle.std.specs.Prelude.{◌≡◌, map, find, option_map, IfOk};
 ghost use Rattle.std.specs.Str.{bytes_eq};
 ghost use Rattle.issue_plan.specs.inner.Live as spec;
 
-use crate::keys::id_of;
+use crate::keys::{id_of, is_same_id};
 use key_ids::KeyId;
 use key_roll::{KeyName, KeyRow};
 use std::alloc::{AllocError, Global};
@@ -36,8 +36,7 @@ pub fn live_keys(alloc: Global, rows: &[KeyRow]) -> Result<Vec<LiveKey>, AllocEr
 fn find_id<'a>(live: &'a [LiveKey], id: &KeyId) -> Option<&'a LiveKey>
     ensures { option_map (λ key. key.now) result ≡ find (λ key. bytes_eq key.id.bytes id.now.bytes) live.now }
 {
-    live.iter()
-        .find(|key| key.id.bytes.as_slice() == id.bytes.as_slice())
+    live.iter().find(|key| is_same_id(&key.id, id))
 }
 
 /// The live key of that name.

@@ -4,6 +4,7 @@ ghost use Rattle.std.specs.Prelude.{◌≡◌, IfOk};
 ghost use Rattle.issue_plan.specs.Fits as spec;
 ghost use Rattle.issue_plan.specs.Uris.{roa_file};
 
+use crate::keys::is_same_id;
 use crate::lookups;
 use authority_book::NameRow;
 use key_ids::{KeyId, Site};
@@ -33,7 +34,7 @@ pub fn certificate_place(
 ) -> Result<Uri, AllocError>
     ensures { IfOk result (λ place. place ≡ spec.certificate_place_by site.now names.now desk issuer.now subject.now) }
 {
-    if issuer.bytes.as_slice() == subject.bytes.as_slice() {
+    if is_same_id(issuer, subject) {
         return Ok(Uri::new(site.anchor_uri(alloc)?));
     }
     let uri = site.cert_uri(alloc, name_at(names, desk), subject)?;

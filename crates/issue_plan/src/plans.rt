@@ -1,11 +1,10 @@
 //! The work of an edition (RFC 6481 section 2, RFC 6489 section 2).
 
-ghost use Rattle.std.specs.Prelude.{◌≡◌, map, filter, true, IfOk};
-ghost use Rattle.std.specs.List.{filter_map};
+ghost use Rattle.std.specs.Prelude.{◌≡◌, ◌++◌, ◌∷◌, [], filter, not, true, IfOk, OnOk};
+ghost use Rattle.std.specs.List.{filter_map, flat_map};
 ghost use Rattle.entitle.specs.Certified.{settings_of};
 ghost use Rattle.entitle.specs.Owed.{AreOwed};
 ghost use Rattle.pub_set.specs.Objects.{Rise};
-ghost use Rattle.issue_plan.specs.Keys as keys_spec;
 ghost use Rattle.issue_plan.specs.Work as spec;
 ghost use Rattle.issue_plan.specs.Work.{IsPlan};
 ghost use Rattle.issue_plan.specs.Wanted.{PlanInput, wanted_roas};
@@ -18,7 +17,7 @@ ghost use Rattle.issue_plan.specs.inner.Works.{IsAnew};
 use crate::anew::{Standing, certificates_anew, points_anew};
 use crate::beside::beside_roas;
 use crate::changed::changed_keys;
-use crate::keys::{NextKey, id_of, is_live, next_keys};
+use crate::keys::{NextKey, is_live, next_keys};
 use crate::live::{LiveKey, live_keys};
 use crate::lookups::set_at;
 use crate::owed_places::owed_positions;
@@ -85,30 +84,47 @@ fn goes_on(keys: &[NextKey], id: &KeyId) -> bool
     keys.iter().any(|key| is_live(id, &key.name))
 }
 
-// The key of the row, which ends. An authority of the tree asks its parent to revoke its certificate.
-fn ended(alloc: Global, rows: &[KeyRow], tree: &Tree, row: &KeyRow) -> Result<KeyId, AllocError>
-    ensures { IfOk result (λ id. id ≡ keys_spec.id_of row.now) }
+// The live key, which ends. An authority of the tree asks its parent to revoke its certificate.
+fn ended(alloc: Global, live: &[LiveKey], tree: &Tree, key: &LiveKey) -> Result<KeyId, AllocError>
+    ensures { IfOk result (λ id. id ≡ key.now.id) }
 {
-    match set_at(tree, row.desk) {
-        Some(set) => revoked(alloc, rows, set, row),
-        None => Ok(id_of(row)),
+    match set_at(tree, key.desk) {
+        Some(set) => revoked(alloc, live, set, key),
+        None => Ok(key.id),
     }
+}
+
+// Puts the live key behind the others, if it ends.
+fn push_ended(
+    alloc: Global,
+    keys: &[NextKey],
+    live: &[LiveKey],
+    tree: &Tree,
+    key: &LiveKey,
+    dropped: &mut Vec<KeyId>,
+) -> Result<(), AllocError>
+    ensures { OnOk result (dropped.new.items
+        ≡ dropped.old.items ++ filter (λ id. not (spec.goes_on keys.now id)) (key.now.id ∷ [])) }
+{
+    if !goes_on(keys, &key.id) {
+        dropped.push(ended(alloc, live, tree, key)?)?;
+    }
+    Ok(())
 }
 
 // The live keys that end.
 fn dropped(
     alloc: Global,
     keys: &[NextKey],
-    rows: &[KeyRow],
+    live: &[LiveKey],
     tree: &Tree,
 ) -> Result<Vec<KeyId>, AllocError>
-    ensures { IfOk result (λ dropped. dropped.items ≡ spec.dropped keys.now rows.now) }
+    ensures { IfOk result (λ dropped. dropped.items
+        ≡ flat_map (λ key. filter (λ id. not (spec.goes_on keys.now id)) (key.id ∷ [])) live.now) }
 {
     let mut dropped = Vec::new(alloc);
-    for row in rows {
-        if !goes_on(keys, &id_of(row)) {
-            dropped.push(ended(alloc, rows, tree, row)?)?;
-        }
+    for key in live {
+        push_ended(alloc, keys, live, tree, key, &mut dropped)?;
     }
     Ok(dropped)
 }
@@ -119,35 +135,49 @@ struct Unfit {
     certs: Vec<CertWork>,
     roas: Vec<RoaWork>,
     points: Vec<PointWork>,
+    // For each owed origin the position of what stands at its place.
+    found: Vec<Option<usize>>,
 }
 
-// Of what is wanted, that which nothing fits. `found` has for each owed origin the position of what stands at its place.
+// Of what is wanted, that which nothing fits.
 fn anew(
     alloc: Global,
     standing: &Standing<'_>,
     certs: Vec<CertWork>,
     keys: &[NextKey],
     owed: &[Owed],
-    found: &[Option<usize>],
+    by_name: bool,
     points: &[PointWork],
 ) -> Result<Unfit, AllocError>
     requires rising { Rise (λ row. row.uri) standing.now.issued.now }
-    requires found { found.now ≡ owed_positions standing.now owed.now }
-    ensures { IfOk result (λ anew. (plan_input : PlanInput) → IsOver plan_input standing.now
+    requires stand { by_name ≡ true → StandByName standing.now.site.now standing.now.issued.now }
+    ensures found { IfOk result (λ anew. anew.found.items ≡ owed_positions standing.now owed.now) }
+    ensures anew { IfOk result (λ anew. (plan_input : PlanInput) → IsOver plan_input standing.now
         → certs.items ≡ all_certificates plan_input → wanted_roas keys.now owed.now ≡ all_roas plan_input
         → IsAnew plan_input points.now anew) }
 {
-    let mut kept = Vec::new(alloc);
+    let mut kept = Vec::with_capacity(alloc, owed.len())?;
     let settled = settled_keys(alloc, standing, &certs)?;
     let settled: &[LiveKey] = &settled;
     let certs = certificates_anew(alloc, standing, settled, certs, &mut kept)?;
-    let roas = roas_anew(alloc, standing, settled, keys, owed, found, &mut kept)?;
+    let found = owed_positions(alloc, standing, keys, settled, owed, by_name)?;
+    let roas = roas_anew(
+        alloc,
+        standing,
+        settled,
+        keys,
+        owed,
+        &found.positions,
+        &found.stay,
+        &mut kept,
+    )?;
     let changed = changed_keys(alloc, standing.issued, &kept, &certs, &roas)?;
     let points = points_anew(alloc, standing, settled, &changed, points)?;
     Ok(Unfit {
         certs,
         roas,
         points,
+        found: found.positions,
     })
 }
 
@@ -195,15 +225,14 @@ pub fn plan(
         site,
         moment,
     };
-    let certs = certificates(alloc, rows, configs, tree, &keys)?;
-    let found = owed_positions(alloc, &standing, owed, by_name)?;
+    let certs = certificates(alloc, standing.live, configs, tree, &keys)?;
     let anew = anew(
         alloc,
         &standing,
         certs,
         &keys,
         owed,
-        &found,
+        by_name,
         &points(alloc, &keys)?,
     )?;
     let wanted = key_places(alloc, site, names, configs, &keys)?;
@@ -214,7 +243,7 @@ pub fn plan(
         certs: Items::new(anew.certs),
         roas: Items::new(anew.roas),
         points: Items::new(anew.points),
-        withdrawn: Items::new(withdrawn(alloc, &wanted, &found, standing.issued)?),
-        dropped: Items::new(dropped(alloc, &keys, rows, tree)?),
+        withdrawn: Items::new(withdrawn(alloc, &wanted, &anew.found, standing.issued)?),
+        dropped: Items::new(dropped(alloc, &keys, standing.live, tree)?),
     })
 }

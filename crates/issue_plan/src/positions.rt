@@ -1,8 +1,8 @@
 //! Objects that stand, by their positions in the table.
 
-ghost use Rattle.std.specs.Prelude.{◌≡◌, ◌↔◌, ◌++◌, ◌∷◌, [], length, map, IfOk, OnOk, IsTrue, option_map};
+ghost use Rattle.std.specs.Prelude.{◌≡◌, ◌↔◌, ◌++◌, ◌∷◌, ℕ, List, [], length, map, IfOk, OnOk, IsTrue, option_map};
 ghost use Rattle.std.specs.Ordering.{is_lt};
-ghost use Rattle.std.specs.List.{filter_map};
+ghost use Rattle.std.specs.List.{filter_map, cons_option};
 ghost use Rattle.std.specs.List.Sorted.{IsBinarySearchResult, IsSearchInRange};
 ghost use Rattle.pub_set.specs.Objects.{uri_cmp, Rise};
 ghost use Rattle.issue_plan.specs.inner.Positions.{position_in, found_in, AreMarks, unmarked};
@@ -93,6 +93,37 @@ pub fn marks(alloc: Global, count: usize, positions: &[usize]) -> Result<Vec<boo
         }
     }
     Ok(marks)
+}
+
+// Marks the position, beside those that are marked.
+fn mark_at(marks: &mut Vec<bool>, position: usize)
+    ensures { (count : ℕ) (positions : List ℕ) → AreMarks count positions marks.old.items
+        → AreMarks count (positions ++ position ∷ []) marks.new.items }
+{
+    if position < marks.len() {
+        marks[position] = true;
+    }
+}
+
+// Marks the position that there may be, beside those that are marked.
+fn mark_one(marks: &mut Vec<bool>, position: Option<usize>)
+    ensures { (count : ℕ) (positions : List ℕ) → AreMarks count positions marks.old.items
+        → AreMarks count (positions ++ cons_option position []) marks.new.items }
+{
+    match position {
+        Some(position) => mark_at(marks, position),
+        None => {}
+    }
+}
+
+/// Marks the positions that there are, beside those that are marked.
+pub fn mark_found(marks: &mut Vec<bool>, found: &[Option<usize>])
+    ensures { (count : ℕ) (positions : List ℕ) → AreMarks count positions marks.old.items
+        → AreMarks count (positions ++ filter_map (λ p. p) found.now) marks.new.items }
+{
+    for position in found {
+        mark_one(marks, *position);
+    }
 }
 
 // Puts the URI of a row behind the others, if the row has no mark.

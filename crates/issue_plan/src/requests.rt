@@ -1,11 +1,11 @@
 //! What authorities ask of their parents for their keys (RFC 6492 sections 3.3 to 3.5).
 
 ghost use Rattle.std.specs.Prelude.{◌≡◌, ◌==◌, map, filter, IfOk};
-ghost use Rattle.issue_plan.specs.Keys as spec;
 
-use crate::keys::{NextKey, id_of};
+use crate::keys::NextKey;
+use crate::live::LiveKey;
 use key_ids::KeyId;
-use key_roll::{KeyName, KeyRow};
+use key_roll::KeyName;
 use provision::{Class, Reply, Request};
 use res_sets::Resources;
 use std::alloc::{AllocError, Global};
@@ -14,23 +14,28 @@ use std::alloc::{AllocError, Global};
 const CLASS: &str = "0";
 
 // The keys of the desk that have a certificate: its live ones.
-fn certified_keys(alloc: Global, rows: &[KeyRow], desk: u32) -> Result<Vec<KeyId>, AllocError>
+fn certified_keys(alloc: Global, live: &[LiveKey], desk: u32) -> Result<Vec<KeyId>, AllocError>
     ensures { IfOk result (λ keys. keys.items
-        ≡ map spec.id_of (filter (λ row. row.desk == desk) rows.now)) }
+        ≡ map (λ key. key.id) (filter (λ key. key.desk == desk) live.now)) }
 {
-    rows.iter()
-        .filter(|row| row.desk == desk)
-        .map(|row| id_of(row))
+    live.iter()
+        .filter(|key| key.desk == desk)
+        .map(|key| key.id)
         .collect(alloc)
 }
 
 // What the parent of the desk's authority has for it.
-fn class_of(alloc: Global, rows: &[KeyRow], set: &Resources, desk: u32) -> Result<Class, AllocError>
+fn class_of(
+    alloc: Global,
+    live: &[LiveKey],
+    set: &Resources,
+    desk: u32,
+) -> Result<Class, AllocError>
     ensures { IfOk result (λ class. class.resources ≡ set.now) }
 {
     Ok(Class {
         resources: set.copy(alloc)?,
-        keys: certified_keys(alloc, rows, desk)?,
+        keys: certified_keys(alloc, live, desk)?,
     })
 }
 
@@ -38,13 +43,13 @@ fn class_of(alloc: Global, rows: &[KeyRow], set: &Resources, desk: u32) -> Resul
 /// that has no key yet asks which classes there are (RFC 6492 sections 3.3 and 3.4).
 pub fn certified_for(
     alloc: Global,
-    rows: &[KeyRow],
+    live: &[LiveKey],
     set: &Resources,
     key: &NextKey,
 ) -> Result<Resources, AllocError>
     ensures { IfOk result (λ held. held ≡ set.now) }
 {
-    let class = class_of(alloc, rows, set, key.desk)?;
+    let class = class_of(alloc, live, set, key.desk)?;
     let request = match &key.name {
         KeyName::Live { id } => Request::Issue {
             class: String::from_str(alloc, CLASS)?,
@@ -63,14 +68,14 @@ pub fn certified_for(
 /// certificate (RFC 6492 section 3.5). `set` is what the authority is certified for.
 pub fn revoked(
     alloc: Global,
-    rows: &[KeyRow],
+    live: &[LiveKey],
     set: &Resources,
-    row: &KeyRow,
+    key: &LiveKey,
 ) -> Result<KeyId, AllocError>
-    ensures { IfOk result (λ id. id ≡ spec.id_of row.now) }
+    ensures { IfOk result (λ id. id ≡ key.now.id) }
 {
-    let id = id_of(row);
-    let class = class_of(alloc, rows, set, row.desk)?;
+    let id = key.id;
+    let class = class_of(alloc, live, set, key.desk)?;
     let request = Request::Revoke {
         class: String::from_str(alloc, CLASS)?,
         key: id,

@@ -1,6 +1,6 @@
 //! The ROAs of owed origins (RFC 9582 section 4), and which of them have to be made.
 
-ghost use Rattle.std.specs.Prelude.{◌≡◌, ◌++◌, ◌∷◌, [], filter, is_none, slice_get, option_map, option_and_then, IfOk, OnOk};
+ghost use Rattle.std.specs.Prelude.{◌≡◌, ◌++◌, ◌∷◌, [], true, filter, is_none, slice_get, option_map, option_and_then, IfOk, OnOk};
 ghost use Rattle.std.specs.List.{filter_map, cons_option};
 ghost use Rattle.pub_set.specs.Objects.{Rise};
 ghost use Rattle.issue_plan.specs.Wanted.{roa_by, wanted_roas};
@@ -8,7 +8,7 @@ ghost use Rattle.issue_plan.specs.Serves.{serves_roa};
 ghost use Rattle.issue_plan.specs.inner.Live.{live_at};
 ghost use Rattle.issue_plan.specs.inner.Positions.{serving_at};
 ghost use Rattle.issue_plan.specs.inner.Anew as spec;
-ghost use Rattle.issue_plan.specs.inner.OwedPlaces.{owed_position, owed_positions, IsIssuer};
+ghost use Rattle.issue_plan.specs.inner.OwedPlaces.{owed_position, owed_positions, IsIssuer, IsServing, AreStaying};
 
 use crate::anew::{Standing, kept_roa};
 use crate::keys::NextKey;
@@ -17,7 +17,7 @@ use crate::lookups::name_at;
 use crate::serving::serves_roa;
 use crate::wanted::current_of;
 use entitle::Owed;
-use key_roll::{KeyName, RoaWork};
+use key_roll::{IssuedRow, KeyName, RoaWork};
 use std::alloc::{AllocError, Global};
 
 /// The current key of a desk, and the settled key that it is.
@@ -39,8 +39,8 @@ fn key_named<'a>(settled: &'a [LiveKey], name: &Option<KeyName>) -> Option<&'a L
     }
 }
 
-// Who issues the ROAs of a desk's authority.
-fn issuer_at<'a>(keys: &[NextKey], settled: &'a [LiveKey], desk: u32) -> Issuer<'a>
+/// Who issues the ROAs of a desk's authority.
+pub fn issuer_at<'a>(keys: &[NextKey], settled: &'a [LiveKey], desk: u32) -> Issuer<'a>
     ensures issuer { IsIssuer keys.now settled.now result }
     ensures desk { result.desk ≡ desk }
 {
@@ -65,6 +65,23 @@ fn issuer_for<'a>(
     } else {
         issuer_at(keys, settled, desk)
     }
+}
+
+/// Whether the row is known to serve for the ROA of an owed origin, which its own desk's settled key issues.
+pub fn serves_owed(moment: u64, issuer: &Issuer<'_>, owed: &Owed, row: &IssuedRow) -> bool
+    ensures { result ≡ true → IsServing moment issuer.now owed.now row.now }
+{
+    let Some(name) = issuer.name else {
+        return false;
+    };
+    let Some(key) = issuer.key else {
+        return false;
+    };
+    let roa = RoaWork {
+        issuer: name,
+        origin: owed.origin,
+    };
+    key.desk == owed.desk && serves_roa(moment, &roa, row)
 }
 
 // The position, if what stands there serves for the ROA.
@@ -161,8 +178,19 @@ fn sort_owed(
     sort_roa(roa, position, anew, kept)
 }
 
+// Puts the position that there may be behind the others.
+fn push_kept(position: Option<usize>, kept: &mut Vec<usize>) -> Result<(), AllocError>
+    ensures { OnOk result (kept.new.items ≡ kept.old.items ++ cons_option position []) }
+{
+    match position {
+        Some(position) => Ok(kept.push(position)?),
+        None => Ok(()),
+    }
+}
+
 /// The ROAs of owed origins that nothing fits. The positions of what fits the others go behind `kept`. `settled` has the
-/// keys that are settled, and `found` for each owed origin the position of what stands at its place.
+/// keys that are settled, `found` for each owed origin the position of what stands at its place, and `stay` a mark where
+/// that is known to fit: then it isn't looked at.
 pub fn roas_anew(
     alloc: Global,
     standing: &Standing<'_>,
@@ -170,10 +198,12 @@ pub fn roas_anew(
     keys: &[NextKey],
     owed: &[Owed],
     found: &[Option<usize>],
+    stay: &[bool],
     kept: &mut Vec<usize>,
 ) -> Result<Vec<RoaWork>, AllocError>
     requires rising { Rise (λ row. row.uri) standing.now.issued.now }
     requires found { found.now ≡ owed_positions standing.now owed.now }
+    requires stay { AreStaying standing.now keys.now settled.now owed.now stay.now }
     ensures anew { IfOk result (λ anew. anew.items
         ≡ filter (λ roa. is_none (spec.kept_roa standing.now settled.now roa)) (wanted_roas keys.now owed.now)) }
     ensures kept { OnOk result (kept.new.items
@@ -182,6 +212,10 @@ pub fn roas_anew(
     let mut anew = Vec::new(alloc);
     let mut issuer = issuer_at(keys, settled, 0);
     for index in 0..owed.len() {
+        if stay[index] {
+            push_kept(found[index], kept)?;
+            continue;
+        }
         let each = &owed[index];
         issuer = issuer_for(keys, settled, issuer, each.desk);
         sort_owed(

@@ -10,7 +10,7 @@ ghost use Rattle.issue_plan.specs.inner.Positions.{position_in};
 
 use crate::keys::NextKey;
 use crate::lookups::{name_at, parent_at};
-use crate::positions::{marks, positions_of, unmarked_uris};
+use crate::positions::{mark_found, marks, positions_of, unmarked_uris};
 use authority_book::{Config, NameRow};
 use key_ids::Site;
 use key_roll::{IssuedRow, KeyName};
@@ -113,18 +113,6 @@ pub fn key_places(
     Ok(uris)
 }
 
-// Puts the positions that there are behind the others.
-fn push_found(positions: &mut Vec<usize>, found: &[Option<usize>]) -> Result<(), AllocError>
-    ensures { OnOk result (positions.new.items ≡ positions.old.items ++ filter_map (λ p. p) found.now) }
-{
-    for position in found {
-        if let Some(position) = position {
-            positions.push(*position)?;
-        }
-    }
-    Ok(())
-}
-
 /// The places of what stands and isn't wanted, where these places are wanted, and others of which it was found at
 /// which positions something stands there.
 pub fn withdrawn(
@@ -138,9 +126,9 @@ pub fn withdrawn(
         → filter_map (λ p. p) found.now ≡ filter_map (position_in issued.now) others
         → withdrawn.items ≡ spec.withdrawn (wanted.now ++ others) issued.now) }
 {
-    let mut positions = positions_of(alloc, issued, wanted)?;
-    push_found(&mut positions, found)?;
-    let marks = marks(alloc, issued.len(), &positions)?;
+    let positions = positions_of(alloc, issued, wanted)?;
+    let mut marks = marks(alloc, issued.len(), &positions)?;
+    mark_found(&mut marks, found);
     let uris = unmarked_uris(alloc, issued, &marks)?;
     Ok(uris)
 }

@@ -7,11 +7,12 @@ ghost use Rattle.issue_plan.specs.Wanted as spec;
 ghost use Rattle.issue_plan.specs.Wanted.{wanted_certificates, wanted_points};
 
 use crate::keys::NextKey;
+use crate::live::LiveKey;
 use crate::lookups::{parent_at, set_at};
 use crate::requests::certified_for;
 use authority_book::Config;
 use entitle::Tree;
-use key_roll::{CertWork, KeyName, KeyRow, PointWork, Role, is_role};
+use key_roll::{CertWork, KeyName, PointWork, Role, is_role};
 use std::alloc::{AllocError, Global};
 
 /// The current key of a desk.
@@ -43,7 +44,7 @@ fn issuer_of(configs: &[Config], keys: &[NextKey], key: &NextKey) -> Option<KeyN
 
 fn certificate_of(
     alloc: Global,
-    rows: &[KeyRow],
+    live: &[LiveKey],
     configs: &[Config],
     tree: &Tree,
     keys: &[NextKey],
@@ -58,7 +59,7 @@ fn certificate_of(
     let Some(set) = set_at(tree, key.desk) else {
         return Ok(None);
     };
-    let held = certified_for(alloc, rows, set, key)?;
+    let held = certified_for(alloc, live, set, key)?;
     Ok(Some(CertWork {
         subject: key.name,
         issuer,
@@ -66,11 +67,11 @@ fn certificate_of(
     }))
 }
 
-/// A certificate for each key (RFC 6487 section 4). `rows` has the keys that are live before the
+/// A certificate for each key (RFC 6487 section 4). `live` has the keys that are live before the
 /// edition.
 pub fn certificates(
     alloc: Global,
-    rows: &[KeyRow],
+    live: &[LiveKey],
     configs: &[Config],
     tree: &Tree,
     keys: &[NextKey],
@@ -80,7 +81,7 @@ pub fn certificates(
 {
     let mut certificates = Vec::new(alloc);
     for key in keys {
-        if let Some(certificate) = certificate_of(alloc, rows, configs, tree, keys, key)? {
+        if let Some(certificate) = certificate_of(alloc, live, configs, tree, keys, key)? {
             certificates.push(certificate)?;
         }
     }

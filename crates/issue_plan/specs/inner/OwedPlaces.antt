@@ -1,21 +1,24 @@
 -- Where the ROAs of owed origins are wanted, and where they stand.
 use Rattle.std.specs.Prelude.{◌≡◌, ℕ, ◌<◌, List, map, length, get_or, slice_get, IfSome, string_bytes}
-use Rattle.std.specs.Prelude.{Bool, false, ◌==◌, ◌&&◌, Option, None, Some, option_map, option_and_then}
+use Rattle.std.specs.Prelude.{Bool, true, false, ◌==◌, ◌&&◌, Option, None, Some, option_map, option_and_then}
 use Rattle.std.specs.Option.{option_map_or}
 use Rattle.origins.specs.declared.Origin.{Origin}
 use Rattle.key_roll.specs.declared.issued.What.TheVariants.{Route}
-use Rattle.issue_plan.specs.Serves.{is_same_origin}
+use Rattle.issue_plan.specs.Serves.{is_same_origin, serves_roa}
 use Rattle.authority_book.specs.declared.rows.NameRow.{NameRow}
 use Rattle.entitle.specs.declared.trees.Owed.{Owed}
 use Rattle.key_ids.specs.Uris.{Bases, folder_of, file_uri}
 use Rattle.key_roll.specs.declared.issued.IssuedRow.{IssuedRow}
+use Rattle.key_roll.specs.declared.work.KeyName.{KeyName}
+use Rattle.key_roll.specs.declared.work.RoaWork.{RoaWork}
 use Rattle.issue_plan.specs.declared.anew.Standing.{Standing}
 use Rattle.issue_plan.specs.declared.owed_places.Folder.{Folder}
 use Rattle.issue_plan.specs.declared.keys.NextKey.{NextKey}
 use Rattle.issue_plan.specs.declared.live.LiveKey.{LiveKey}
 use Rattle.issue_plan.specs.declared.roas.Issuer.{Issuer}
 use Rattle.issue_plan.specs.Uris.{roa_file}
-use Rattle.issue_plan.specs.Wanted.{current_of}
+use Rattle.issue_plan.specs.Wanted.{current_of, roa_of}
+use Rattle.issue_plan.specs.inner.Anew.{kept_roa}
 use Rattle.issue_plan.specs.inner.Live.{live_at}
 use Rattle.issue_plan.specs.inner.Positions.{position_in}
 
@@ -64,3 +67,28 @@ IsNoted s owed noted = (position : ℕ) → noted ≡ Some position → owed_pos
 pub record AreNoted (s : Standing) (owed : List Owed) (noted : List (Option ℕ)) : Type 0 where
   pub long : length noted ≡ length owed
   pub each : (i : ℕ) (d : Owed) → i < length owed → IsNoted s (get_or owed i d) (get_or noted i None)
+
+-- A row serves for the ROA that is wanted of an owed origin, which its own desk's settled key issues.
+pub record IsServing (moment : ℕ) (issuer : Issuer) (owed : Owed) (row : IssuedRow) : Type 0 where
+  pub name : KeyName
+  pub named : issuer.name ≡ Some name
+  pub key : LiveKey
+  pub settled : option_map (λ key. key.now) issuer.key ≡ Some key
+  pub desk : key.desk ≡ owed.desk
+  pub serves : serves_roa moment (record { issuer = name; origin = owed.origin }) row ≡ true
+
+-- What stands at an owed origin's place fits the ROA that is wanted of it.
+pub record IsStaying (s : Standing) (keys : List NextKey) (settled : List LiveKey) (owed : Owed)
+    : Type 0 where
+  pub roa : RoaWork
+  pub wanted : roa_of keys owed ≡ Some roa
+  pub position : ℕ
+  pub at : owed_position s owed ≡ Some position
+  pub kept : kept_roa s settled roa ≡ Some position
+
+-- This is known of the owed origins with a mark.
+pub record AreStaying (s : Standing) (keys : List NextKey) (settled : List LiveKey)
+    (owed : List Owed) (stay : List Bool) : Type 0 where
+  pub long : length stay ≡ length owed
+  pub each : (i : ℕ) (d : Owed) → i < length owed → get_or stay i false ≡ true
+      → IsStaying s keys settled (get_or owed i d)

@@ -1,6 +1,7 @@
 use Rattle.std.proofs.Common.{◌≡◌, take}
-use Rattle.issue_plan.specs.Work.{dropped}
+use Rattle.std.specs.List.{flat_map}
+use Rattle.issue_plan.proofs.DropLemmas.{if_ended}
 use Rattle.issue_plan.proofs.plans.dropped.Given as goal
 
-abbrev pub invariant-loop-row : goal.invariant-loop-row
-invariant-loop-row l = l.dropped.items ≡ dropped l.keys (take l.row-index l.rows)
+abbrev pub invariant-loop-key : goal.invariant-loop-key
+invariant-loop-key l = l.dropped.items ≡ flat_map (if_ended l.keys) (take l.key-index l.live)
