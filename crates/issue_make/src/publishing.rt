@@ -148,7 +148,7 @@ fn changes_of(
     Ok(changes)
 }
 
-/// The manifests behind the others, in room for just so many: an object is large beside its bytes.
+/// The manifests behind the others, in room for just so many.
 fn joined(objects: Vec<Object>, listed: Vec<Object>) -> Result<Vec<Object>, AllocError>
     ensures { IfOk result (λ all. all.items ≡ objects.items ++ listed.items) }
 {

@@ -6,6 +6,7 @@ ghost use Rattle.moments.specs.Civil.{IsMoment};
 ghost use Rattle.signer_ring.specs.Jobs.{AreAnswers};
 ghost use Rattle.issue_sign.specs.inner.Steps.{half_answers, answers_with, told, job_of, HasSignature, HasOnce, IsSignatureIn, IsOnceIn, IsAnswered, IsOutcome, Pairs};
 
+use crate::boxed::Boxed;
 use crate::object::{Object, SignedContent};
 use crate::signed_bytes::{certificate, revocations};
 use crate::signed_objects::object;
@@ -26,14 +27,14 @@ fn signature(left: &[Signed]) -> Signature
 }
 
 /// The first answer, which is a key that signed once.
-fn once(left: &[Signed]) -> OneUse
+fn once(alloc: Global, left: &[Signed]) -> Result<Boxed<OneUse>, AllocError>
     requires { HasOnce left.now }
-    ensures { IsOnceIn left.now result }
+    ensures { IfOk result (IsOnceIn left.now) }
 {
     let Signed::Once { once } = left[0] else {
         unreachable!()
     };
-    once
+    Boxed::new(alloc, once)
 }
 
 /// The answers behind the first one, if a signer was asked for it.
@@ -58,23 +59,31 @@ fn half(alloc: Global, moment: u64, pending: Pending, left: &[Signed]) -> Result
         Pending::Whole { object } => Ok(Half::Made { object }),
         Pending::Certificate { tbs } => {
             let signed = certificate(alloc, &tbs, signature(left))?;
-            let object = Object::new(signed, None);
+            let object = Object::new(alloc, signed, None)?;
             Ok(Half::Made { object })
         }
         Pending::Revocations { tbs } => {
             let signed = revocations(alloc, &tbs, signature(left))?;
-            let object = Object::new(signed, None);
+            let object = Object::new(alloc, signed, None)?;
             Ok(Half::Made { object })
         }
         Pending::Content { content, .. } => {
-            let once = once(left);
+            let once = once(alloc, left)?;
             let content = SignedContent { content, once };
             Ok(Half::Begun { content })
         }
         Pending::Entity { kind, content, tbs } => {
             let SignedContent { content, once } = content;
-            let signed = object(alloc, kind, &content, &once, moment, &tbs, signature(left))?;
-            let object = Object::new(signed, Some(once));
+            let signed = object(
+                alloc,
+                kind,
+                &content,
+                once.get(),
+                moment,
+                &tbs,
+                signature(left),
+            )?;
+            let object = Object::new(alloc, signed, Some(once))?;
             Ok(Half::Made { object })
         }
     }

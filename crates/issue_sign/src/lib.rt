@@ -3,6 +3,7 @@
 #![tactic(auto)]
 
 mod asking;
+mod boxed;
 mod firsts;
 mod halves;
 mod manifests;
@@ -17,6 +18,7 @@ mod signing;
 mod steps;
 mod values;
 
+pub use boxed::Boxed;
 pub use manifests::sign_manifests;
 pub use object::Object;
 pub use sign_input::SignInput;

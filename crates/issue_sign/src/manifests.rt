@@ -161,7 +161,8 @@ fn last(
     let Half::Begun { content } = half else {
         unreachable!()
     };
-    let cert = certificate(alloc, sign_input, manifest, &content.once.key, serial)?;
+    let key = &content.once.get().key;
+    let cert = certificate(alloc, sign_input, manifest, key, serial)?;
     let tbs = cert.tbs(alloc)?;
     let kind = ObjectKind::Manifest;
     Ok(Pending::Entity { kind, content, tbs })

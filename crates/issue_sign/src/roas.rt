@@ -80,7 +80,7 @@ fn second(
             let DraftKind::Route { origin } = draft.kind else {
                 unreachable!()
             };
-            let key = &content.once.key;
+            let key = &content.once.get().key;
             let cert = certificate(alloc, sign_input, draft, &origin, key, serial)?;
             let tbs = cert.tbs(alloc)?;
             let kind = ObjectKind::Roa;
