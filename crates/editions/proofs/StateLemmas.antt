@@ -10,3 +10,5 @@ pub mod Shown
 pub mod Going
 pub mod Called
 pub mod InPlace
+pub mod Shifts
+pub mod Exchanged

@@ -78,8 +78,11 @@ impl PublishedState {
             → result ≡ spec.is_called_for self.now cut.now work.now.moment nexts }
     {
         let parts = self.parts();
-        let grown = grows(parts.cut.as_slice(), cut);
+        // Objects are looked at only where nothing else calls for an edition.
+        if either(parts.serial == 0, grows(parts.cut.as_slice(), cut)) {
+            return true;
+        }
         let due = any_due(work.moment, parts.issued.rows.as_slice());
-        either(parts.serial == 0, either(grown, either(due, steps(work))))
+        either(due, steps(work))
     }
 }

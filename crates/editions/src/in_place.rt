@@ -1,29 +1,23 @@
 //! Tables and sets that are given up, changed in place.
 
-ghost use Rattle.std.specs.Prelude.{◌≡◌, [], ◌∷◌, IfOk, IfSome, OnOk};
-ghost use Rattle.pub_set.specs.Objects.{uri_cmp, Rise, IsAscending};
+ghost use Rattle.std.specs.Prelude.{◌≡◌, ◌<◌, ◌≤◌, suc, [], ◌∷◌, ◌++◌, length, insert, remove, Some, IfOk, OnOk};
+ghost use Rattle.pub_set.specs.Objects.{Rise};
 ghost use Rattle.pub_set.specs.Changes.{uri_of, IsApplied};
 ghost use Rattle.editions.specs.Joining.{IsJoined};
 ghost use Rattle.editions.specs.Standing.{next_uri, next_row, IsTableAfter};
-ghost use Rattle.editions.specs.inner.RowPlaces.{IsRowPlace};
+ghost use Rattle.editions.specs.inner.RowPlaces.{IsRowPlace, IsExchanged, IsPutBehind};
 ghost use Rattle.editions.specs.declared.standing.NextRow.TheVariants.{Issued, Gone};
 
-use crate::standing::{NextRow, coming_rows, next_set, next_table};
+use crate::joining::AtUri;
+use crate::row_merging::{compare, merged};
+use crate::standing::{NextRow, coming_rows};
 use key_roll::IssuedRow;
-use pub_set::{Change, ObjectSet, QueryRefused, Uri};
+use pub_set::{Change, ObjectSet, Uri};
 use std::alloc::{AllocError, Global};
-use std::cmp::Ordering;
 
-// So few objects and rows are changed in what is given up. Of more, set and table are made by copies: a row that is put in
-// between moves half the table, and each object that a change replaces is hashed.
-pub(crate) const FEW: usize = 8;
-
-// How the row's URI compares to another.
-fn compare(row: &IssuedRow, uri: &Uri) -> Ordering
-    ensures { result ≡ uri_cmp row.now.uri uri.now }
-{
-    row.uri.as_str().cmp(uri.as_str())
-}
+// So many rows may come where none was, or go: each moves the rows behind its place, half the table as a rule, where it
+// isn't exchanged for another. Of more, all rows are merged into a new list, which moves each once.
+const FEW: usize = 8;
 
 // The place of the row at the URI, or the place where it would stand.
 fn place_of(rows: &[IssuedRow], uri: &Uri) -> Result<usize, usize>
@@ -74,6 +68,104 @@ fn put_next(rows: &mut Vec<IssuedRow>, next: NextRow) -> Result<(), AllocError>
     }
 }
 
+// Puts a row in at `to`, and takes the one at `from` out: those between move up by one place.
+fn shift_up(rows: &mut Vec<IssuedRow>, from: usize, to: usize, row: IssuedRow)
+    requires between { from < to }
+    requires bound { to ≤ length rows.old.items }
+    ensures { rows.new.items ≡ remove (insert rows.old.items to row) from }
+{
+    rows[from] = row;
+    rows[from..to].rotate_left(1);
+}
+
+// The same where the row that goes stands behind: those between move down by one place.
+fn shift_down(rows: &mut Vec<IssuedRow>, from: usize, to: usize, row: IssuedRow)
+    requires between { to ≤ from }
+    requires bound { from < length rows.old.items }
+    ensures { rows.new.items ≡ remove (insert rows.old.items to row) (suc from) }
+{
+    rows[from] = row;
+    rows[to..from + 1].rotate_right(1);
+}
+
+// Puts a row at its place, and takes another out: only rows between the two places are moved.
+fn exchange(rows: &mut Vec<IssuedRow>, gone: Uri, row: IssuedRow) -> Result<(), AllocError>
+    requires { Rise (λ row. row.uri) rows.old.items }
+    ensures { OnOk result (IsExchanged rows.old.items gone row rows.new.items) }
+{
+    if let (Ok(from), Err(to)) = (place_of(rows, &gone), place_of(rows, &row.uri)) {
+        if from < to {
+            shift_up(rows, from, to, row);
+        } else {
+            shift_down(rows, from, to, row);
+        }
+        return Ok(());
+    }
+    put_row(rows, row)?;
+    take_row(rows, gone);
+    Ok(())
+}
+
+// Makes both stand where a row comes and one goes, and else the first. What is left is answered.
+fn put_movers(
+    rows: &mut Vec<IssuedRow>,
+    first: NextRow,
+    one: NextRow,
+) -> Result<Option<NextRow>, AllocError>
+    requires { Rise (λ row. row.uri) rows.old.items }
+    ensures { IfOk result (IsPutBehind rows.old.items (Some first) one rows.new.items) }
+{
+    match first {
+        NextRow::Gone { uri } => match one {
+            NextRow::Issued { row } => {
+                exchange(rows, uri, row)?;
+                Ok(None)
+            }
+            NextRow::Gone { uri: other } => {
+                take_row(rows, uri);
+                Ok(Some(NextRow::Gone { uri: other }))
+            }
+        },
+        NextRow::Issued { row } => match one {
+            NextRow::Gone { uri } => {
+                exchange(rows, uri, row)?;
+                Ok(None)
+            }
+            NextRow::Issued { row: other } => {
+                put_row(rows, row)?;
+                Ok(Some(NextRow::Issued { row: other }))
+            }
+        },
+    }
+}
+
+// Whether this moves the rows behind its place: a row comes where none is, or goes.
+fn moves(rows: &[IssuedRow], next: &NextRow) -> bool
+    requires { Rise (λ row. row.uri) rows.now }
+{
+    let stays = matches!(next, NextRow::Issued { .. });
+    place_of(rows, next.uri()).is_ok() != stays
+}
+
+// Makes what comes stand, or lets it wait for one with which it can be exchanged. What waits then is answered.
+fn put_behind(
+    rows: &mut Vec<IssuedRow>,
+    waits: Option<NextRow>,
+    one: NextRow,
+) -> Result<Option<NextRow>, AllocError>
+    requires { Rise (λ row. row.uri) rows.old.items }
+    ensures { IfOk result (IsPutBehind rows.old.items waits one rows.new.items) }
+{
+    if !moves(rows, &one) {
+        put_next(rows, one)?;
+        return Ok(waits);
+    }
+    match waits {
+        Some(first) => put_movers(rows, first, one),
+        None => Ok(Some(one)),
+    }
+}
+
 // Makes what comes stand at each of its URIs.
 fn put_each(rows: &mut Vec<IssuedRow>, coming: Vec<NextRow>) -> Result<(), AllocError>
     requires rows { Rise (λ row. row.uri) rows.old.items }
@@ -81,15 +173,54 @@ fn put_each(rows: &mut Vec<IssuedRow>, coming: Vec<NextRow>) -> Result<(), Alloc
     ensures { OnOk result (IsJoined (λ row. row.uri) next_uri (λ row. row.uri) next_row
         rows.old.items coming.items rows.new.items) }
 {
+    let mut waits = None;
     for one in coming {
-        put_next(rows, one)?;
+        waits = put_behind(rows, waits, one)?;
+    }
+    if let Some(last) = waits {
+        put_next(rows, last)?;
     }
     Ok(())
 }
 
+// Whether few of what comes moves the rows behind its place.
+fn moves_few(rows: &[IssuedRow], coming: &[NextRow]) -> bool
+    requires { Rise (λ row. row.uri) rows.now }
+{
+    let mut left = FEW;
+    for next in coming {
+        if moves(rows, next) {
+            if left == 0 {
+                return false;
+            }
+            left -= 1;
+        }
+    }
+    true
+}
+
+// The rows once these come: in place, or merged into a list of its own. No row is copied.
+fn carried_out(
+    alloc: Global,
+    old: Vec<IssuedRow>,
+    coming: Vec<NextRow>,
+) -> Result<Vec<IssuedRow>, AllocError>
+    requires old { Rise (λ row. row.uri) old.items }
+    requires coming { Rise next_uri coming.items }
+    ensures { IfOk result (λ rows. IsJoined (λ row. row.uri) next_uri (λ row. row.uri) next_row
+        old.items coming.items rows.items) }
+{
+    if !moves_few(&old, &coming) {
+        return merged(alloc, old, coming);
+    }
+    let mut rows = old;
+    put_each(&mut rows, coming)?;
+    Ok(rows)
+}
+
 #[tactic(auto, using(crate::proofs::StateLemmas::Tabled::table_after))]
-// The same as `next_table`, of a table that is given up: its rows aren't copied.
-fn changed_table(
+/// The same as `next_table`, of a table that is given up: its rows are moved, and none is copied.
+pub fn changed_table(
     alloc: Global,
     old: Vec<IssuedRow>,
     changes: &[Change],
@@ -101,41 +232,18 @@ fn changed_table(
     ensures { IfOk result (λ rows. IsTableAfter old.items changes.now issued.now rows.items) }
 {
     let coming = coming_rows(alloc, changes, issued)?;
-    let mut rows = old;
-    put_each(&mut rows, coming)?;
+    let rows = carried_out(alloc, old, coming)?;
     Ok(rows)
 }
 
-// Whether so few rows change that each is changed at its place.
-fn are_few(changes: &[Change], issued: &[IssuedRow]) -> bool {
-    changes.len() <= FEW && issued.len() <= FEW
-}
-
-#[tactic(auto, using(crate::proofs::StateLemmas::InPlace::tabled_twice))]
-/// The same as `next_table`, of a table that is given up and of which the last changes made the one that stands: its
-/// rows aren't copied where few change.
-pub fn table_of_spare(
-    alloc: Global,
-    spare: Vec<IssuedRow>,
-    last: &[Change],
-    told: &[IssuedRow],
-    old: &[IssuedRow],
-    changes: &[Change],
-    issued: &[IssuedRow],
-) -> Result<Vec<IssuedRow>, AllocError>
-    requires spare { Rise (λ row. row.uri) spare.items }
-    requires last { Rise uri_of last.now }
-    requires told { Rise (λ row. row.uri) told.now }
-    requires stands { IsTableAfter spare.items last.now told.now old.now }
-    requires changes { Rise uri_of changes.now }
-    requires issued { Rise (λ row. row.uri) issued.now }
-    ensures { IfOk result (λ rows. IsTableAfter old.now changes.now issued.now rows.items) }
+// Puts the same changes behind the others.
+fn push_copies(alloc: Global, all: &mut Vec<Change>, changes: &[Change]) -> Result<(), AllocError>
+    ensures { OnOk result (all.new.items ≡ all.old.items ++ changes.now) }
 {
-    if !(are_few(last, told) && are_few(changes, issued)) {
-        return next_table(alloc, old, changes, issued);
+    for change in changes {
+        all.push(change.copy(alloc)?)?;
     }
-    let same = changed_table(alloc, spare, last, told)?;
-    changed_table(alloc, same, changes, issued)
+    Ok(())
 }
 
 /// The same changes once more.
@@ -143,49 +251,22 @@ pub fn copied_changes(alloc: Global, changes: &[Change]) -> Result<Vec<Change>, 
     ensures { IfOk result (λ copies. copies.items ≡ changes.now) }
 {
     let mut copies = Vec::with_capacity(alloc, changes.len())?;
-    for change in changes {
-        copies.push(change.copy(alloc)?)?;
-    }
+    push_copies(alloc, &mut copies, changes)?;
     Ok(copies)
 }
 
-// What the changes make of a set that is given up, or none where they don't go with it.
-fn changed_set(
+/// What two lists of changes, one after the other, make of a set that is given up. Its objects are neither copied nor
+/// hashed; where one URI is in both lists, it is changed once.
+pub fn changed_set(
     alloc: Global,
     old: ObjectSet,
-    changes: Vec<Change>,
-) -> Result<Option<ObjectSet>, AllocError>
-    ensures { IfOk result (λ changed. IfSome changed (λ new. IsApplied old changes.items new)) }
-{
-    let mut set = old;
-    match set.query(alloc, "", changes) {
-        Ok(()) => Ok(Some(set)),
-        Err(QueryRefused::Query { .. }) => Ok(None),
-        Err(QueryRefused::Memory) => Err(AllocError),
-    }
-}
-
-#[tactic(auto, using(crate::proofs::StateLemmas::InPlace::applied_twice))]
-/// The same as `next_set`, of a set that is given up and of which the last changes made the one that stands: its
-/// objects aren't copied where few change.
-pub fn set_of_spare(
-    alloc: Global,
-    spare: ObjectSet,
-    last: Vec<Change>,
-    old: &ObjectSet,
-    changes: &[Change],
+    first: Vec<Change>,
+    then: &[Change],
 ) -> Result<ObjectSet, AllocError>
-    requires last { IsApplied spare last.items old.now }
-    requires changes { Rise uri_of changes.now }
-    ensures { IfOk result (λ set. IsApplied old.now changes.now set) }
+    ensures { IfOk result (λ set. IsApplied old (first.items ++ then.now) set) }
 {
-    if last.len() > FEW || changes.len() > FEW {
-        return next_set(alloc, old, changes);
-    }
-    if let Some(same) = changed_set(alloc, spare, last)? {
-        if let Some(next) = changed_set(alloc, same, copied_changes(alloc, changes)?)? {
-            return Ok(next);
-        }
-    }
-    next_set(alloc, old, changes)
+    let (mut set, mut changes) = (old, first);
+    push_copies(alloc, &mut changes, then)?;
+    set.apply(alloc, changes)?;
+    Ok(set)
 }

@@ -17,6 +17,7 @@ mod object_laws;
 mod plan_laws;
 mod published_laws;
 mod published_state;
+mod row_merging;
 mod sheets;
 mod spare;
 mod sparing_laws;

@@ -5,9 +5,10 @@ ghost use Rattle.std.specs.Arc.{arc_value};
 ghost use Rattle.pub_set.specs.Objects.{Rise};
 ghost use Rattle.pub_set.specs.Changes.{uri_of, IsApplied};
 ghost use Rattle.editions.specs.Standing.{IsTableAfter};
+ghost use Rattle.editions.specs.PublishedState.{PublishedStateValue};
 ghost use Rattle.editions.specs.Spares.{LeadTo, IsSpareOf};
 
-use crate::in_place::{FEW, copied_changes, set_of_spare, table_of_spare};
+use crate::in_place::{changed_set, changed_table, copied_changes};
 use crate::published_state::{PublishedState, StateParts};
 use crate::standing::{next_set, next_table};
 use items::Items;
@@ -82,8 +83,8 @@ impl CurrentState {
 
     /// The set and the table after these changes, of which these rows tell what was issued.
     ///
-    /// The first call behind an edition takes what stood before where both change little, and copies nothing of what
-    /// stays. Each later one copies what stands.
+    /// The first call behind an edition takes what stood before where both change little of what stands, and copies
+    /// nothing of what stays. Each later one copies what stands.
     pub fn standing_after(
         &mut self,
         alloc: Global,
@@ -101,7 +102,7 @@ impl CurrentState {
     }
 
     /// That state, to which these changes lead from what stands, and of which these rows tell what was issued. What
-    /// stands is kept for the edition after it where little changes.
+    /// stands is kept for the edition after it where little of what stands then was changed.
     pub fn followed_by(
         &self,
         alloc: Global,
@@ -112,7 +113,7 @@ impl CurrentState {
         requires { LeadTo self.now.set self.now.issued changes.now issued next }
         ensures { IfOk result (λ current. current ≡ next) }
     {
-        if changes.len() > FEW {
+        if !are_little_of(&next, changes) {
             return CurrentState::new(alloc, next);
         }
         let spare = Spare {
@@ -125,6 +126,13 @@ impl CurrentState {
             spare: Some(spare),
         })
     }
+}
+
+// Whether the changes are little beside what stands: at most an eighth as many as it has rows. What stood before comes to
+// what stands by carrying out the last changes once more, for which their URIs and rows are copied. Of more changes, as
+// those of the first edition, that would take as long as a copy of what stands, and keeping them much memory.
+fn are_little_of(at: &PublishedState, changes: &[Change]) -> bool {
+    changes.len() <= at.parts().issued.rows.len() / 8
 }
 
 // Made of copies of what stands.
@@ -148,41 +156,37 @@ fn copied(
     })
 }
 
-// Made of a state that is given up, and from which the last changes led to what stands.
+// Made of a state that is given up, for any to which the last changes lead from it.
 fn moved_on(
     alloc: Global,
     old: StateParts,
     last: Items<Change>,
     told: Items<IssuedRow>,
-    at: &PublishedState,
     changes: &[Change],
     issued: &[IssuedRow],
 ) -> Result<SetWithTable, AllocError>
     requires old { Rise (λ row. row.uri) old.issued.rows }
-    requires last { LeadTo old.set old.issued.rows last told at.now }
+    requires last { Rise uri_of last }
+    requires told { Rise (λ row. row.uri) told }
     requires changes { Rise uri_of changes.now }
     requires issued { Rise (λ row. row.uri) issued.now }
-    ensures set { IfOk result (λ next. IsApplied at.now.set changes.now next.set) }
-    ensures table { IfOk result (λ next. IsTableAfter at.now.issued changes.now issued.now next.table) }
+    ensures set { IfOk result (λ next. (at : PublishedStateValue)
+        → LeadTo old.set old.issued.rows last told at → IsApplied at.set changes.now next.set) }
+    ensures table { IfOk result (λ next. (at : PublishedStateValue)
+        → LeadTo old.set old.issued.rows last told at
+        → IsTableAfter at.issued changes.now issued.now next.table) }
 {
-    let parts = at.parts();
-    let table = table_of_spare(
-        alloc,
-        old.issued.rows.into_vec(),
-        last.as_slice(),
-        told.as_slice(),
-        parts.issued.rows.as_slice(),
-        changes,
-        issued,
-    )?;
-    let set = set_of_spare(alloc, old.set, last.into_vec(), &parts.set, changes)?;
+    let rows = old.issued.rows.into_vec();
+    let same = changed_table(alloc, rows, last.as_slice(), told.as_slice())?;
+    let table = changed_table(alloc, same, changes, issued)?;
+    let set = changed_set(alloc, old.set, last.into_vec(), changes)?;
     Ok(SetWithTable {
         set,
         table: Items::new(table),
     })
 }
 
-// Made of the spare, if nobody else has it.
+// Made of the spare, if it is worth that and nobody else has it.
 fn standing_of(
     alloc: Global,
     spare: Option<Spare>,
@@ -197,9 +201,11 @@ fn standing_of(
     ensures table { IfOk result (λ next. IsTableAfter at.now.issued changes.now issued.now next.table) }
 {
     if let Some(spare) = spare {
-        if let Ok(state) = Arc::try_unwrap(spare.state) {
-            let old = state.into_parts();
-            return moved_on(alloc, old, spare.changes, spare.issued, at, changes, issued);
+        if are_little_of(at, changes) {
+            if let Ok(state) = Arc::try_unwrap(spare.state) {
+                let old = state.into_parts();
+                return moved_on(alloc, old, spare.changes, spare.issued, changes, issued);
+            }
         }
     }
     copied(alloc, at, changes, issued)

@@ -5,7 +5,7 @@ use Rattle.std.specs.Option.{option_or, option_to_list}
 use Rattle.std.specs.List.{AllByRecursion, AllWithin}
 use Rattle.std.specs.List.Sorted.{IsBinarySearchResult, IsSearchInRange}
 use Rattle.std.specs.Ordering.{is_lt, on, ordering_reverse}
-use Rattle.std.specs.declared.cmp.Ordering.TheVariants.{Less}
+use Rattle.std.specs.declared.cmp.Ordering.TheVariants.{Less, Equal, Greater}
 use Rattle.std.proofs.lemmas.List.{take-append-drop, set_split}
 use Rattle.std.proofs.lemmas.List.Sorted.{searchable_from_sorted}
 use Rattle.std.proofs.lemmas.Map.Keys.{Less-from_sorted}
@@ -13,14 +13,14 @@ use Rattle.key_roll.specs.declared.issued.IssuedRow.{IssuedRow}
 use Rattle.pub_set.specs.declared.steps.Change.{Change}
 use Rattle.pub_set.specs.declared.objects.Object.{Object}
 use Rattle.pub_set.specs.Objects.{uri_cmp, is_same, content_at, Rise, AllBelow, AllAbove}
-use Rattle.pub_set.specs.Changes.{Contents, change_at, after_all, IsApplied}
+use Rattle.pub_set.specs.Changes.{Contents, change_at, after, after_all, IsApplied}
 use Rattle.pub_set.specs.laws.UriLaws.{uri_total, same_is, tied_is, below_from_above}
-use Rattle.pub_set.specs.laws.LookupLaws.{rise-left, rise-right, rise-head, rise-tail, rise-cons, rise-append, rise-between, below-middle, above_further, all_weaken, none_above, none_below, found_at-append}
+use Rattle.pub_set.specs.laws.LookupLaws.{rise-left, rise-right, rise-head, rise-tail, rise-cons, rise-append, rise-between, below-middle, above_further, below_further, all_weaken, all_append, none_above, none_below, found_at-append}
 use Rattle.editions.specs.declared.standing.NextRow.{NextRow}
 use Rattle.editions.specs.declared.standing.NextRow.TheVariants.{Issued, Gone}
 use Rattle.editions.specs.Joining.{IsAt, at_uri}
 use Rattle.editions.specs.Standing.{row_at, row_after, next_uri, next_row, IsTableAfter}
-use Rattle.editions.specs.inner.RowPlaces.{IsRowPlace}
+use Rattle.editions.specs.inner.RowPlaces.{IsRowPlace, StartsElse, PopsIf}
 use Rattle.editions.proofs.StateLemmas.Lookups.{found-here, found-elsewhere}
 use Rattle.editions.proofs.StateLemmas.Tabled.{row_uri, IsComing}
 
@@ -163,24 +163,64 @@ coming_next old new next rest up one at =
       | false ↦ λ other is. ap (λ (row : Option IssuedRow). next_row row (at_uri next_uri rest at)) is
     ] refl (one.each at)
 
--- Nothing is left to come.
-pub coming_all : (old new : List IssuedRow) (coming rest : List NextRow) → Rise row_uri new → rest ≡ [] →
-    ((at : List ℕ) → next_row (row_at new at) (at_uri next_uri rest at) ≡ next_row (row_at old at) (at_uri next_uri coming at)) → IsComing old coming new
-coming_all old new coming rest up none each = record {
-  rising = up;
-  each = λ at. ap (λ (l : List NextRow). next_row (row_at new at) (at_uri next_uri l at)) (sym none) ∙ each at;
-}
+-- ---- a row between those that were moved and those that are left
+
+-- Rows of which the first is neither below a URI nor at it are above it.
+above_from_starts : (rows : List IssuedRow) (uri : List ℕ) → Rise row_uri rows → StartsElse rows uri Less → StartsElse rows uri Equal → AllAbove row_uri rows uri
+above_from_starts [] uri up not_less not_equal = tt
+above_from_starts (row ∷ rest) uri up not_less not_equal =
+    elim (uri_cmp row.uri uri) as (λ r. uri_cmp row.uri uri ≡ r → AllAbove row_uri (row ∷ rest) uri) [
+      | Less ↦ λ is. absurd (not_less is)
+      | Equal ↦ λ is. absurd (not_equal is)
+      | Greater ↦ λ is.
+          let above = below_from_above row.uri uri is in (above, above_further row_uri uri row.uri rest above (rise-head row_uri row rest up))
+    ] refl
+
+-- What comes stands behind those that were moved, in place of the row that was at its URI.
+pub merged_next : (old xs ys zs new : List IssuedRow) (was : Option IssuedRow) (next : NextRow) → Rise row_uri old → xs ++ ys ≡ old →
+    AllBelow row_uri xs (next_uri next) → StartsElse ys (next_uri next) Less → PopsIf ys (next_uri next) Equal was zs →
+    new ≡ xs ++ (option_to_list (next_row None (Some next)) ++ zs) → IsComing old (next ∷ []) new
+merged_next old xs ys zs new None next up parts below starts popped is =
+    let whole : Rise row_uri (xs ++ ys) = subst (λ (l : List IssuedRow). Rise row_uri l) (sym parts) up in
+    let second : Rise row_uri ys = rise-right row_uri xs ys whole in
+    let above : AllAbove row_uri ys (next_uri next) = above_from_starts ys (next_uri next) second starts popped.1 in
+    comes_between xs ys old new None next (rise-left row_uri xs ys whole) second below above tt (sym parts)
+    (is ∙ (ap (λ (row : Option IssuedRow). xs ++ (option_to_list row ++ zs)) (sym (next_left None next))
+    ∙ ap (λ (l : List IssuedRow). xs ++ (option_to_list (left_by next) ++ l)) popped.0))
+merged_next old xs ys zs new (Some row) next up parts below starts popped is =
+    let there : xs ++ row ∷ zs ≡ old = ap (λ (l : List IssuedRow). xs ++ l) (sym popped.0) ∙ parts in
+    let whole : Rise row_uri (xs ++ row ∷ zs) = subst (λ (l : List IssuedRow). Rise row_uri l) (sym there) up in
+    let tail : Rise row_uri (row ∷ zs) = rise-right row_uri xs (row ∷ zs) whole in
+    let here : row.uri ≡ next_uri next = tied_is row.uri (next_uri next) popped.1 in
+    comes_between xs zs old new (Some row) next (rise-left row_uri xs (row ∷ zs) whole) (rise-tail row_uri row zs tail) below
+    (rw (← here) (rise-head row_uri row zs tail)) here (sym there)
+    (is ∙ ap (λ (issued : Option IssuedRow). xs ++ (option_to_list issued ++ zs)) (sym (next_left None next)))
+
+-- What was moved, with what comes behind it, is below each later URI.
+pub below_later : (xs : List IssuedRow) (next : NextRow) (later : List ℕ) → AllBelow row_uri xs (next_uri next) → uri_cmp (next_uri next) later ≡ Less →
+    AllBelow row_uri (xs ++ option_to_list (next_row None (Some next))) later
+below_later xs (Issued row) later below less =
+    all_append (λ x. uri_cmp x.uri later ≡ Less) xs (row ∷ []) (below_further row_uri row.uri later xs less below) (less, tt)
+below_later xs (Gone uri) later below less =
+    all_append (λ x. uri_cmp x.uri later ≡ Less) xs [] (below_further row_uri uri later xs less below) tt
 
 -- ---- what a spare leads to
 
--- Changes make the same of two sets that others made of one.
-pub applied_twice : (spare same old : List Object) (last changes : List Change) (new : List Object) →
-    IsApplied spare last same → IsApplied spare last old → IsApplied same changes new → IsApplied old changes new
-applied_twice spare same old last changes new one two then = λ uri.
-    let held : (at : List ℕ) → content_at same at ≡ content_at old at = λ at. one at ∙ sym (two at) in
-    then uri ∙ ap (λ (h : Contents). after_all h changes uri) (λ i at. held at i)
+-- Changes one after another.
+after_both : (held : Contents) (first then : List Change) → after_all held (first ++ then) ≡ after_all (after_all held first) then
+after_both held [] then = refl
+after_both held (change ∷ rest) then = after_both (after held change) rest then
 
--- And of two tables.
+-- Of a set to which the last changes lead, what they and others make of the one before.
+pub applied_behind : (spare old : List Object) (last changes : List Change) (new : List Object) →
+    IsApplied spare last old → IsApplied spare (last ++ changes) new → IsApplied old changes new
+applied_behind spare old last changes new stands both = λ uri.
+    let held : (at : List ℕ) → after_all (content_at spare) last at ≡ content_at old at = λ at. sym (stands at) in
+    both uri
+    ∙ (ap (λ (h : Contents). h uri) (after_both (content_at spare) last changes)
+    ∙ ap (λ (h : Contents). after_all h changes uri) (λ i at. held at i))
+
+-- Changes make the same of two tables that others made of one.
 pub tabled_twice : (spare same old : List IssuedRow) (last changes : List Change) (told issued new : List IssuedRow) →
     IsTableAfter spare last told same → IsTableAfter spare last told old → IsTableAfter same changes issued new → IsTableAfter old changes issued new
 tabled_twice spare same old last changes told issued new one two then = record {

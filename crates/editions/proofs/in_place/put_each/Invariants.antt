@@ -1,4 +1,5 @@
-use Rattle.std.proofs.Common.{◌≡◌, ℕ, List, length}
+use Rattle.std.proofs.Common.{◌≡◌, ℕ, List, ◌++◌, length}
+use Rattle.std.specs.Option.{option_to_list}
 use Rattle.std.specs.Vec.Iter.{into_iter_items, into_iter_len}
 use Rattle.pub_set.specs.Objects.{Rise}
 use Rattle.editions.specs.Joining.{at_uri}
@@ -9,7 +10,7 @@ use Rattle.editions.proofs.in_place.put_each.Given as goal
 abbrev pub invariant-loop-one : goal.invariant-loop-one
 invariant-loop-one l = record {
   rows_rise : Rise row_uri l.rows.items;
-  rest_rise : Rise next_uri (into_iter_items l.one-iterator);
-  each : (at : List ℕ) → next_row (row_at l.rows.items at) (at_uri next_uri (into_iter_items l.one-iterator) at) ≡ next_row (row_at l.fn.rows.items at) (at_uri next_uri l.fn.coming.items at);
+  rest_rise : Rise next_uri (option_to_list l.waits ++ into_iter_items l.one-iterator);
+  each : (at : List ℕ) → next_row (row_at l.rows.items at) (at_uri next_uri (option_to_list l.waits ++ into_iter_items l.one-iterator) at) ≡ next_row (row_at l.fn.rows.items at) (at_uri next_uri l.fn.coming.items at);
   left : into_iter_len l.one-iterator ≡ length (into_iter_items l.one-iterator);
 }
