@@ -87,7 +87,8 @@ impl<D: Disk, O: Outlet> Kept<D, O> {
         }
     }
 
-    fn keep_desk(&mut self, fault: DeskFault<D>)
+    /// Keeps what the refusal of an authority's desk has.
+    pub fn keep_desk(&mut self, fault: DeskFault<D>)
         ensures { self.new ≡ keeps_of_desk fault self.old }
     {
         match fault {
@@ -108,7 +109,8 @@ impl<D: Disk, O: Outlet> Kept<D, O> {
         }
     }
 
-    fn keep_unmade(&mut self, fault: Unmade<D>)
+    /// Keeps what the refusal of a publication that makes no edition has.
+    pub fn keep_unmade(&mut self, fault: Unmade<D>)
         ensures { self.new ≡ keeps_of_unmade fault self.old }
     {
         match fault {
@@ -134,7 +136,8 @@ impl<D: Disk, O: Outlet> Kept<D, O> {
         }
     }
 
-    fn keep_export(&mut self, fault: ExportFault<O>)
+    /// Keeps what an export that failed has.
+    pub fn keep_export(&mut self, fault: ExportFault<O>)
         ensures { self.new ≡ keeps_of_export fault self.old }
     {
         if let ExportFault::OutletFault { rose } = fault {
