@@ -18,6 +18,7 @@ use Rattle.krill_top.specs.declared.command_fault.CommandFault.TheVariants as fa
 use Rattle.krill_top.specs.DeskStates.{DeskStates, DeskState, desk_named}
 use Rattle.line_loop.specs.Readings.{IsReading}
 use Rattle.krill_top.specs.InstanceState.{InstanceState, TimedInstanceState, at_clock}
+use Rattle.krill_top.specs.Keeps.{keeps_of_command, keeps_of_publication}
 use Rattle.krill_top.specs.Outcomes.{Outcome, CommandedAt, fault_outcome}
 use Rattle.krill_top.specs.Outcomes.Outcome.{Accepted, Verdict}
 use Rattle.krill_top.specs.Publishing.{Outcome as Publication, ComesTo, has_changed}
@@ -59,7 +60,7 @@ failed fault = Err fault
 
 module _ {D O : Type 0} (disk_of : DiskGhosts D) (outlet_of : OutletGhosts O) where
   pub told_or_memory : (P : TimedInstanceState → List ℕ → Bool → TimedInstanceState → Type 0) (timed : TimedInstance D O) (told : List ℕ)
-      → ((before : InstanceState) → IsInState outlet_of timed.instance before → P (at_clock timed.clock before) told false (at_clock timed.clock before)) ⊎ (told ≡ memory_text)
+      → ((before : InstanceState) → IsInState outlet_of timed.instance before → P (at_clock timed.clock timed.kept before) told false (at_clock timed.clock timed.kept before)) ⊎ (told ≡ memory_text)
       → MovesTimed disk_of outlet_of (λ b a. IsToldOr P b told false a) timed timed
   told_or_memory P timed told is = stay_timed disk_of outlet_of (λ b a. IsToldOr P b told false a) timed (λ before stands. elim is [
     | inl so ↦ inl (so before stands)
@@ -70,48 +71,48 @@ module _ {D O : Type 0} (disk_of : DiskGhosts D) (outlet_of : OutletGhosts O) wh
 
   module _ (name : List ℕ) (command : Command) (text : List ℕ) (old new : TimedInstance D O) (same_clock : new.clock ≡ old.clock) where
     -- it comes to an outcome, and gets that text
-    told_outcome : (outcome : Outcome) (changed : Bool) → text ≡ outcome_text name outcome → changed ≡ is_change outcome
+    told_outcome : (outcome : Outcome) (changed : Bool) → new.kept ≡ keeps_of_command outcome old.kept → text ≡ outcome_text name outcome → changed ≡ is_change outcome
         → Moves disk_of outlet_of (λ b a. CommandedIn name command outcome b a) old.instance new.instance
         → MovesTimed disk_of outlet_of (λ b a. IsToldOr (CommandText name command) b text changed a) old new
-    told_outcome outcome changed is so moves =
+    told_outcome outcome changed keeps is so moves =
         moves_at disk_of outlet_of (λ b a. CommandedIn name command outcome b a) (λ b a. IsToldOr (CommandText name command) b text changed a) old new moves
-        (λ before after comes. inl (record { outcome = outcome; comes = comes; same_clock = same_clock; text_is = is; changed_is = so }))
+        (λ before after comes. inl (record { outcome = outcome; comes = comes; same_clock = same_clock; keeps = keeps; text_is = is; changed_is = so }))
 
-    pub accepted_text : (count : ℕ) → text ≡ accepted_spelling name count → Moves disk_of outlet_of (λ b a. CommandedIn name command (Accepted count) b a) old.instance new.instance
+    pub accepted_text : (count : ℕ) → new.kept ≡ old.kept → text ≡ accepted_spelling name count → Moves disk_of outlet_of (λ b a. CommandedIn name command (Accepted count) b a) old.instance new.instance
         → MovesTimed disk_of outlet_of (λ b a. IsToldOr (CommandText name command) b text true a) old new
-    accepted_text count is moves = told_outcome (Accepted count) true is refl moves
+    accepted_text count same is moves = told_outcome (Accepted count) true same is refl moves
 
     -- a refused command changes nothing, and its text may find no memory
-    untold : (refusal : Refusal) (changed : Bool) → text ≡ memory_text → changed ≡ is_change (Verdict refusal) → Moves disk_of outlet_of (λ b a. CommandedIn name command (Verdict refusal) b a) old.instance new.instance
+    untold : (refusal : Refusal) (changed : Bool) → new.kept ≡ old.kept → text ≡ memory_text → changed ≡ is_change (Verdict refusal) → Moves disk_of outlet_of (λ b a. CommandedIn name command (Verdict refusal) b a) old.instance new.instance
         → MovesTimed disk_of outlet_of (λ b a. IsToldOr (CommandText name command) b text changed a) old new
-    untold refusal changed memory so moves =
+    untold refusal changed same_kept memory so moves =
         moves_at disk_of outlet_of (λ b a. CommandedIn name command (Verdict refusal) b a) (λ b a. IsToldOr (CommandText name command) b text changed a) old new moves
         (λ before after comes. inr (record { text_is = memory; unchanged = so; same = same_timed before after (unchanged name command refusal before after comes) }))
       where
-        same_timed : (before after : InstanceState) → after ≡ before → at_clock new.clock after ≡ at_clock old.clock before
-        same_timed before after same = λ i. record { state = same i; clock = same_clock i }
+        same_timed : (before after : InstanceState) → after ≡ before → at_clock new.clock new.kept after ≡ at_clock old.clock old.kept before
+        same_timed before after same = λ i. record { state = same i; clock = same_clock i; kept = same_kept i }
 
-    pub fault_text : (fault : CommandFault D) (changed wanting : Bool) → IsFaultText name fault text wanting → changed ≡ is_change (fault_outcome fault)
+    pub fault_text : (fault : CommandFault D) (changed wanting : Bool) → new.kept ≡ keeps_of_command (fault_outcome fault) old.kept → IsFaultText name fault text wanting → changed ≡ is_change (fault_outcome fault)
         → Moves disk_of outlet_of (λ b a. CommandedIn name command (fault_outcome fault) b a) old.instance new.instance
         → MovesTimed disk_of outlet_of (λ b a. IsToldOr (CommandText name command) b text changed a) old new
-    fault_text faults.NoSuchAuthority changed wanting is so moves = told_outcome (fault_outcome {D = D} faults.NoSuchAuthority) changed is.0 so moves
-    fault_text (faults.Shut rose) changed wanting is so moves = told_outcome (fault_outcome {D = D} (faults.Shut rose)) changed is.0 so moves
-    fault_text (faults.JournalFull held needed) changed wanting is so moves = told_outcome (fault_outcome {D = D} (faults.JournalFull held needed)) changed is.0 so moves
-    fault_text (faults.DiskFault rose) changed wanting is so moves = told_outcome (fault_outcome {D = D} (faults.DiskFault rose)) changed is.0 so moves
-    fault_text faults.Memory changed wanting is so moves = told_outcome (fault_outcome {D = D} faults.Memory) changed is.0 so moves
-    fault_text (faults.Verdict refusal) changed wanting is so moves = elim is [
-      | inl told ↦ told_outcome (fault_outcome {D = D} (faults.Verdict refusal)) changed told.0 so moves
-      | inr memory ↦ untold refusal changed memory.0 so moves
+    fault_text faults.NoSuchAuthority changed wanting keeps is so moves = told_outcome (fault_outcome {D = D} faults.NoSuchAuthority) changed keeps is.0 so moves
+    fault_text (faults.Shut rose) changed wanting keeps is so moves = told_outcome (fault_outcome {D = D} (faults.Shut rose)) changed keeps is.0 so moves
+    fault_text (faults.JournalFull held needed) changed wanting keeps is so moves = told_outcome (fault_outcome {D = D} (faults.JournalFull held needed)) changed keeps is.0 so moves
+    fault_text (faults.DiskFault rose) changed wanting keeps is so moves = told_outcome (fault_outcome {D = D} (faults.DiskFault rose)) changed keeps is.0 so moves
+    fault_text faults.Memory changed wanting keeps is so moves = told_outcome (fault_outcome {D = D} faults.Memory) changed keeps is.0 so moves
+    fault_text (faults.Verdict refusal) changed wanting keeps is so moves = elim is [
+      | inl told ↦ told_outcome (fault_outcome {D = D} (faults.Verdict refusal)) changed keeps told.0 so moves
+      | inr memory ↦ untold refusal changed keeps memory.0 so moves
     ]
 
   -- ---- a publication
 
   pub publish_told : (clock : ℕ) (outcome : Publication) (text : List ℕ) (changed : Bool) (old new : TimedInstance D O) → IsReading old.clock clock new.clock
-      → text ≡ publish_text outcome → changed ≡ has_changed outcome → Moves disk_of outlet_of (λ b a. ComesTo clock outcome b a) old.instance new.instance
+      → new.kept ≡ keeps_of_publication outcome old.kept → text ≡ publish_text outcome → changed ≡ has_changed outcome → Moves disk_of outlet_of (λ b a. ComesTo clock outcome b a) old.instance new.instance
       → MovesTimed disk_of outlet_of (λ b a. PublishText b text changed a) old new
-  publish_told clock outcome text changed old new read is so moves =
+  publish_told clock outcome text changed old new read keeps is so moves =
       moves_at disk_of outlet_of (λ b a. ComesTo clock outcome b a) (λ b a. PublishText b text changed a) old new moves
-      (λ before after comes. record { clock = clock; read = read; outcome = outcome; comes = comes; text_is = is; changed_is = so })
+      (λ before after comes. record { clock = clock; read = read; outcome = outcome; comes = comes; keeps = keeps; text_is = is; changed_is = so })
 
   -- ---- a read
 
@@ -148,7 +149,7 @@ module _ {D O : Type 0} (disk_of : DiskGhosts D) (outlet_of : OutletGhosts O) wh
   ])
     where
       of_fault : (fault : LineFault) → (¬ (failed fault ≡ failed Memory) → ReadsLine line (Err fault)) → text ≡ fault_spelling fault
-          → ((before : InstanceState) → IsInState outlet_of old.instance before → IsReadText line (at_clock old.clock before) text false (at_clock old.clock before)) ⊎ (text ≡ memory_text)
+          → ((before : InstanceState) → IsInState outlet_of old.instance before → IsReadText line (at_clock old.clock old.kept before) text false (at_clock old.clock old.kept before)) ⊎ (text ≡ memory_text)
       of_fault Memory reads told = inr told
       of_fault BadLine reads told = inl (λ before stands. record { said = Err BadLine; reads = reads (λ e. cc); answer = record { text_is = told; unchanged = refl; same = refl } })
       of_fault UnknownCommand reads told = inl (λ before stands. record { said = Err UnknownCommand; reads = reads (λ e. cc); answer = record { text_is = told; unchanged = refl; same = refl } })

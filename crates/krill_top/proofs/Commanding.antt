@@ -24,6 +24,7 @@ use Rattle.krill_top.specs.Outcomes.{Outcome, CanBeAccepted, Does, CommandedAt, 
 use Rattle.krill_top.specs.Outcomes.Outcome.{Accepted, NoSuchAuthority}
 use Rattle.krill_top.specs.DesksInStates.{IsIn, AreIn, DeskGoesOn, Leads}
 use Rattle.editions.specs.laws.GrantedLaws.{granted_accepted}
+use Rattle.krill_top.proofs.Fitting.{desk_fits}
 use Rattle.krill_top.proofs.Standing.{At, at_place, settings_in, in_set, one_stored, goes_same, go_on_set, stay}
 
 -- commands that were accepted in turn, and one more
@@ -97,6 +98,7 @@ module _ {D : Type 0} (disk_of : DiskGhosts D) (number : ℕ) (command : Command
           stays = λ shut. absurd (shut place.may_come.is_open);
           cause = λ begun shut. absurd (shut refl);
           later = taken.later;
+          room = λ small. desk_fits was.commands command place.fits;
         };
       }
 
@@ -125,7 +127,7 @@ module _ {D : Type 0} (disk_of : DiskGhosts D) (number : ℕ) (command : Command
       → (was : DeskState) → IsIn number old was → Step (fault_outcome (command_fault_of fault)) old new was
   fault_step old new (Shut rose) later why was stands = record {
     is = was;
-    does = record { shut = λ none. none-some rose.1 (sym (stands.shut.1 none) ∙ why.shut); same = refl };
+    does = record { desk = why.desk ∙ stands.number_is; shut = λ none. none-some rose.1 (sym (stands.shut.1 none) ∙ why.shut); same = refl };
     stands = unchanged old new was why.same stands;
     goes = goes_unchanged old new was why.same;
   }
@@ -151,7 +153,7 @@ module _ {D : Type 0} (disk_of : DiskGhosts D) (number : ℕ) (command : Command
       let place = placed old was stands why.place in
       record {
         is = record { commands = was.commands; doubt = Some command };
-        does = record { place = place; device_is = why.desk ∙ stands.number_is; doubted = refl };
+        does = record { place = place; desk = why.desk ∙ stands.number_is; doubted = refl };
         stands = in_doubt old new rose was why
             (subst (λ (s : Settings). IsAccepted s command) (settings_in number old was stands) (granted_accepted old.settings command signers why.place.may_come.verdict)) stands;
         goes = record {
@@ -167,6 +169,7 @@ module _ {D : Type 0} (disk_of : DiskGhosts D) (number : ℕ) (command : Command
             ends = omega (arith, why.after);
           };
           later = later;
+          room = λ small. desk_fits was.commands command place.fits;
         };
       }
   fault_step old new Memory later why was stands = record {

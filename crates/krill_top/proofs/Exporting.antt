@@ -4,7 +4,6 @@ use Rattle.std.proofs.Math.Seq.{take-length}
 use Rattle.std.proofs.lemmas.Bool.{eqb-true}
 use Rattle.std.proofs.lemmas.List.{nil_from_length}
 use Rattle.std.specs.Prelude.{◌⊎◌, Option, None, Some, Result, Ok, Err, OnOk, IfErr, IfSome, option_map}
-use Rattle.host_calls.specs.Rise.{HasRisen}
 use Rattle.disk_api.specs.declared.disk.Disk.{Ghosts as DiskGhosts}
 use Rattle.outlet_api.specs.declared.outlet.Outlet.{Ghosts as OutletGhosts}
 use Rattle.authority_book.specs.declared.commands.Command.{Command}
@@ -14,7 +13,6 @@ use Rattle.outlet_api.specs.Calls.{Files, after_all, IsFront}
 use Rattle.outlet_api.specs.Faults.{IsCauseOf}
 use Rattle.outlet_api.specs.declared.exports.ExportFault.{ExportFault}
 use Rattle.outlet_api.specs.declared.exports.ExportFault.TheVariants.{OutletFault, Memory}
-use Rattle.outlet_api.specs.declared.outlet.OutletStop.TheVariants as stop
 use Rattle.rrdp_state.specs.Exported.{Repository}
 use Rattle.press_core.specs.Press.{PressValue}
 use Rattle.press_core.specs.Stands.{IsLeftBy}
@@ -23,7 +21,7 @@ use Rattle.press_core.specs.Exports.{export_of, ended_by, IsCoherent, ShowsFiles
 use Rattle.press_core.specs.declared.last_export.LastExport.{LastExport}
 use Rattle.press_core.specs.declared.last_export.LastExport.TheVariants.{NoExport, Failed, Done}
 use Rattle.krill_top.specs.InstanceState.{InstanceState, OutletState, outlet_state, lists_of, last_serial, is_of, is_exported, repository_in, IsCoherentIn, ShowsLastIn}
-use Rattle.krill_top.specs.Exports.{Exports, ExportsOrStops, stop_of}
+use Rattle.krill_top.specs.Exports.{Exports, ExportsOrStops, IsStopped, stopped_of}
 use Rattle.krill_top.specs.inner.Instances.{InstanceValue, IsInState, Arrives, Moves, stored_in}
 use Rattle.manager.specs.Pressing.{exported_as}
 use Rattle.manager.specs.Ready.{ShowsItsLast}
@@ -76,9 +74,9 @@ pub record IsExportOf {T O : Type 0} (result : Result T (ExportFault O)) (press 
   pub counts : was.faults ≤ is.faults
   pub cause : IfErr result (IsCauseOf was.faults is.faults)
 
-cause_of : {O : Type 0} (fault : ExportFault O) (was is : ℕ) → IsCauseOf was is fault → stop_of fault ≡ stop.Fault → HasRisen was is
-cause_of (OutletFault rose) was is cause same = cause.1
-cause_of Memory was is cause same = absurd (cc)
+cause_of : {O : Type 0} (fault : ExportFault O) (was is : ℕ) → IsCauseOf was is fault → IsStopped was is (stopped_of fault)
+cause_of (OutletFault rose) was is cause = cause
+cause_of Memory was is cause = tt
 
 module _ {D O : Type 0} (disk_of : DiskGhosts D) (outlet_of : OutletGhosts O) where
   -- the instance once the last edition was exported, as far as it went
@@ -143,7 +141,7 @@ module _ {D O : Type 0} (disk_of : DiskGhosts D) (outlet_of : OutletGhosts O) wh
           files = record { kept = stands.files.kept; set = stands.files.set };
           site = stands.site;
           session = stands.session;
-          journal = record { limit = stands.journal.limit; records = stands.journal.records; are = stands.journal.are; shut = stands.journal.shut; doubt = stands.journal.doubt };
+          journal = record { limit = stands.journal.limit; records = stands.journal.records; are = stands.journal.are; shut = stands.journal.shut; doubt = stands.journal.doubt; room = stands.journal.room; bytes = stands.journal.bytes };
           exported = refl;
           outlet = refl;
           shows = shows;
@@ -185,7 +183,7 @@ module _ {D O : Type 0} (disk_of : DiskGhosts D) (outlet_of : OutletGhosts O) wh
       arrived files_law old before stands (Err fault) new is (ExportsOrStops {T = T} {O = O} (Err fault))
       (record {
         exports = exports files_law old before stands (Err fault) new is;
-        cause = subst (λ (o : OutletState). stop_of fault ≡ stop.Fault → HasRisen o.faults outlet.faults) stands.outlet (cause_of fault was.faults outlet.faults is.cause);
+        cause = subst (λ (o : OutletState). IsStopped o.faults outlet.faults (stopped_of fault)) stands.outlet (cause_of fault was.faults outlet.faults is.cause);
         ended = refl;
       })
       tt

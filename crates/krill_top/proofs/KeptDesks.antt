@@ -8,8 +8,7 @@ use Rattle.std.proofs.lemmas.List.Elements.{All-take}
 use mathlib.Core.List.{IsPrefix}
 use Rattle.disk_api.specs.declared.disk.Disk.{Ghosts as DiskGhosts}
 use Rattle.authority_book.specs.declared.commands.Command.{Command}
-use Rattle.authority_book.specs.Settings.{Settings}
-use Rattle.authority_book.specs.Fold.{after, empty_settings, AcceptedInTurn}
+use Rattle.authority_book.specs.Fold.{empty_settings}
 use Rattle.cmd_codec.specs.Spelling.{spelling, IsRecordable}
 use Rattle.commit_word.specs.Seats.{FollowerSeat}
 use Rattle.desk_core.specs.View.{View}
@@ -24,16 +23,12 @@ use Rattle.krill_top.specs.InstanceState.{lists_of}
 use Rattle.krill_top.specs.Run.{IsKept, IsKeptAt}
 use Rattle.krill_top.specs.inner.Opened.{IsClosed}
 use Rattle.krill_top.proofs.OutOfLocks.{HasCounted, HasCountedAt}
+use Rattle.krill_top.proofs.Lists.{accepted_front}
 use Rattle.krill_top.proofs.InTurn.{opened_stood_for, closed_left}
 use Rattle.krill_top.proofs.Served.{OpenedAs, OpenedAt, ClosedAt}
 
 abbrev pub OneList : Type 0
 OneList = (number : ℕ) (records : List (List ℕ)) (one other : List Command) → Records number records one → Records number records other → one ≡ other
-
-accepted_front : (settings : Settings) (n : ℕ) (list : List Command) → AcceptedInTurn settings list → AcceptedInTurn settings (take n list)
-accepted_front settings zero list all = tt
-accepted_front settings (suc n) [] all = all
-accepted_front settings (suc n) (command ∷ list) all = (all.0, accepted_front (after settings command) n list all.1)
 
 -- records that begin with others are those of commands that begin with theirs
 pub begins : OneList → (number : ℕ) (old new : List Command) (was is : List (List ℕ)) → Records number was old → Records number is new → IsPrefix was is → BeginsWith old new

@@ -1,4 +1,5 @@
 pub mod InTurn
+pub mod Fitting
 pub mod Standing
 pub mod Vouching
 pub mod PressStanding
@@ -16,6 +17,7 @@ pub mod Writing
 pub mod PressFound
 pub mod Resumed
 pub mod Reading
+pub mod KeptValues
 pub mod Answering
 pub mod PressServed
 pub mod Sessions
@@ -26,7 +28,11 @@ pub mod OutOfLocks
 pub mod ServedAll
 pub mod StartedInstance
 pub mod RunHistories
+pub mod SoundRuns
+pub mod Told
+pub mod Crashes
 pub mod Room
+pub mod RoomServed
 pub mod ServedMany
 pub mod Doings
 pub mod PressOpening

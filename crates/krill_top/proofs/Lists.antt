@@ -132,3 +132,9 @@ pub accepted_behind : (settings : Settings) (n : ℕ) (list : List Command) → 
 accepted_behind settings zero list all = all
 accepted_behind settings (suc n) [] all = all
 accepted_behind settings (suc n) (command ∷ list) all = accepted_behind (after settings command) n list all.1
+
+-- and the first so many of them
+pub accepted_front : (settings : Settings) (n : ℕ) (list : List Command) → AcceptedInTurn settings list → AcceptedInTurn settings (take n list)
+accepted_front settings zero list all = tt
+accepted_front settings (suc n) [] all = all
+accepted_front settings (suc n) (command ∷ list) all = (all.0, accepted_front (after settings command) n list all.1)

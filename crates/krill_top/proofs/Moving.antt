@@ -85,15 +85,15 @@ module _ {D O : Type 0} (disk_of : DiskGhosts D) (outlet_of : OutletGhosts O) wh
 
   -- nothing changes, and the clock isn't read
   pub stay_timed : (P : TimedInstanceState → TimedInstanceState → Type 0) (timed : TimedInstance D O)
-      → ((before : InstanceState) → IsInState outlet_of timed.instance before → P (at_clock timed.clock before) (at_clock timed.clock before)) → MovesTimed disk_of outlet_of P timed timed
-  stay_timed P timed so = stay_in (λ b a. P (at_clock timed.clock b) (at_clock timed.clock a)) timed.instance so
+      → ((before : InstanceState) → IsInState outlet_of timed.instance before → P (at_clock timed.clock timed.kept before) (at_clock timed.clock timed.kept before)) → MovesTimed disk_of outlet_of P timed timed
+  stay_timed P timed so = stay_in (λ b a. P (at_clock timed.clock timed.kept b) (at_clock timed.clock timed.kept a)) timed.instance so
 
   -- a call of the instance, and what the clock tells before it and then
   pub moves_at : (P : InstanceState → InstanceState → Type 0) (Q : TimedInstanceState → TimedInstanceState → Type 0) (old new : TimedInstance D O) → Moves disk_of outlet_of P old.instance new.instance
-      → ((before after : InstanceState) → P before after → Q (at_clock old.clock before) (at_clock new.clock after)) → MovesTimed disk_of outlet_of Q old new
-  moves_at P Q old new moves so = moves_so P (λ b a. Q (at_clock old.clock b) (at_clock new.clock a)) old.instance new.instance moves so
+      → ((before after : InstanceState) → P before after → Q (at_clock old.clock old.kept before) (at_clock new.clock new.kept after)) → MovesTimed disk_of outlet_of Q old new
+  moves_at P Q old new moves so = moves_so P (λ b a. Q (at_clock old.clock old.kept b) (at_clock new.clock new.kept a)) old.instance new.instance moves so
 
   pub timed_so : (P Q : TimedInstanceState → TimedInstanceState → Type 0) (old new : TimedInstance D O) → MovesTimed disk_of outlet_of P old new
       → ((before after : TimedInstanceState) → P before after → Q before after) → MovesTimed disk_of outlet_of Q old new
   timed_so P Q old new moves so =
-      moves_at (λ b a. P (at_clock old.clock b) (at_clock new.clock a)) Q old new moves (λ before after. so (at_clock old.clock before) (at_clock new.clock after))
+      moves_at (λ b a. P (at_clock old.clock old.kept b) (at_clock new.clock new.kept a)) Q old new moves (λ before after. so (at_clock old.clock old.kept before) (at_clock new.clock new.kept after))

@@ -70,10 +70,10 @@ desk_does command signers (Accepted count) was is does all =
     (subst (λ (s : Settings). AreBelow signers s.names) (sym (fold_push (fold_of 0 []) was.commands command))
     (names_after (fold_of 0 was.commands) command signers does.place.may_come.verdict all))
 desk_does command signers NoSuchAuthority was is does all = absurd does
-desk_does command signers Shut was is does all = subst (λ (s : DeskState). NamesBelow signers s.commands) (sym does.same) all
+desk_does command signers (Shut rise) was is does all = subst (λ (s : DeskState). NamesBelow signers s.commands) (sym does.same) all
 desk_does command signers (Verdict refusal) was is does all = subst (λ (s : DeskState). NamesBelow signers s.commands) (sym does.same) all
 desk_does command signers (JournalFull held needed) was is does all = subst (λ (s : DeskState). NamesBelow signers s.commands) (sym does.same) all
-desk_does command signers (DiskFault device) was is does all = subst (λ (s : DeskState). NamesBelow signers s.commands) (sym does.doubted) all
+desk_does command signers (DiskFault rise) was is does all = subst (λ (s : DeskState). NamesBelow signers s.commands) (sym does.doubted) all
 desk_does command signers Memory was is does all = subst (λ (s : DeskState). NamesBelow signers s.commands) (sym does.same) all
 
 changes_names : (number : ℕ) (command : Command) (signers : ℕ) (outcome : Outcome) (before after : DeskStates) → ChangesOne number (Does number command signers outcome) before after

@@ -39,6 +39,8 @@ use Rattle.krill_top.specs.Run.{IsSummary, signers_needed}
 use Rattle.krill_top.specs.inner.Instances.{HasInDoubt, IsJournalOf, IsPressIn}
 use Rattle.krill_top.specs.inner.PressOpened.{IsToldBy, IsBehindLoaded, IsOpenedPress}
 use Rattle.krill_top.specs.inner.Started.{IsPressFound}
+use Rattle.krill_top.specs.Histories.{HasRoomFor}
+use Rattle.krill_top.proofs.Fitting.{room_known}
 use Rattle.krill_top.proofs.Lists.{as_many, lists_long}
 
 -- ---- what is known, or not
@@ -155,6 +157,8 @@ module _ {D : Type 0} (disk_of : DiskGhosts D) (given : Given) (old : D) (press 
     are = opened.records;
     shut = (λ is_open. refl, λ settled. ap (λ (j : JournalView D). j.shut) opened.behind.goes_on.journal ∙ opened.order.is_open);
     doubt = subst (λ (d : Option (List ℕ)). HasInDoubt press.press.at None d) (sym has_editions.settled) tt;
+    room = λ small. room_known opened.loaded.journal.records (HasRoomFor opened.loaded.site opened.editions) small;
+    bytes = λ found. found;
   }
 
   pub opened_long : (desks : List (View D)) → AreIn desks given.found → length desks ≡ most_desks → length (lists_of given.found) ≡ most_desks

@@ -8,23 +8,15 @@ use Rattle.authority_book.specs.declared.commands.Command.{Command}
 use Rattle.editions.specs.Edition.{Edition}
 use Rattle.editions.specs.PublishedState.{PublishedStateValue}
 use Rattle.press_records.specs.Store.{Store}
-use Rattle.press_core.specs.JournalRecords.{AreRecords, IsRecordOf, Finds, press_limit}
-use Rattle.press_core.specs.Next.{NextValue}
-use Rattle.press_core.specs.Follows.{edition_of}
+use Rattle.press_core.specs.JournalRecords.{AreRecords, Finds, press_limit}
 use Rattle.press_core.specs.Stands.{IsLeftBy}
 use Rattle.krill_top.specs.InstanceState.{InstanceState, lists_of, store_in}
 use Rattle.krill_top.specs.PressDisk.{Holds, HoldsIn, IsPressServed}
 use Rattle.krill_top.specs.inner.Instances.{InstanceValue, IsDoubtOf, HasInDoubt, IsInState, PressGoesOn}
 use Rattle.krill_top.specs.inner.Started.{IsPressFound}
 use Rattle.outlet_api.specs.declared.outlet.Outlet.{Ghosts as OutletGhosts}
+use Rattle.krill_top.proofs.Fitting.{RecordsLaw}
 use Rattle.krill_top.proofs.PressFound.{some_so, some_both}
-
--- one record more is that of one edition more
-abbrev pub RecordsLaw : Type 0
-RecordsLaw = (lists : List (List Command)) (before : List Edition) (at : PublishedStateValue) (prepared : NextValue)
-    (store : Store) (records : List (List ℕ)) (entry : List ℕ)
-    → IsLeftBy lists before at → AreRecords store before records → IsRecordOf at prepared entry
-    → AreRecords store (before ++ edition_of prepared ∷ []) (records ++ entry ∷ [])
 
 found_by : (store : Store) (editions : List Edition) (records : List (List ℕ)) (file : List ℕ) → RecoversTo press_limit records file → AreRecords store editions records → Finds store editions file
 found_by store editions records file whole are = record { records = records; whole = whole; are = are }

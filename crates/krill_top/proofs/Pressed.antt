@@ -48,6 +48,7 @@ pub record IsCommitted {D : Type 0} (disk_of : DiskGhosts D) (prepared : NextVal
   pub records : (lists : List (List Command)) (editions : List Edition) → IsLeftBy lists editions ready.press.at → HasRecordsOf editions ready
       → HasRecordsOf (editions ++ edition_of prepared ∷ []) committed
   pub known : IsSome ready.journal.records → IsSome committed.journal.records
+  pub known_before : IfSome committed.journal.records (λ _. IsSome ready.journal.records)
   pub is_open : committed.journal.shut ≡ None
   pub settled : committed.journal.doubt ≡ None
   pub limit : committed.journal.limit ≡ ready.journal.limit
@@ -94,6 +95,9 @@ pressed_by {D} disk_of clock desks prepared told sheet old ready committed new i
       (subst (λ (s : StoredValue D). HasRecordsOf editions s) (ready_as clock desks prepared sheet old ready is_ready) has));
   known = λ some. subst (λ (j : JournalView D). IsSome j.records) (sym are_retired.journal)
       (is_committed.known (subst (λ (j : JournalView D). IsSome j.records) (sym is_ready.journal) some));
+  known_before = subst (λ (j : JournalView D). IfSome j.records (λ (_ : List (List ℕ)). IsSome old.journal.records)) (sym are_retired.journal)
+      (subst (λ (j : JournalView D). IfSome committed.journal.records (λ (_ : List (List ℕ)). IsSome j.records)) is_ready.journal is_committed.known_before);
+  room = is_ready.room;
   is_open = ap (λ (j : JournalView D). j.shut) are_retired.journal ∙ is_committed.is_open;
   settled = ap (λ (j : JournalView D). j.doubt) are_retired.journal ∙ is_committed.settled;
   later = subst (λ (j : JournalView D). disk_of.fault_count old.journal.disk ≤ disk_of.fault_count j.disk) (sym are_retired.journal)
@@ -129,6 +133,7 @@ uncommitted_by {D} disk_of clock desks prepared sheet old ready new rose is_read
       recorded = subst (λ (p : PressValue). IsRecordOf p.at prepared.edition prepared.entry) is_ready.same is_ready.can.recorded;
       doubt = fault.doubt;
       records = fault.records ∙ ap (λ (j : JournalView D). j.records) is_ready.journal;
+      room = is_ready.room;
       risen = subst (λ (j : JournalView D). HasRisen (disk_of.fault_count j.disk) (disk_of.fault_count new.journal.disk)) is_ready.journal
           (subst (λ (n : ℕ). HasRisen n (disk_of.fault_count new.journal.disk)) fault.before (subst (λ (n : ℕ). HasRisen rose.0 n) fault.after fault.risen));
       later = subst (λ (j : JournalView D). disk_of.fault_count j.disk ≤ disk_of.fault_count new.journal.disk) is_ready.journal later;

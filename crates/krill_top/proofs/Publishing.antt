@@ -65,6 +65,9 @@ use Rattle.krill_top.specs.Publishing.{TakesAll, IsAtPress, Publishes, IsSameBut
 use Rattle.krill_top.specs.Replies.{CommandedIn}
 use Rattle.krill_top.specs.DesksInStates.{Leads}
 use Rattle.krill_top.specs.inner.Instances.{InstanceValue, IsInState, IsInstance, IsJournalOf, HasInDoubt, PressGoesOn, Moves, stored_in}
+use Rattle.krill_top.specs.Histories.{HasRoomFor, and_doubt}
+use Rattle.krill_top.specs.inner.Room.{IsEditionOfBytes}
+use Rattle.krill_top.proofs.Fitting.{bytes_push, known_itself, prepared_bytes, room_then}
 use Rattle.krill_top.proofs.Standing.{At, at_place, go_on_same}
 use Rattle.krill_top.proofs.PressStanding.{press_kept, grow_same}
 use Rattle.std.proofs.lemmas.Option.{none-some, IfSome_then}
@@ -164,7 +167,7 @@ module _ {D O : Type 0} (outlet_of : OutletGhosts O) where
       → IsJournalOf (stored_in (asked instance ring journal)) (record before { signers = ring })
   journal_asked instance ring journal before room is =
       subst (λ (j : JournalView D). IsJournalOf (stored_in (asked instance ring j)) (record before { signers = ring })) (sym room)
-      (record { limit = is.limit; records = is.records; are = is.are; shut = is.shut; doubt = is.doubt })
+      (record { limit = is.limit; records = is.records; are = is.are; shut = is.shut; doubt = is.doubt; room = is.room; bytes = is.bytes })
 
   stands_asked : (instance : InstanceValue D O) (ring : List SignerState) (journal : JournalView D) (before : InstanceState) → Keeps instance.press.ring ring → IsSameButRoom instance.journal journal
       → IsInState outlet_of instance before → IsInState outlet_of (asked instance ring journal) (record before { signers = ring })
@@ -283,6 +286,7 @@ module _ {D O : Type 0} (outlet_of : OutletGhosts O) where
         held_is = held_of old.journal before.records long full.full.held_is stands.journal.records sizes;
         needed_is = full.full.needed_is;
         past = full.full.past;
+        is_met = met.2;
       }
   unprepared_met clock prepare.Memory old groups ring before kept held since sizes met stands = met_by clock press_fault.Memory old groups ring before kept held since met.0 met.1 stands
 
@@ -395,9 +399,18 @@ module _ {D O : Type 0} (outlet_of : OutletGhosts O) where
       are = subst (λ (s : Store). IfSome new.journal.records (AreRecords s (before.editions ++ edition ∷ []))) store_then
           (done.records (lists_of before.desk_states) before.editions stands.left (has_records old before stands));
       shut = (λ shut. stands.journal.shut.0 done.was_open, λ none. done.is_open);
-      doubt = none_in_doubt new.press.at before.in_doubt new.journal.doubt (stands.journal.shut.0 done.was_open) done.settled;
+      doubt = none_in_doubt new.press.at before.in_doubt new.journal.doubt settled done.settled;
+      room = λ small. subst (λ (d : Option Edition). IfSome new.journal.records (λ (_ : List (List ℕ)). HasRoomFor before.site (and_doubt (before.editions ++ edition ∷ []) d))) (sym settled)
+          (room_then old.press.site before.site (before.editions ++ edition ∷ []) old.journal.records new.journal.records stands.site done.known_before
+          (done.room stands.journal.limit (lists_of before.desk_states) before.editions stands.left (has_records old before stands)));
+      bytes = λ found. subst (λ (d : Option Edition). All IsEditionOfBytes (and_doubt (before.editions ++ edition ∷ []) d)) (sym settled)
+          (bytes_push before.editions before.in_doubt edition settled (stands.journal.bytes found)
+          (prepared_bytes (start_of old.press clock groups) made prepared done.edition.is_prepared));
     }
       where
+        settled : before.in_doubt ≡ None
+        settled = stands.journal.shut.0 done.was_open
+
         store_then : store_of press ≡ store_in after
         store_then = λ i. store_for ((done.session ∙ stands.session) i) ((done.site ∙ stands.site) i)
 
@@ -597,6 +610,11 @@ module _ {D O : Type 0} (outlet_of : OutletGhosts O) where
       are = stands.journal.are;
       shut = (λ none. absurd (none-some rose (sym none ∙ done.shut)), λ none. absurd (none-some doubted (sym none)));
       doubt = subst (λ (d : Option (List ℕ)). HasInDoubt old.press.at (Some doubted) d) (sym done.doubt) (record { prepared = done.prepared; edition_is = refl; recorded = done.recorded });
+      room = λ small. room_then old.press.site before.site (before.editions ++ doubted ∷ []) old.journal.records before.records stands.site
+          (subst (λ (r : Option (List (List ℕ))). IfSome before.records (λ (_ : List (List ℕ)). IsSome r)) (sym stands.journal.records) (known_itself before.records))
+          (done.room stands.journal.limit (lists_of before.desk_states) before.editions stands.left (has_records old before stands));
+      bytes = λ found. bytes_push before.editions before.in_doubt doubted (stands.journal.shut.0 done.was_open) (stands.journal.bytes found)
+          (prepared_bytes (start_of old.press clock done.groups) press.press.ring done.prepared done.edition.is_prepared);
     }
 
     doubt_stands : IsInState outlet_of shut_in in_doubt
@@ -706,7 +724,7 @@ module _ {D O : Type 0} (outlet_of : OutletGhosts O) where
           files = stands.files;
           site = stands.site;
           session = stands.session;
-          journal = record { limit = stands.journal.limit; records = stands.journal.records; are = stands.journal.are; shut = stands.journal.shut; doubt = stands.journal.doubt };
+          journal = record { limit = stands.journal.limit; records = stands.journal.records; are = stands.journal.are; shut = stands.journal.shut; doubt = stands.journal.doubt; room = stands.journal.room; bytes = stands.journal.bytes };
           exported = stands.exported;
           outlet = stands.outlet;
           shows = stands.shows;

@@ -9,10 +9,7 @@ use Rattle.gate_journal.specs.Format.{held_by}
 use Rattle.key_ids.specs.Uris.{Bases}
 use Rattle.signer_api.specs.State.{SignerState}
 use Rattle.signer_ring.specs.Calls.{Call}
-use Rattle.pub_set.specs.declared.steps.Change.{Change}
-use Rattle.pub_set.specs.declared.steps.Change.TheVariants.{Put, Withdraw}
 use Rattle.editions.specs.Edition.{Edition}
-use Rattle.editions.specs.PlannedAndMade.{CanBeRead}
 use Rattle.editions.specs.PublishedState.{PublishedStateValue}
 use Rattle.press_core.specs.Follows.{edition_of}
 use Rattle.press_core.specs.JournalRecords.{AreRecords, press_limit, store_for}
@@ -22,7 +19,7 @@ use Rattle.histories.specs.Devices.{Signature}
 use Rattle.histories.specs.Events.{History}
 use Rattle.histories.specs.Events.Event.{Reopen}
 use Rattle.histories.specs.Found.{AreFoundAfter}
-use Rattle.histories.specs.Legal.{IsLegal, IsOfBytes, bytes_for, most_bytes, press_bytes_for}
+use Rattle.histories.specs.Legal.{IsLegal, bytes_for, most_bytes, press_bytes_for}
 use Rattle.manager.specs.Closing.{doubted_edition}
 use Rattle.manager.specs.Locked.{IsInDoubt, all_of}
 use Rattle.manager.specs.Named.{Named}
@@ -30,7 +27,8 @@ use Rattle.manager.specs.Run.{Stood, editions_of as made_in, AreAfter}
 use Rattle.krill_top.specs.DeskStates.{DeskStates, commands_at}
 use Rattle.krill_top.specs.Histories.{MayFind, and_doubt}
 use Rattle.krill_top.specs.InstanceState.{InstanceState, lists_of}
-use Rattle.krill_top.proofs.PressServed.{RecordsLaw}
+use Rattle.krill_top.specs.inner.Room.{IsEditionOfBytes}
+use Rattle.krill_top.proofs.Fitting.{RecordsLaw, TakesLaw, read_all}
 use Rattle.krill_top.proofs.RunHistories.{ReopenLaw, told_on}
 
 -- ---- laws
@@ -41,15 +39,8 @@ LimitLaw = (site : Bases) (history : History) (desk : ℕ) → IsLegal site hist
 abbrev pub PressLimitLaw : Type 0
 PressLimitLaw = (site : Bases) (history : History) → IsLegal site history → editions_of history ≢ [] → press_bytes_for site (editions_of history) ≤ press_limit
 
-abbrev pub AreOfBytes : Edition → Type 0
-AreOfBytes edition = All IsOfBytes edition.changes
-
 abbrev pub BytesLaw : Type 0
-BytesLaw = (site : Bases) (history : History) → IsLegal site history → All AreOfBytes (editions_of history)
-
-abbrev pub TakesLaw : Type 0
-TakesLaw = (session : List ℕ) (site : Bases) (editions : List Edition) (records : List (List ℕ)) → AreRecords (store_for session site) editions records
-    → held_by records ≡ press_bytes_for site editions
+BytesLaw = (site : Bases) (history : History) → IsLegal site history → All IsEditionOfBytes (editions_of history)
 
 pub record RoomLaws : Type 0 where
   pub reopen : ReopenLaw
@@ -89,8 +80,8 @@ module _ (laws : RoomLaws) (history : History) (begun : InstanceState) (find : M
       let same : editions_of reopened ≡ begun.editions = ap (λ (a : Acknowledged). a.editions) told in
       subst (λ (l : List Edition). press_bytes_for begun.site l ≤ press_limit) same (laws.press_limits begun.site reopened legal (λ none. some (sym same ∙ none)))
 
-  pub found_bytes : All AreOfBytes begun.editions
-  found_bytes = subst (λ (l : List Edition). All AreOfBytes l) (ap (λ (a : Acknowledged). a.editions) told) (laws.bytes begun.site reopened legal)
+  pub found_bytes : All IsEditionOfBytes begun.editions
+  found_bytes = subst (λ (l : List Edition). All IsEditionOfBytes l) (ap (λ (a : Acknowledged). a.editions) told) (laws.bytes begun.site reopened legal)
 
 -- ---- the press
 
@@ -119,22 +110,15 @@ module _ (laws : RoomLaws) (named : Named) (editions : List Edition) (lists : Li
 
   -- what is put
 
-  read_bytes : (change : Change) → CanBeRead change → IsOfBytes change
-  read_bytes (Put uri bytes replaces) is = is.bytes
-  read_bytes (Withdraw uri hash) is = tt
+  run_bytes : (before : List Edition) (stood : List Stood) → AreAfter lists before stood → All IsEditionOfBytes (made_in stood)
+  run_bytes before [] after = All-nil IsEditionOfBytes
+  run_bytes before (one ∷ stood) after = All-cons IsEditionOfBytes one.edition (made_in stood) (read_all one.edition.changes after.0.readable) (run_bytes (before ++ one.edition ∷ []) stood after.1)
 
-  read_all : (changes : List Change) → All CanBeRead changes → All IsOfBytes changes
-  read_all changes are k d within = read_bytes (get_or changes k d) (are k d within)
-
-  run_bytes : (before : List Edition) (stood : List Stood) → AreAfter lists before stood → All AreOfBytes (made_in stood)
-  run_bytes before [] after = All-nil AreOfBytes
-  run_bytes before (one ∷ stood) after = All-cons AreOfBytes one.edition (made_in stood) (read_all one.edition.changes after.0.readable) (run_bytes (before ++ one.edition ∷ []) stood after.1)
-
-  doubt_bytes : All AreOfBytes all → (doubt : Option (List ℕ)) (is : IfSome doubt (IsInDoubt named editions lists run calls ring at)) → All AreOfBytes (and_doubt all (doubted doubt is))
+  doubt_bytes : All IsEditionOfBytes all → (doubt : Option (List ℕ)) (is : IfSome doubt (IsInDoubt named editions lists run calls ring at)) → All IsEditionOfBytes (and_doubt all (doubted doubt is))
   doubt_bytes are None is = are
-  doubt_bytes are (Some entry) is = All-append AreOfBytes all (edition_of is.prepared ∷ []) are
-      (All-cons AreOfBytes (edition_of is.prepared) [] (read_all is.prepared.changes is.readable) (All-nil AreOfBytes))
+  doubt_bytes are (Some entry) is = All-append IsEditionOfBytes all (edition_of is.prepared ∷ []) are
+      (All-cons IsEditionOfBytes (edition_of is.prepared) [] (read_all is.prepared.changes is.readable) (All-nil IsEditionOfBytes))
 
-  pub made_bytes : All AreOfBytes editions → AreAfter lists editions run → (doubt : Option (List ℕ)) (is : IfSome doubt (IsInDoubt named editions lists run calls ring at))
-      → All AreOfBytes (and_doubt all (doubted doubt is))
-  made_bytes found after doubt is = doubt_bytes (All-append AreOfBytes editions (made_in run) found (run_bytes editions run after)) doubt is
+  pub made_bytes : All IsEditionOfBytes editions → AreAfter lists editions run → (doubt : Option (List ℕ)) (is : IfSome doubt (IsInDoubt named editions lists run calls ring at))
+      → All IsEditionOfBytes (and_doubt all (doubted doubt is))
+  made_bytes found after doubt is = doubt_bytes (All-append IsEditionOfBytes editions (made_in run) found (run_bytes editions run after)) doubt is

@@ -35,7 +35,8 @@ use Rattle.histories.specs.Found.{AreFoundAfter}
 use Rattle.histories.specs.Legal.{IsLegal, IsNextCommand, FollowsTheOthers, InTurn, IsOfBytes, bytes_for, most_bytes, press_bytes_for, records_over}
 use Rattle.histories.specs.Work.{Work, IsListWork, AreListWorks, IsWork, GoesOnAs, ground_with}
 use Rattle.krill_top.specs.DeskStates.{DeskState, DeskStates, most_desks, commands_at}
-use Rattle.krill_top.specs.Histories.{MayFind, HasRoom, and_doubt, desk_doubt, signature_of, signatures, work_of}
+use Rattle.krill_top.specs.Histories.{MayFind, and_doubt, desk_doubt, signature_of, signatures, work_of}
+use Rattle.krill_top.specs.inner.Room.{HasRoom}
 use Rattle.krill_top.specs.Run.{IsKeptAt, IsServedAt}
 use Rattle.krill_top.proofs.Vouching.{front_of}
 use Rattle.krill_top.specs.InstanceState.{Found, InstanceState, lists_of, premises_of, AreVouchedIn}

@@ -27,14 +27,15 @@ use Rattle.krill_top.specs.declared.faults.RunFault.{RunFault}
 use Rattle.krill_top.specs.declared.faults.RunFault.TheVariants as run_faults
 use Rattle.krill_top.specs.inner.Started.{IsStarted, IsStartedIn}
 use Rattle.krill_top.proofs.PressStanding.{press_kept}
-use Rattle.krill_top.proofs.PressServed.{RecordsLaw, press_served}
+use Rattle.krill_top.proofs.Fitting.{RecordsLaw}
+use Rattle.krill_top.proofs.PressServed.{press_served}
 use Rattle.krill_top.specs.Session.{session_of}
 use Rattle.krill_top.specs.Exports.{Repeats}
 use Rattle.outlet_api.specs.declared.outlet.Outlet.{Ghosts as OutletGhosts}
 use Rattle.outlet_api.specs.declared.exports.ExportFault.{ExportFault}
 use Rattle.krill_top.specs.DesksInStates.{IsIn, InAt, AreIn, all_stored, DeskGoesOn, DeskGoesOnAt, DesksGoOn}
 use Rattle.krill_top.specs.inner.Handlers.{worked}
-use Rattle.krill_top.specs.inner.Instances.{InstanceValue, TimedInstance, IsInState, Arrives, Moves, MovesTimed}
+use Rattle.krill_top.specs.inner.Instances.{InstanceValue, TimedInstance, IsInState, Arrives, Moves, MovesTimed, stored_in}
 use Rattle.krill_top.specs.Statuses.{run_status, end_fault}
 use Rattle.krill_top.specs.inner.Opened.{IsOpened, IsClosed, AreOpened, AreClosed}
 use Rattle.krill_top.specs.Sessions.{Served, Converses}
@@ -43,14 +44,18 @@ use Rattle.krill_top.specs.Working.{Works, ended_by}
 use Rattle.krill_top.specs.Run.{IsNext, IsServed, IsServedAt, AreServed, Leaves, ServesOne, TellsOne, IsFirstHeld, FindsHeld, WorksOne, streams_of, worked_by}
 use Rattle.krill_top.specs.Summaries.{summary_line}
 use Rattle.krill_top.specs.SharedRuns.{ServesNone}
-use Rattle.session_lines.specs.Keeping.{nothing_kept}
+use Rattle.session_lines.specs.Keeping.{KeptValue, nothing_kept}
 use Rattle.krill_top.proofs.Standing.{go_on_same}
 use Rattle.krill_top.proofs.Moving.{arrives_then}
 use Rattle.krill_top.proofs.WorkedWell.{begun_exported, works_exported}
 use Rattle.krill_top.proofs.Exporting.{NewestLaw, exported_shown}
 use Rattle.krill_top.proofs.Closing.{well_exported, started_shown, coherent_begun, repeats_same}
 use Rattle.krill_top.proofs.Lists.{lists_long}
+use Rattle.krill_top.proofs.Room.{RoomLaws}
+use Rattle.krill_top.proofs.RoomServed.{room_served}
 use Rattle.krill_top.proofs.RunHistories.{HistoryLaws, run_served, goes_on}
+use Rattle.krill_top.proofs.SoundRuns.{SoundLaws, cuts_held, found_sound}
+use Rattle.krill_top.proofs.Crashes.{CrashLaws, all_kept, reopened}
 use Rattle.krill_top.proofs.InTurn.{opened_stood_for, closed_left}
 
 module _ {D : Type 0} (disk_of : DiskGhosts D) where
@@ -209,9 +214,9 @@ found_first opened begun lists editions same = (
 )
 
 module _ {D G S K O C : Type 0} (disk_of : DiskGhosts D) (state_of : G → SignerState) (outlet_of : OutletGhosts O) (source_of : SourceGhosts S) (sink_of : SinkGhosts K) (clock_of : ClockGhosts C) where
-  -- the instance, and what the clock tells of a session
-  abbrev pub timed_by : SessionEnds S K C → InstanceValue D O → TimedInstance D O
-  timed_by ends instance = record { instance = instance; clock = clock_of.readings ends.clock }
+  -- the instance, what the clock tells of a session, and what is kept
+  abbrev pub timed_by : SessionEnds S K C → KeptValue → InstanceValue D O → TimedInstance D O
+  timed_by ends kept instance = record { instance = instance; clock = clock_of.readings ends.clock; kept = kept }
 
   -- what closing hands back
   pub record IsHandedBack (run : RunEnd D G S K O C) (closed : InstanceValue D O) : Type 0 where
@@ -265,15 +270,15 @@ module _ {D G S K O C : Type 0} (disk_of : DiskGhosts D) (state_of : G → Signe
         well = λ zero. exported_shown disk_of outlet_of law closed ended done.stands (exported zero);
       }
 
-  pub serves : NewestLaw → RecordsLaw → HistoryLaws → (site : Bases) (random : List ℕ) (ends : Ends D G O) (before after : SessionEnds S K C) (end : SessionEnd) (closing : Result Bool (ExportFault O))
+  pub serves : NewestLaw → RecordsLaw → SoundLaws → CrashLaws → HistoryLaws → RoomLaws → (site : Bases) (random : List ℕ) (ends : Ends D G O) (before after : SessionEnds S K C) (end : SessionEnd) (closing : Result Bool (ExportFault O))
       (run : RunEnd D G S K O C) (started : Started D G O) (served closed : InstanceValue D O)
       → IsStarted disk_of state_of outlet_of site (session_of random) ends started
-      → Served disk_of outlet_of source_of sink_of (streams_of before) (streams_of after) (timed_by before started.instance) (timed_by after served) end
+      → Served disk_of outlet_of source_of sink_of (streams_of before) (streams_of after) (timed_by before nothing_kept started.instance) (timed_by after run.kept served) end
       → Moves disk_of outlet_of (Repeats closing) served closed
       → IsRun disk_of state_of outlet_of source_of sink_of before after end closing run closed
       → ServesOne disk_of state_of outlet_of source_of sink_of clock_of site random ends before run
   unfolding opened_seen arrives_then
-  serves law records histories site random ends before after end closing run started served closed begins session repeats is =
+  serves law records sound crashes histories room_laws site random ends before after end closing run started served closed begins session repeats is =
       let disks = ends.desks.items in
       let instance : InstanceValue D O = started.instance in
       let found = opened_seen disk_of disks instance.desks begins.desks in
@@ -283,10 +288,13 @@ module _ {D G S K O C : Type 0} (disk_of : DiskGhosts D) (state_of : G → Signe
       let last = repeats done.after done.stands in
       let Q : InstanceState → InstanceState → Type 0 = Repeats closing in
       let whole : Arrives disk_of outlet_of (λ b a. Q done.after a) instance closed begun =
-      arrives_then disk_of outlet_of (λ b a. Converses source_of sink_of (streams_of before) (streams_of after) end (at_clock (clock_of.readings before.clock) b) (at_clock (clock_of.readings after.clock) a)) Q (λ b a. Q done.after a) instance served closed begun done last (λ after step. step) in
+      arrives_then disk_of outlet_of (λ b a. Converses source_of sink_of (streams_of before) (streams_of after) end (at_clock (clock_of.readings before.clock) nothing_kept b) (at_clock (clock_of.readings after.clock) run.kept a)) Q (λ b a. Q done.after a) instance served closed begun done last (λ after step. step) in
       let disks_then = leaves_disks (λ b a. Q done.after a) site random ends run started closed begins at whole
       (record { desks = is.desks; press = is.press; safe = is.safe; signers = is.signers; outlet = is.outlet }) in
       let at_first = found_first at.opened begun at.opens.just.lists at.opens.just.editions (repeats_same {O = O} (Ok (not (is_exported at.opened))) at.opened begun at.opens.exported) in
+      let left : Leaves disk_of state_of outlet_of random ends at.opened begun last.after run = leaves law records (λ b a. Q done.after a) site random ends run started closed begins at whole
+      (record { desks = is.desks; press = is.press; safe = is.safe; signers = is.signers; outlet = is.outlet })
+      (λ zero. well_exported end closing done.after last.after last.step (sym is.status ∙ zero)) in
       record {
         after = after;
         end = end;
@@ -302,14 +310,20 @@ module _ {D G S K O C : Type 0} (disk_of : DiskGhosts D) (state_of : G → Signe
         opens = at.opens;
         session = done.step;
         repeats = last.step;
+        crash = λ images image may. reopened crashes disk_of disks run.ends.desks.items (session_of random) ends.press run.ends.press begun last.after
+            (all_kept disk_of disks run.ends.desks.items begun.desk_states last.after.desk_states disks_then) left.press
+            (sym (lists_long last.after.desk_states) ∙ last.stands.left.desks ∙ last.stands.one_each) images image may;
+        published = λ vouched. found_sound sound begun last.after
+            (λ k. run_served disk_of k (slice_get disks k) (slice_get run.ends.desks.items k) (slice_get begun.desk_states k) (slice_get last.after.desk_states k) (disks_then k))
+            (last.stands.left.desks ∙ last.stands.one_each) (λ vouched all. (last.stands.stands vouched all).steps) left.grown.0 left.grown.1 vouched;
+        cuts = λ vouched all. cuts_held vouched last.after (last.stands.stands vouched all).steps (IfSome_then last.after.in_doubt (last.stands.in_doubt vouched all) (λ edition is. is.1.steps));
         disks = disks_then;
-        goes_on = λ room history find. goes_on histories history begun last.after whole.same_site whole.same_found at_first.0 at_first.1 find room
+        goes_on = λ room history find. goes_on histories history begun last.after whole.same_site whole.same_found at_first.0 at_first.1 find
+            (room_served disk_of room_laws history begun last.after find disks run.ends.desks.items instance.desks closed.desks (stored_in closed) at_first.1 whole.same_site whole.same_found disks_then whole.disks last.stands.journal room)
             (λ k. run_served disk_of k (slice_get disks k) (slice_get run.ends.desks.items k) (slice_get begun.desk_states k) (slice_get last.after.desk_states k) (disks_then k))
             (sym (lists_long last.after.desk_states) ∙ last.stands.left.desks ∙ last.stands.one_each) whole.grown.0 whole.grown.1
             (λ vouched all. (last.stands.stands vouched all).steps) (λ vouched all. IfSome_then last.after.in_doubt (last.stands.in_doubt vouched all) (λ edition is. is.1.steps));
-        leaves = leaves law records (λ b a. Q done.after a) site random ends run started closed begins at whole
-            (record { desks = is.desks; press = is.press; safe = is.safe; signers = is.signers; outlet = is.outlet })
-            (λ zero. well_exported end closing done.after last.after last.step (sym is.status ∙ zero));
+        leaves = left;
         source_fault = is.source_fault;
         sink_fault = is.sink_fault;
         source_later = is.source_later;
@@ -326,23 +340,25 @@ module _ {D G S K O C : Type 0} (disk_of : DiskGhosts D) (state_of : G → Signe
     pub fault : run.fault ≡ ended_by result
     pub source : after.source ≡ before.source
 
-  pub works_one : NewestLaw → RecordsLaw → HistoryLaws → (authorities : ℕ) (site : Bases) (random : List ℕ) (ends : Ends D G O) (before after : SessionEnds S K C) (result : Result (Unit {0}) (Option RunFault))
+  pub works_one : NewestLaw → RecordsLaw → SoundLaws → CrashLaws → HistoryLaws → RoomLaws → (authorities : ℕ) (site : Bases) (random : List ℕ) (ends : Ends D G O) (before after : SessionEnds S K C) (result : Result (Unit {0}) (Option RunFault))
       (run : RunEnd D G S K O C) (started : Started D G O) (closed : InstanceValue D O)
       → IsStarted disk_of state_of outlet_of site (session_of random) ends started
       → ((state : InstanceState) → IsInState outlet_of started.instance state → IsFirstHeld state.desk_states None)
-      → MovesTimed disk_of outlet_of (λ b a. Works sink_of authorities result (worked before.sink b) (worked after.sink a)) (timed_by before started.instance) (timed_by after closed)
+      → MovesTimed disk_of outlet_of (λ b a. Works sink_of authorities result (worked before.sink b) (worked after.sink a)) (timed_by before nothing_kept started.instance) (timed_by after run.kept closed)
       → IsWorked before after run result closed
       → WorksOne disk_of state_of outlet_of sink_of clock_of authorities site random ends before run
   unfolding opened_seen
-  works_one law records histories authorities site random ends before after result run started closed begins none works is =
+  works_one law records sound crashes histories room_laws authorities site random ends before after result run started closed begins none works is =
       let disks = ends.desks.items in
       let instance : InstanceValue D O = started.instance in
       let found = opened_seen disk_of disks instance.desks begins.desks in
       let at : IsStartedIn disk_of state_of outlet_of site (session_of random) ends started found.0 = begins.each found.0 found.1 in
       let begun : InstanceState = at.begun in
       let done = works begun at.stands in
-      let disks_then = leaves_disks (λ b a. Works sink_of authorities result (worked_by clock_of before b) (worked_by clock_of after a)) site random ends run started closed begins at done is.handed_back in
+      let disks_then = leaves_disks (λ b a. Works sink_of authorities result (worked_by clock_of before nothing_kept b) (worked_by clock_of after run.kept a)) site random ends run started closed begins at done is.handed_back in
       let at_first = found_first at.opened begun at.opens.just.lists at.opens.just.editions (repeats_same {O = O} (Ok (not (is_exported at.opened))) at.opened begun at.opens.exported) in
+      let left : Leaves disk_of state_of outlet_of random ends at.opened begun done.after run = leaves law records (λ b a. Works sink_of authorities result (worked_by clock_of before nothing_kept b) (worked_by clock_of after run.kept a)) site random ends run started closed begins at done is.handed_back
+      (λ zero. works_exported sink_of authorities result (worked_by clock_of before nothing_kept begun) (worked_by clock_of after run.kept done.after) (begun_exported O at.opened begun at.opens.exported) done.step (sym is.status ∙ zero)) in
       record {
         after = after;
         opened = at.opened;
@@ -357,19 +373,27 @@ module _ {D G S K O C : Type 0} (disk_of : DiskGhosts D) (state_of : G → Signe
         same_source = is.source;
         opens = at.opens;
         works = done.step;
+        crash = λ images image may. reopened crashes disk_of disks run.ends.desks.items (session_of random) ends.press run.ends.press begun done.after
+            (all_kept disk_of disks run.ends.desks.items begun.desk_states done.after.desk_states disks_then) left.press
+            (sym (lists_long done.after.desk_states) ∙ done.stands.left.desks ∙ done.stands.one_each) images image may;
+        published = λ vouched. found_sound sound begun done.after
+            (λ k. run_served disk_of k (slice_get disks k) (slice_get run.ends.desks.items k) (slice_get begun.desk_states k) (slice_get done.after.desk_states k) (disks_then k))
+            (done.stands.left.desks ∙ done.stands.one_each) (λ vouched all. (done.stands.stands vouched all).steps) left.grown.0 left.grown.1 vouched;
+        cuts = λ vouched all. cuts_held vouched done.after (done.stands.stands vouched all).steps (IfSome_then done.after.in_doubt (done.stands.in_doubt vouched all) (λ edition is. is.1.steps));
         disks = disks_then;
-        goes_on = λ room history find. goes_on histories history begun done.after done.same_site done.same_found at_first.0 at_first.1 find room
+        goes_on = λ room history find. goes_on histories history begun done.after done.same_site done.same_found at_first.0 at_first.1 find
+            (room_served disk_of room_laws history begun done.after find disks run.ends.desks.items instance.desks closed.desks (stored_in closed) at_first.1 done.same_site done.same_found disks_then done.disks done.stands.journal room)
             (λ k. run_served disk_of k (slice_get disks k) (slice_get run.ends.desks.items k) (slice_get begun.desk_states k) (slice_get done.after.desk_states k) (disks_then k))
             (sym (lists_long done.after.desk_states) ∙ done.stands.left.desks ∙ done.stands.one_each) done.grown.0 done.grown.1
             (λ vouched all. (done.stands.stands vouched all).steps) (λ vouched all. IfSome_then done.after.in_doubt (done.stands.in_doubt vouched all) (λ edition is. is.1.steps));
-        leaves = leaves law records (λ b a. Works sink_of authorities result (worked_by clock_of before b) (worked_by clock_of after a)) site random ends run started closed begins at done is.handed_back
-            (λ zero. works_exported sink_of authorities result (worked_by clock_of before begun) (worked_by clock_of after done.after) (begun_exported O at.opened begun at.opens.exported) done.step (sym is.status ∙ zero));
+        leaves = left;
       }
 
   -- what closing leaves of a run that found a desk with commands
   pub record IsHeld (before : SessionEnds S K C) (run : RunEnd D G S K O C) (desk held : ℕ) (closed : InstanceValue D O) : Type 0 where
     pub handed_back : IsHandedBack run closed
     pub sessions : run.sessions.items ≡ before ∷ []
+    pub kept : run.kept ≡ nothing_kept
     pub status : run.status ≡ 3
     pub fault : run.fault ≡ Some (run_faults.NotEmpty desk held)
 
@@ -390,6 +414,7 @@ module _ {D G S K O C : Type 0} (disk_of : DiskGhosts D) (state_of : G → Signe
         held = held;
         holds = holds at.begun at.stands;
         untouched = is.sessions;
+        kept = is.kept;
         status = is.status;
         fault = is.fault;
         opens = at.opens;
@@ -444,6 +469,7 @@ module _ {D G S K O C : Type 0} (disk_of : DiskGhosts D) (state_of : G → Signe
     pub signers : map state_of run.ends.signers.items ≡ closed.press.ring
     pub outlet : run.ends.outlet ≡ closed.outlet
     pub sessions : run.sessions.items ≡ after ∷ []
+    pub kept : run.kept ≡ nothing_kept
     pub status : run.status ≡ run_status run.fault
     pub source : after.source ≡ before.source
     pub clock : after.clock ≡ before.clock
@@ -463,6 +489,7 @@ module _ {D G S K O C : Type 0} (disk_of : DiskGhosts D) (state_of : G → Signe
         begun = at.begun;
         summary = started.summary;
         handed_back = is.sessions;
+        kept = is.kept;
         status = is.status;
         same_source = is.source;
         same_clock = is.clock;

@@ -57,12 +57,13 @@ use Rattle.krill_top.specs.InstanceState.{premises_of, AreVouchedIn}
 use Rattle.krill_top.specs.PressDisk.{HoldsIn, IsPressServed}
 use Rattle.krill_top.specs.Run.{AreKept}
 use Rattle.press_core.specs.Follows.{edition_of}
-use Rattle.krill_top.specs.Histories.{HasPressRoom, HasRoom, MayFind, and_doubt}
+use Rattle.krill_top.specs.Histories.{HasPressRoom, MayFind, and_doubt}
+use Rattle.krill_top.specs.inner.Room.{HasRoom}
 use Rattle.key_ids.specs.Uris.{Bases}
 use Rattle.histories.specs.Events.{History}
 use Rattle.histories.specs.Legal.{press_bytes_for}
 use Rattle.press_core.specs.JournalRecords.{press_limit}
-use Rattle.krill_top.specs.SharedRuns.{AreFoundSound, TakesNoMore}
+use Rattle.krill_top.specs.SoundEditions.{AreFoundSound, TakesNoMore}
 use Rattle.krill_top.specs.inner.Opened.{AreOpened, AreClosed}
 use Rattle.krill_top.specs.inner.Started.{IsPressFound}
 use Rattle.krill_top.proofs.KeptDesks.{record_at, records_or, begins_at, kept_at}

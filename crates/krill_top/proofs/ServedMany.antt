@@ -27,6 +27,7 @@ use Rattle.krill_top.specs.declared.running.RunEnd.{RunEnd}
 use Rattle.krill_top.specs.declared.starting.Started.{Started}
 use Rattle.krill_top.specs.DeskStates.{DeskStates, most_desks}
 use Rattle.krill_top.specs.InstanceState.{InstanceState, outlet_state, lists_of, is_exported}
+use Rattle.krill_top.specs.PressDisk.{IsPressServed}
 use Rattle.krill_top.specs.Session.{session_of}
 use Rattle.krill_top.specs.SharedRuns.{AreAllServed, IsNoneServed, Closes, ServesAll}
 use Rattle.krill_top.specs.Statuses.{export_fault, graver, run_status}
@@ -38,6 +39,7 @@ use Rattle.krill_top.proofs.RunHistories.{HistoryLaws, run_at, goes_on}
 use Rattle.krill_top.proofs.Lists.{as_many, lists_long}
 use Rattle.krill_top.proofs.ManyServed as ended
 use Rattle.krill_top.proofs.OutOfLocks.{ComesOut, comes_out}
+use Rattle.krill_top.proofs.Crashes.{CrashLaws, reopened}
 use Rattle.krill_top.proofs.Room.{RoomLaws}
 use Rattle.krill_top.proofs.Served.{OpenedAt, found_first, opened_seen, opened_seen_at}
 use Rattle.krill_top.proofs.ServedAll as all
@@ -104,7 +106,7 @@ well_closed worst (Err (export.OutletFault rose)) begun ended closes well = absu
 well_closed worst (Err export.Memory) begun ended closes well = absurd (some_wanting worst well)
 
 module _ {D G S K O C : Type 0} (disk_of : DiskGhosts D) (state_of : G → SignerState) (outlet_of : OutletGhosts O) (source_of : SourceGhosts S) (sink_of : SinkGhosts K) (clock_of : ClockGhosts C)
-    (laws : ended.Laws disk_of outlet_of) (stay : all.StayPublished) (makes : all.MakesLaw O disk_of source_of sink_of) (history_laws : HistoryLaws) (room_laws : RoomLaws)
+    (laws : ended.Laws disk_of outlet_of) (stay : all.StayPublished) (makes : all.MakesLaw O disk_of source_of sink_of) (history_laws : HistoryLaws) (room_laws : RoomLaws) (crashes : CrashLaws)
     (site : Bases) (random : List ℕ) (ends : Ends D G O) (before : List (SessionEnds S K C)) (run : RunEnd D G S K O C) (started : Started D G O) where
   pub serves_all : IsStarted disk_of state_of outlet_of site (session_of random) ends started → (opened : List (CountedView D)) → AreCounted started.instance.desks opened
       → (board : BoardSeat) → board.shown ≡ shown_at started.instance.press.at ∷ []
@@ -141,6 +143,9 @@ module _ {D G S K O C : Type 0} (disk_of : DiskGhosts D) (state_of : G → Signe
       is.is.first is.is.is_first is.is.first_shown is.is.places is.is.left is.is.shared is.is.seen disks run.ends.desks.items begins.desks
       (λ n. subst (λ (b : DeskStates). OpenedAt disk_of n (slice_get disks n) (slice_get instance.desks n) (slice_get b n)) (sym at.same)
       (opened_seen_at disk_of disks instance.desks begins.desks n)) is.closed in
+      let press : IsPressServed disk_of (session_of random) ends.press run.ends.press begun last =
+      all.press disk_of outlet_of laws instance begun at.stands at.resumed just just_editions opened same_desks board shown is.is.viewed is.desks many store.disk store.ring store.outlet store.repeated run_ends out
+      is.is.first is.is.is_first is.is.first_shown is.is.places is.is.left is.is.shared is.is.seen (session_of random) ends.press run.ends.press at.press is.press in
       record {
         opened = at.opened;
         begun = begun;
@@ -163,9 +168,10 @@ module _ {D G S K O C : Type 0} (disk_of : DiskGhosts D) (state_of : G → Signe
         shares = all.shares disk_of outlet_of laws instance begun at.stands at.resumed just just_editions opened same_desks board shown is.is.viewed is.desks many store.disk store.ring store.outlet store.repeated run_ends out
             is.is.first is.is.is_first is.is.first_shown is.is.places is.is.left is.is.shared is.is.seen;
         disks = kept;
+        crash = λ images image may. reopened crashes disk_of disks run.ends.desks.items (session_of random) ends.press run.ends.press begun last kept press
+            (sym (as_many is.desks out.states out.are) ∙ many) images image may;
         leaves = record {
-          press = all.press disk_of outlet_of laws instance begun at.stands at.resumed just just_editions opened same_desks board shown is.is.viewed is.desks many store.disk store.ring store.outlet store.repeated run_ends out
-              is.is.first is.is.is_first is.is.first_shown is.is.places is.is.left is.is.shared is.is.seen (session_of random) ends.press run.ends.press at.press is.press;
+          press = press;
           same_site = at.stands.site;
           same_session = at.stands.session;
           same_found = refl;

@@ -23,7 +23,7 @@ module _ {D O H : Type 0} (disk_of : DiskGhosts D) (outlet_of : OutletGhosts O) 
 
   -- a state, and what the handler's clock tells
   abbrev In : H → InstanceState → TimedInstanceState
-  In handler state = at_clock (timed_of handler).clock state
+  In handler state = at_clock (timed_of handler).clock (timed_of handler).kept state
 
   abbrev Ends : (TimedInstanceState → TimedInstanceState → Type 0) → H → H → InstanceState → Type 0
   Ends P old new before = Arrives disk_of outlet_of (λ b a. P (In old b) (In new a)) (timed_of old).instance (timed_of new).instance before

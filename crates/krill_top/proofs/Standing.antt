@@ -112,6 +112,7 @@ module _ {D : Type 0} (disk_of : DiskGhosts D) where
     stays = λ shut. refl;
     cause = λ was_open shut. absurd (shut was_open);
     later = omega arith;
+    room = λ small. small;
   }
 
   same_at : (number : ℕ) (desk : Option (View D)) (state : Option DeskState) → InAt number desk state → DeskGoesOnAt disk_of desk desk state state
@@ -171,6 +172,7 @@ module _ {D : Type 0} (disk_of : DiskGhosts D) where
         second.stays (subst (λ (s : DeskState). ¬ (s.doubt ≡ None)) (sym same) shut) ∙ same;
     cause = cause_of old mid new was between is between.doubt refl first second;
     later = omega (arith, first.later, second.later);
+    room = λ small. second.room (first.room small);
   }
 
   then_at : (old mid new : Option (View D)) (was between is : Option DeskState) → DeskGoesOnAt disk_of old mid was between → DeskGoesOnAt disk_of mid new between is → DeskGoesOnAt disk_of old new was is

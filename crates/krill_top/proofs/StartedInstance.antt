@@ -217,7 +217,7 @@ module _ {D G O : Type 0} (disk_of : DiskGhosts D) (state_of : G → SignerState
         → IsStopCause (given found) (ready.opened found all).loaded signers arrives.after.outlet (first_export_fault fault)
     stop_cause (export.OutletFault rose) found all arrives signers =
         let opened = ready.opened found all in (
-          arrives.step.1.cause refl,
+          arrives.step.1.cause.1,
           agrees disk_of (given found) ends.press (stored_in instance) told opened (some_unexported opened.loaded.serial (state_after opened.editions).serial opened.left.serial arrives.step.0),
         )
     stop_cause export.Memory found all arrives signers = tt

@@ -6,7 +6,7 @@ use Rattle.outlet_api.specs.declared.outlet.Outlet.{Ghosts as OutletGhosts}
 use Rattle.outlet_api.specs.declared.exports.ExportFault.{ExportFault}
 use Rattle.editions.specs.declared.published_state.PublishedNumbers.{PublishedNumbers}
 use Rattle.krill_top.specs.InstanceState.{InstanceState, last_serial, is_exported}
-use Rattle.krill_top.specs.Exports.{ExportsAll, ExportStops, Repeats, stop_of}
+use Rattle.krill_top.specs.Exports.{ExportsAll, ExportStops, Repeats, stopped_of}
 use Rattle.krill_top.specs.Publishing.{Outcome, Unmade, Publishes, IsNotMade, IsPublishedAndExported, IsExportedAgain, IsRefused, MakesOrNot, ComesTo, unmade_of, is_nothing}
 use Rattle.krill_top.specs.Publishing.Unmade.{ByPress, Shut, JournalFull, DiskFault}
 use Rattle.krill_top.specs.declared.publish_fault.PublishFault.{PublishFault}
@@ -30,15 +30,15 @@ made_comes clock published (Refused serial told) before made after publishes exp
 
 same_export : (clock : ℕ) (unmade : Unmade) (before stood : InstanceState) → IsNotMade clock unmade before stood → is_exported before ≡ is_exported stood
 same_export clock (ByPress fault) before stood is = sym (ap is_exported is.same.same)
-same_export clock Shut before stood is = sym (ap is_exported is.same)
-same_export clock (JournalFull held needed) before stood is = sym (ap is_exported is.same.same)
-same_export clock DiskFault before stood is = sym (ap is_exported is.doubted)
+same_export clock (Shut rose) before stood is = sym (ap is_exported is.same)
+same_export clock (JournalFull held needed met) before stood is = sym (ap is_exported is.same.same)
+same_export clock (DiskFault rose) before stood is = sym (ap is_exported is.doubted)
 
 same_serial : (clock : ℕ) (unmade : Unmade) (before stood : InstanceState) → IsNotMade clock unmade before stood → last_serial stood ≡ last_serial before
 same_serial clock (ByPress fault) before stood is = ap last_serial is.same.same
-same_serial clock Shut before stood is = ap last_serial is.same
-same_serial clock (JournalFull held needed) before stood is = ap last_serial is.same.same
-same_serial clock DiskFault before stood is = ap last_serial is.doubted
+same_serial clock (Shut rose) before stood is = ap last_serial is.same
+same_serial clock (JournalFull held needed met) before stood is = ap last_serial is.same.same
+same_serial clock (DiskFault rose) before stood is = ap last_serial is.doubted
 
 refused_comes : (clock : ℕ) (unmade : Unmade) (outcome : Outcome) (before stood after : InstanceState) → IsNotMade clock unmade before stood → RefusesFor unmade outcome stood after
     → ComesTo clock outcome before after
@@ -98,9 +98,9 @@ module _ {D O : Type 0} (disk_of : DiskGhosts D) (outlet_of : OutletGhosts O) wh
       moves_so disk_of outlet_of ExportsAll (ExportsMade published (Published published)) old new moves (λ before after is. (refl, is))
 
   pub made_stopped : (published : PublishedNumbers) (fault : ExportFault O) (old new : InstanceValue D O) → published.serial ≡ old.press.at.serial
-      → Moves disk_of outlet_of (ExportStops (stop_of fault)) old new → Moves disk_of outlet_of (ExportsMade published (Unexported published.serial (stop_of fault))) old new
+      → Moves disk_of outlet_of (ExportStops (stopped_of fault)) old new → Moves disk_of outlet_of (ExportsMade published (Unexported published.serial (stopped_of fault))) old new
   made_stopped published fault old new serial moves =
-      moves_in disk_of outlet_of (ExportStops (stop_of fault)) (ExportsMade published (Unexported published.serial (stop_of fault))) old new moves
+      moves_in disk_of outlet_of (ExportStops (stopped_of fault)) (ExportsMade published (Unexported published.serial (stopped_of fault))) old new moves
       (λ before after stands is. (serial ∙ stands.left.serial, is))
 
   -- the last edition is exported again, or it needn't be
@@ -114,9 +114,9 @@ module _ {D O : Type 0} (disk_of : DiskGhosts D) (outlet_of : OutletGhosts O) wh
 
   pub stopped_again : (unmade : Unmade) (serial : ℕ) (stopped : ExportFault O) (old new : InstanceValue D O) → is_nothing unmade ≡ true
       → ((state : InstanceState) → IsInState outlet_of old state → serial ≡ last_serial state)
-      → Moves disk_of outlet_of (Repeats (Err stopped)) old new → Moves disk_of outlet_of (RefusesFor unmade (Unexported serial (stop_of stopped))) old new
+      → Moves disk_of outlet_of (Repeats (Err stopped)) old new → Moves disk_of outlet_of (RefusesFor unmade (Unexported serial (stopped_of stopped))) old new
   stopped_again unmade serial stopped old new nothing serial_is moves =
-      moves_in disk_of outlet_of (Repeats (Err stopped)) (RefusesFor unmade (Unexported serial (stop_of stopped))) old new moves
+      moves_in disk_of outlet_of (Repeats (Err stopped)) (RefusesFor unmade (Unexported serial (stopped_of stopped))) old new moves
       (λ before after stands is. record { serial_is = serial_is before stands; nothing = nothing; unexported = is.0; stops = is.1 })
 
   -- for another reason it stays refused
@@ -137,6 +137,6 @@ module _ {D O : Type 0} (disk_of : DiskGhosts D) (outlet_of : OutletGhosts O) wh
       moves_in disk_of outlet_of ExportsAll (Repeats {O = O} (Ok true)) old new moves (λ before after stands is. (unexported before stands, is))
 
   pub repeats_stopped : (fault : ExportFault O) (old new : InstanceValue D O) → ((state : InstanceState) → IsInState outlet_of old state → is_exported state ≡ false)
-      → Moves disk_of outlet_of (ExportStops (stop_of fault)) old new → Moves disk_of outlet_of (Repeats (Err fault)) old new
+      → Moves disk_of outlet_of (ExportStops (stopped_of fault)) old new → Moves disk_of outlet_of (Repeats (Err fault)) old new
   repeats_stopped fault old new unexported moves =
-      moves_in disk_of outlet_of (ExportStops (stop_of fault)) (Repeats (Err fault)) old new moves (λ before after stands is. (unexported before stands, is))
+      moves_in disk_of outlet_of (ExportStops (stopped_of fault)) (Repeats (Err fault)) old new moves (λ before after stands is. (unexported before stands, is))

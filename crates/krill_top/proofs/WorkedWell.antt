@@ -48,9 +48,9 @@ stops_keeps commands reply fault before after is =
 
 not_made_keeps : (clock : ℕ) (unmade : Unmade) (before after : InstanceState) → IsNotMade clock unmade before after → is_exported after ≡ is_exported before
 not_made_keeps clock (ByPress fault) before after is = ap is_exported is.same.same
-not_made_keeps clock Shut before after is = ap is_exported is.same
-not_made_keeps clock (JournalFull held needed) before after is = ap is_exported is.same.same
-not_made_keeps clock DiskFault before after is = ap is_exported is.doubted
+not_made_keeps clock (Shut rose) before after is = ap is_exported is.same
+not_made_keeps clock (JournalFull held needed met) before after is = ap is_exported is.same.same
+not_made_keeps clock (DiskFault rose) before after is = ap is_exported is.doubted
 
 comes_exported : (clock : ℕ) (outcome : Publication) (before after : InstanceState) → ComesTo clock outcome before after → unpublished_fault outcome ≡ None → is_exported before ≡ true → is_exported after ≡ true
 comes_exported clock (Published published) before after comes none was = exported_all comes.made after comes.exported

@@ -15,6 +15,7 @@ use Rattle.krill_top.specs.declared.faults.RunFault.TheVariants as faults
 use Rattle.krill_top.specs.declared.generated.Wanted.{Wanted}
 use Rattle.krill_top.specs.Generated.{IsCommandOf, generated, changed}
 use Rattle.krill_top.specs.InstanceState.{TimedInstanceState, at_clock}
+use Rattle.krill_top.specs.Keeps.{keeps_of_command, keeps_of_publication}
 use Rattle.krill_top.specs.Outcomes.{fault_outcome}
 use Rattle.krill_top.specs.Outcomes.Outcome.{Accepted}
 use Rattle.krill_top.specs.Publishing.{Outcome as Publication, ComesTo}
@@ -64,8 +65,8 @@ module _ {D O : Type 0} (disk_of : DiskGhosts D) (outlet_of : OutletGhosts O) wh
   pub timed_then : (P Q R : TimedInstanceState → TimedInstanceState → Type 0) (old mid new : TimedInstance D O) → MovesTimed disk_of outlet_of P old mid → MovesTimed disk_of outlet_of Q mid new
       → ((before between after : TimedInstanceState) → P before between → Q between after → R before after) → MovesTimed disk_of outlet_of R old new
   timed_then P Q R old mid new first rest so =
-      moves_then disk_of outlet_of (λ b a. P (at_clock old.clock b) (at_clock mid.clock a)) (λ b a. Q (at_clock mid.clock b) (at_clock new.clock a)) (λ b a. R (at_clock old.clock b) (at_clock new.clock a)) old.instance mid.instance new.instance first rest
-      (λ before between after stands p q. so (at_clock old.clock before) (at_clock mid.clock between) (at_clock new.clock after) p q)
+      moves_then disk_of outlet_of (λ b a. P (at_clock old.clock old.kept b) (at_clock mid.clock mid.kept a)) (λ b a. Q (at_clock mid.clock mid.kept b) (at_clock new.clock new.kept a)) (λ b a. R (at_clock old.clock old.kept b) (at_clock new.clock new.kept a)) old.instance mid.instance new.instance first rest
+      (λ before between after stands p q. so (at_clock old.clock old.kept before) (at_clock mid.clock mid.kept between) (at_clock new.clock new.kept after) p q)
 
   -- no command yet
   pub none_yet : (timed : TimedInstance D O) → MovesTimed disk_of outlet_of (λ b a. AreAccepted [] b a) timed timed
@@ -104,19 +105,19 @@ module _ {D O : Type 0} (disk_of : DiskGhosts D) (outlet_of : OutletGhosts O) wh
       stay_timed disk_of outlet_of (λ b a. Gives {T = T} name command reply (Err (Some faults.Memory)) b a) timed
       (λ before stands. inl (record { nothing = none; memory = refl; same = refl }))
 
-  pub given_accepted : {T : Type 0} (name : List ℕ) (command : Command) (reply : List ℕ) (done : T) (count : ℕ) (old new : TimedInstance D O) → new.clock ≡ old.clock
+  pub given_accepted : {T : Type 0} (name : List ℕ) (command : Command) (reply : List ℕ) (done : T) (count : ℕ) (old new : TimedInstance D O) → new.clock ≡ old.clock → new.kept ≡ old.kept
       → Moves disk_of outlet_of (λ b a. CommandedIn name command (Accepted count) b a) old.instance new.instance → MovesTimed disk_of outlet_of (λ b a. Gives {T = T} name command reply (Ok done) b a) old new
-  given_accepted {T} name command reply done count old new same moves =
+  given_accepted {T} name command reply done count old new same same_kept moves =
       moves_at disk_of outlet_of (λ b a. CommandedIn name command (Accepted count) b a) (λ b a. Gives {T = T} name command reply (Ok done) b a) old new moves
-      (λ before after comes. record { count = count; comes = comes; same_clock = same })
+      (λ before after comes. record { count = count; comes = comes; same_clock = same; same_kept = same_kept })
 
   pub given_refused : (T : Type 0) (name : List ℕ) (command : Command) (text reply : List ℕ) (fault : CommandFault D) (wanting : Bool) (old new : TimedInstance D O) → new.clock ≡ old.clock
-      → reply ≡ text ++ 10 ∷ [] → IsFaultText name fault text wanting
+      → new.kept ≡ keeps_of_command (fault_outcome fault) old.kept → reply ≡ text ++ 10 ∷ [] → IsFaultText name fault text wanting
       → Moves disk_of outlet_of (λ b a. CommandedIn name command (fault_outcome fault) b a) old.instance new.instance
       → MovesTimed disk_of outlet_of (λ b a. Gives {T = T} name command reply (Err (wanting_fault wanting)) b a) old new
-  given_refused T name command text reply fault wanting old new same is told moves =
+  given_refused T name command text reply fault wanting old new same keeps is told moves =
       moves_at disk_of outlet_of (λ b a. CommandedIn name command (fault_outcome fault) b a) (λ b a. Gives {T = T} name command reply (Err (wanting_fault wanting)) b a) old new moves
-      (λ before after comes. inr (record { outcome = fault_outcome fault; comes = comes; same_clock = same; told = refusal_told name fault text reply wanting is told }))
+      (λ before after comes. inr (record { outcome = fault_outcome fault; comes = comes; same_clock = same; keeps = keeps; told = refusal_told name fault text reply wanting is told }))
 
   -- ---- a command that is wanted
 
@@ -150,13 +151,13 @@ module _ {D O : Type 0} (disk_of : DiskGhosts D) (outlet_of : OutletGhosts O) wh
   publishes_so reply (Err fault) before after is = inr is
 
   pub published_so : (reply : List ℕ) (clock : ℕ) (outcome : Publication) (result : Result PublishedNumbers (Option RunFault)) (old new : TimedInstance D O) → IsReading old.clock clock new.clock
-      → IsPublishedOrTold outcome result [] reply → Moves disk_of outlet_of (λ b a. ComesTo clock outcome b a) old.instance new.instance
+      → new.kept ≡ keeps_of_publication outcome old.kept → IsPublishedOrTold outcome result [] reply → Moves disk_of outlet_of (λ b a. ComesTo clock outcome b a) old.instance new.instance
       → MovesTimed disk_of outlet_of (λ b a. PublishesOrNot reply result b a) old new
-  published_so reply clock outcome result old new read told moves =
+  published_so reply clock outcome result old new read keeps told moves =
       moves_at disk_of outlet_of (λ b a. ComesTo clock outcome b a) (λ b a. PublishesOrNot reply result b a) old new moves
-      (λ before after comes. publishes_so reply result (at_clock old.clock before) (at_clock new.clock after) (record {
+      (λ before after comes. publishes_so reply result (at_clock old.clock old.kept before) (at_clock new.clock new.kept after) (record {
         outcome = outcome;
-        publishes = record { clock = clock; read = read; comes = comes };
+        publishes = record { clock = clock; read = read; comes = comes; keeps = keeps };
         told = told;
       }))
 
@@ -240,5 +241,5 @@ module _ {D O : Type 0} (disk_of : DiskGhosts D) (outlet_of : OutletGhosts O) wh
     works_none authorities sink timed none =
         works_not authorities (Some faults.Memory) sink sink timed timed
         (part_told authorities (length (generated authorities)) (generated authorities) [] (Err (Some faults.Memory)) None (failed (Some faults.Memory)) sink sink timed timed
-        (stay_timed disk_of outlet_of (λ b a. IsMade (generated authorities) [] (Err (Some faults.Memory)) b a) timed (λ before stands. inl (unasked_first (generated authorities) (at_clock timed.clock before))))
+        (stay_timed disk_of outlet_of (λ b a. IsMade (generated authorities) [] (Err (Some faults.Memory)) b a) timed (λ before stands. inl (unasked_first (generated authorities) (at_clock timed.clock timed.kept before))))
         none refl)

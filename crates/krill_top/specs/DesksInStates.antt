@@ -7,9 +7,10 @@ use Rattle.authority_book.specs.declared.commands.Command.{Command}
 use Rattle.gate_journal.specs.Format.{held_by}
 use Rattle.gate_journal.specs.Storing.{stored, entry_bytes}
 use Rattle.cmd_codec.specs.Spelling.{spelling}
-use Rattle.desk_core.specs.View.{View}
+use Rattle.desk_core.specs.View.{View, journal_limit}
 use Rattle.desk_core.specs.Commands.{Records, HasCommands}
 use Rattle.krill_top.specs.DeskStates.{DeskStates, DeskState, desk_named}
+use Rattle.krill_top.specs.Histories.{and_doubt}
 
 -- The desk of that number is in this state; the command in doubt would be its next one.
 pub record IsIn {D : Type 0} (number : ℕ) (desk : View D) (state : DeskState) : Type 0 where
@@ -54,9 +55,14 @@ pub record RoseWithin (before after : ℕ) : Type 0 where
   pub risen : HasRisen from to
   pub ends : to ≤ after
 
+-- Its journal has room for its commands, and for the one in doubt.
+abbrev pub HasDeskRoom : DeskState → Type 0
+HasDeskRoom desk =
+    held_by (map spelling (and_doubt desk.commands desk.doubt)) ≤ journal_limit
+
 -- How a desk goes on, from one state to another: accepted commands come behind its own, and on a known
 -- disk their records with their bytes. A fault of its disk alone leaves one in doubt, and then no more
--- come.
+-- come. Where its journal had room, it has.
 pub record DeskGoesOn {D : Type 0} (disk_of : DiskGhosts D) (old new : D) (was is : DeskState)
     : Type 0 where
   pub accepted : List Command
@@ -66,6 +72,7 @@ pub record DeskGoesOn {D : Type 0} (disk_of : DiskGhosts D) (old new : D) (was i
   pub stays : ¬ (was.doubt ≡ None) → is ≡ was
   pub cause : was.doubt ≡ None → ¬ (is.doubt ≡ None) → RoseWithin (disk_of.fault_count old) (disk_of.fault_count new)
   pub later : disk_of.fault_count old ≤ disk_of.fault_count new
+  pub room : HasDeskRoom was → HasDeskRoom is
 
 -- So of a number's desk, if there is one.
 abbrev pub DeskGoesOnAt : {D : Type 0} → DiskGhosts D → Option (View D) → Option (View D)

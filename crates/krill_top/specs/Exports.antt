@@ -1,5 +1,5 @@
 -- What an export of the last edition does.
-use Rattle.std.specs.Prelude.{◌≡◌, ◌≤◌, Bool, true, false, option_map, Result, Ok, Err}
+use Rattle.std.specs.Prelude.{◌≡◌, ◌≤◌, ℕ, Bool, true, false, option_map, Result, Ok, Err}
 use Rattle.host_calls.specs.Rise.{HasRisen}
 use Rattle.outlet_api.specs.Calls.{after_all, IsFront}
 use Rattle.outlet_api.specs.declared.outlet.OutletStop.{OutletStop}
@@ -45,17 +45,31 @@ abbrev pub stop_of : {O : Type 0} → ExportFault O → OutletStop
 stop_of (OutletFault rose) = stop.Fault
 stop_of Memory = stop.Memory
 
+-- The same, with a fault's counts of the outlet's faults before and after the export.
+pub data Stopped : Type 0 where
+  ByFault : ℕ × ℕ → Stopped
+  ByMemory : Stopped
+
+abbrev pub stopped_of : {O : Type 0} → ExportFault O → Stopped
+stopped_of (OutletFault rose) = ByFault rose
+stopped_of Memory = ByMemory
+
+-- A fault's counts are those of the outlet, and rose.
+abbrev pub IsStopped : ℕ → ℕ → Stopped → Type 0
+IsStopped before after (ByFault rose) = (rose ≡ (before, after)) × HasRisen before after
+IsStopped before after ByMemory = Unit {0}
+
 -- The export was stopped by this: by a fault only where the outlet's count of faults rose.
-pub record ExportStops (stopped : OutletStop) (before after : InstanceState) : Type 0 where
+pub record ExportStops (stopped : Stopped) (before after : InstanceState) : Type 0 where
   pub exports : Exports before after
-  pub cause : stopped ≡ stop.Fault → HasRisen before.outlet.faults after.outlet.faults
+  pub cause : IsStopped before.outlet.faults after.outlet.faults stopped
   pub ended : after.exported ≡ Failed
 
 -- The one, or the other.
 abbrev pub ExportsOrStops : {T O : Type 0} → Result T (ExportFault O) → InstanceState
     → InstanceState → Type 0
 ExportsOrStops (Ok done) before after = ExportsAll before after
-ExportsOrStops (Err fault) before after = ExportStops (stop_of fault) before after
+ExportsOrStops (Err fault) before after = ExportStops (stopped_of fault) before after
 
 -- Where the last edition isn't exported it is exported again, and it is told whether that was so.
 abbrev pub Repeats : {O : Type 0} → Result Bool (ExportFault O) → InstanceState → InstanceState
@@ -63,4 +77,4 @@ abbrev pub Repeats : {O : Type 0} → Result Bool (ExportFault O) → InstanceSt
 Repeats (Ok true) before after = (is_exported before ≡ false) × ExportsAll before after
 Repeats (Ok false) before after = (is_exported before ≡ true) × (after ≡ before)
 Repeats (Err fault) before after =
-    (is_exported before ≡ false) × ExportStops (stop_of fault) before after
+    (is_exported before ≡ false) × ExportStops (stopped_of fault) before after

@@ -1,6 +1,6 @@
 -- A run as a part of a history: what it did goes on behind whichever legal history may have left what it
 -- found.
-use Rattle.std.specs.Prelude.{◌≡◌, ◌≢◌, ℕ, ◌<◌, ◌≤◌, List, [], ◌∷◌, ◌++◌, Option, None, Some, All, map, slice_get}
+use Rattle.std.specs.Prelude.{◌≡◌, ◌≢◌, ℕ, ◌≤◌, List, [], ◌∷◌, ◌++◌, Option, None, Some, map, slice_get}
 use Rattle.authority_book.specs.declared.commands.Command.{Command}
 use Rattle.signer_api.specs.State.{Signed}
 use Rattle.signer_ring.specs.Calls.{Call}
@@ -8,10 +8,12 @@ use Rattle.signer_ring.specs.Calls.Call.{Makes, Signs, Once}
 use Rattle.press_core.specs.JournalRecords.{press_limit}
 use Rattle.histories.specs.Devices.{Signature}
 use Rattle.histories.specs.Events.{History}
-use Rattle.histories.specs.Legal.{IsLegal, IsOfBytes, bytes_for, most_bytes, press_bytes_for}
+use Rattle.key_ids.specs.Uris.{Bases}
+use Rattle.editions.specs.Edition.{Edition}
+use Rattle.histories.specs.Legal.{IsLegal, press_bytes_for}
 use Rattle.histories.specs.Found.{AreFoundAfter}
 use Rattle.histories.specs.Work.{Work}
-use Rattle.krill_top.specs.DeskStates.{DeskStates, DeskState, most_desks, commands_at}
+use Rattle.krill_top.specs.DeskStates.{DeskStates, DeskState}
 use Rattle.krill_top.specs.InstanceState.{InstanceState, lists_of}
 
 -- What a run did: what it found, what stands in the end, and what is in doubt.
@@ -50,18 +52,12 @@ doubt_of (Some desk) = desk.doubt
 abbrev pub desk_doubt : DeskStates → ℕ → Option Command
 desk_doubt desk_states number = doubt_of (slice_get desk_states number)
 
--- The journals have room for what they hold and for what is in doubt, and what editions put is bytes.
-pub record HasRoom (ended : InstanceState) : Type 0 where
-  pub desks : (desk : ℕ) → desk < most_desks
-      → bytes_for (and_doubt (commands_at ended.desk_states desk) (desk_doubt ended.desk_states desk))
-      ≤ most_bytes
-  pub press : and_doubt ended.editions ended.in_doubt ≢ []
-      → press_bytes_for ended.site (and_doubt ended.editions ended.in_doubt) ≤ press_limit
-  pub bytes : All (λ edition. All IsOfBytes edition.changes)
-      (and_doubt ended.editions ended.in_doubt)
+-- The press's journal has room for these editions.
+abbrev pub HasRoomFor : Bases → List Edition → Type 0
+HasRoomFor site editions = editions ≢ [] → press_bytes_for site editions ≤ press_limit
 
 -- Where the press's disk doesn't tell what it holds: its journal has room for the editions, and for the
 -- one in doubt.
 abbrev pub HasPressRoom : InstanceState → Type 0
-HasPressRoom ended = ended.records ≡ None → and_doubt ended.editions ended.in_doubt ≢ []
-    → press_bytes_for ended.site (and_doubt ended.editions ended.in_doubt) ≤ press_limit
+HasPressRoom ended =
+    ended.records ≡ None → HasRoomFor ended.site (and_doubt ended.editions ended.in_doubt)

@@ -1,5 +1,5 @@
 -- What replies rest on: each desk's commands, what was published of them and exported, the press's
--- journal, the signers, the outlet, and the clock.
+-- journal, the signers, the outlet, and the clock. Beside it what is kept of refusals.
 use Rattle.std.specs.Prelude.{◌≡◌, ℕ, Bool, ◌==◌, ◌||◌, true, false, List, [], Option, None, All, IfSome, map}
 use Rattle.authority_book.specs.declared.commands.Command.{Command}
 use Rattle.key_ids.specs.Uris.{Bases}
@@ -20,6 +20,7 @@ use Rattle.press_core.specs.Files.{repository_at}
 use Rattle.press_core.specs.Exports.{IsCoherent, ShowsEdition}
 use Rattle.press_core.specs.JournalRecords.{store_for}
 use Rattle.press_records.specs.Store.{Store}
+use Rattle.session_lines.specs.Keeping.{KeptValue}
 use Rattle.krill_top.specs.DeskStates.{DeskStates}
 
 -- What stands at each path of the outlet, where it tells, and how often it has failed.
@@ -56,13 +57,15 @@ pub record InstanceState : Type 0 where
   pub signers : List SignerState
   pub outlet : OutletState
 
--- A state, and what the readings of the session's clock give from then on, where it tells.
+-- A state, what the readings of the session's clock give from then on, where it tells, and what is kept
+-- of the refusals that were told.
 pub record TimedInstanceState : Type 0 where
   pub state : InstanceState
   pub clock : Option (ℕ → ℕ)
+  pub kept : KeptValue
 
-abbrev pub at_clock : Option (ℕ → ℕ) → InstanceState → TimedInstanceState
-at_clock clock state = record { state = state; clock = clock }
+abbrev pub at_clock : Option (ℕ → ℕ) → KeptValue → InstanceState → TimedInstanceState
+at_clock clock kept state = record { state = state; clock = clock; kept = kept }
 
 abbrev pub lists_of : DeskStates → List (List Command)
 lists_of desk_states = map (λ desk. desk.commands) desk_states

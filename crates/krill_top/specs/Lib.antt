@@ -4,8 +4,10 @@ pub mod Outcomes
 pub mod Session
 pub mod Exports
 pub mod Publishing
+pub mod Keeps
 pub mod Reads
 pub mod Sheets
+pub mod LongLines
 pub mod Replies
 pub mod DesksInStates
 pub mod Sessions
@@ -18,6 +20,8 @@ pub mod Telling
 pub mod Generated
 pub mod Working
 pub mod Histories
+pub mod SoundEditions
+pub mod Crashes
 pub mod Run
 pub mod SharedRuns
 pub mod Runs

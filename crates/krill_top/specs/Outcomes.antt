@@ -7,7 +7,7 @@ use Rattle.authority_book.specs.Fold.{fold_of}
 use Rattle.cmd_codec.specs.Spelling.{spelling}
 use Rattle.gate_journal.specs.Format.{held_by}
 use Rattle.desk_core.specs.View.{journal_limit}
-use Rattle.desk_core.specs.Answers.{needed_for}
+use Rattle.desk_core.specs.Answers.{DeskRise, desk_of, needed_for}
 use Rattle.desk_core.specs.declared.faults.DeskFault.{DeskFault}
 use Rattle.desk_core.specs.declared.faults.DeskFault.TheVariants as desk
 use Rattle.krill_top.specs.declared.command_fault.CommandFault.{CommandFault}
@@ -18,10 +18,11 @@ pub data Outcome : Type 0 where
   -- it is accepted, as that many commands of its desk are then
   Accepted : ℕ → Outcome
   NoSuchAuthority : Outcome
-  Shut : Outcome
+  -- with the word of the desk's disk that failed, now or before
+  Shut : DeskRise → Outcome
   Verdict : Refusal → Outcome
   JournalFull : ℕ → ℕ → Outcome
-  DiskFault : ℕ → Outcome
+  DiskFault : DeskRise → Outcome
   Memory : Outcome
 
 -- How many bytes the journal of a desk's accepted commands takes.
@@ -45,7 +46,8 @@ pub record IsAccepted (number : ℕ) (command : Command) (signers count : ℕ) (
   pub grown : is ≡ record { commands = was.commands ++ command ∷ []; doubt = None }
   pub counted : count ≡ length is.commands
 
-pub record IsShut (was is : DeskState) : Type 0 where
+pub record IsShut (number : ℕ) (rise : DeskRise) (was is : DeskState) : Type 0 where
+  pub desk : desk_of rise ≡ number
   pub shut : ¬ (was.doubt ≡ None)
   pub same : is ≡ was
 
@@ -62,9 +64,9 @@ pub record IsFull (number : ℕ) (command : Command) (signers held needed : ℕ)
   pub same : is ≡ was
 
 -- The disk failed while the command's record was stored. It may stand there, and no more are stored.
-pub record IsInDoubt (number : ℕ) (command : Command) (signers device : ℕ) (was is : DeskState) : Type 0 where
+pub record IsInDoubt (number : ℕ) (command : Command) (signers : ℕ) (rise : DeskRise) (was is : DeskState) : Type 0 where
   pub place : CanBeAccepted number was command signers
-  pub device_is : device ≡ number
+  pub desk : desk_of rise ≡ number
   pub doubted : is ≡ record { commands = was.commands; doubt = Some command }
 
 -- Memory was wanting, before anything was stored.
@@ -76,10 +78,10 @@ pub record IsWithoutMemory (number : ℕ) (command : Command) (signers : ℕ) (w
 abbrev pub Does : ℕ → Command → ℕ → Outcome → DeskState → DeskState → Type 0
 Does number command signers (Accepted count) was is = IsAccepted number command signers count was is
 Does number command signers NoSuchAuthority was is = ⊥
-Does number command signers Shut was is = IsShut was is
+Does number command signers (Shut rise) was is = IsShut number rise was is
 Does number command signers (Verdict refusal) was is = IsRefused number command signers refusal was is
 Does number command signers (JournalFull held needed) was is = IsFull number command signers held needed was is
-Does number command signers (DiskFault device) was is = IsInDoubt number command signers device was is
+Does number command signers (DiskFault rise) was is = IsInDoubt number command signers rise was is
 Does number command signers Memory was is = IsWithoutMemory number command signers was is
 
 -- That no authority has the name, or what the desk of that number makes of the command. No other desk
@@ -105,10 +107,10 @@ command_fault_of desk.Memory = faults.Memory
 -- What the call answers.
 abbrev pub fault_outcome : {D : Type 0} → CommandFault D → Outcome
 fault_outcome faults.NoSuchAuthority = NoSuchAuthority
-fault_outcome (faults.Shut rose) = Shut
+fault_outcome (faults.Shut rose) = Shut rose
 fault_outcome (faults.Verdict refusal) = Verdict refusal
 fault_outcome (faults.JournalFull held needed) = JournalFull held needed
-fault_outcome (faults.DiskFault rose) = DiskFault rose.0
+fault_outcome (faults.DiskFault rose) = DiskFault rose
 fault_outcome faults.Memory = Memory
 
 abbrev pub outcome_of : {D : Type 0} → Result ℕ (CommandFault D) → Outcome

@@ -30,12 +30,13 @@ use Rattle.press_core.specs.Next.{NextValue}
 use Rattle.press_core.specs.Planned.{IsPrepared, calls_for}
 use Rattle.press_core.specs.Stands.{IsLeftBy}
 use Rattle.press_core.specs.Follows.{edition_of}
-use Rattle.press_core.specs.Faults.{IsPressFault}
+use Rattle.press_core.specs.Faults.{IsMet, IsPressFault}
+use Rattle.press_core.specs.Met.{MetValue}
+use Rattle.press_core.specs.StoredAnswers.{rose_of}
 use Rattle.krill_top.specs.DeskStates.{DeskStates, commands_at}
 use Rattle.krill_top.specs.InstanceState.{InstanceState, lists_of, store_in, premises_of, AreVouchedIn}
 use Rattle.krill_top.specs.InstanceState.{last_serial, is_exported}
-use Rattle.krill_top.specs.Exports.{ExportsAll, ExportStops, stop_of}
-use Rattle.outlet_api.specs.declared.outlet.OutletStop.{OutletStop}
+use Rattle.krill_top.specs.Exports.{ExportsAll, ExportStops, Stopped, stopped_of}
 use Rattle.krill_top.specs.declared.publish_fault.PublishFault.{PublishFault}
 use Rattle.krill_top.specs.declared.publish_fault.PublishFault.TheVariants as publish
 use Rattle.krill_top.specs.declared.publication.Publication.{Publication}
@@ -122,26 +123,27 @@ pub record Publishes (clock : ℕ) (told : PublishedNumbers) (before after : Ins
 -- ---- no edition
 
 -- Why none is made: the press alone refuses; its journal is shut; the edition's record has no room
--- there; or the disk failed while the record was written.
+-- there; or the disk failed while the record was written. With the disk's word that it failed, and what
+-- met the publication.
 pub data Unmade : Type 0 where
   ByPress : PressFault → Unmade
-  Shut : Unmade
-  JournalFull : ℕ → ℕ → Unmade
-  DiskFault : Unmade
+  Shut : ℕ × ℕ → Unmade
+  JournalFull : ℕ → ℕ → MetValue → Unmade
+  DiskFault : ℕ × ℕ → Unmade
 
 abbrev pub unprepared_by : {D : Type 0} → PrepareFault D → Unmade
-unprepared_by (prepare.Shut rose) = Shut
+unprepared_by (prepare.Shut rose) = Shut rose
 unprepared_by (prepare.ClockRange now met) = ByPress (press_fault.ClockRange now met)
 unprepared_by (prepare.SerialEnd value met) = ByPress (press_fault.SerialEnd value met)
 unprepared_by (prepare.Nothing serial met) = ByPress (press_fault.Nothing serial met)
 unprepared_by (prepare.SignerFault signer met) = ByPress (press_fault.SignerFault signer met)
 unprepared_by (prepare.KeyClash id met) = ByPress (press_fault.KeyClash id met)
-unprepared_by (prepare.JournalFull held needed met) = JournalFull held needed
+unprepared_by (prepare.JournalFull held needed met) = JournalFull held needed met
 unprepared_by prepare.Memory = ByPress press_fault.Memory
 
 abbrev pub unmade_of : {D : Type 0} → PublishFault D → Unmade
 unmade_of (publish.Unprepared fault) = unprepared_by fault
-unmade_of (publish.Uncommitted fault) = DiskFault
+unmade_of (publish.Uncommitted fault) = DiskFault (rose_of fault)
 
 -- Whether there was nothing to publish, whether memory was wanting, and whether an edition is in doubt.
 abbrev pub is_nothing : Unmade → Bool
@@ -153,7 +155,7 @@ is_wanting (ByPress press_fault.Memory) = true
 is_wanting other = false
 
 abbrev pub leaves_doubt : Unmade → Bool
-leaves_doubt DiskFault = true
+leaves_doubt (DiskFault rose) = true
 leaves_doubt other = false
 
 -- The press met it, with all commands that the desks have accepted. Its journal is open.
@@ -188,7 +190,8 @@ pub record IsShut (before after : InstanceState) : Type 0 where
   pub same : after ≡ before
 
 -- The signers made what the edition is made of, and its record is too long for what the journal holds.
-pub record IsFull (clock held needed : ℕ) (before after : InstanceState) : Type 0 where
+pub record IsFull (clock held needed : ℕ) (met : MetValue) (before after : InstanceState)
+    : Type 0 where
   pub is_open : before.in_doubt ≡ None
   pub same : IsSameButSigners before after
   pub press : PressValue
@@ -199,6 +202,7 @@ pub record IsFull (clock held needed : ℕ) (before after : InstanceState) : Typ
   pub held_is : IfSome before.records (λ records. held ≡ held_by records)
   pub needed_is : needed ≡ min (length (record_bytes press.at prepared) + 9) (2 ^ 64 - 1)
   pub past : press_limit < held + needed
+  pub is_met : IsMet 22 clock met
 
 -- An edition was made as one that is published is, and the disk failed while its record was written.
 -- It may stand there, and no other edition is written behind it.
@@ -226,9 +230,10 @@ pub record IsInDoubt (clock : ℕ) (before after : InstanceState) : Type 0 where
 -- No edition was made, for this reason.
 abbrev pub IsNotMade : ℕ → Unmade → InstanceState → InstanceState → Type 0
 IsNotMade clock (ByPress fault) before after = IsUnpublished clock fault before after
-IsNotMade clock Shut before after = IsShut before after
-IsNotMade clock (JournalFull held needed) before after = IsFull clock held needed before after
-IsNotMade clock DiskFault before after = IsInDoubt clock before after
+IsNotMade clock (Shut rose) before after = IsShut before after
+IsNotMade clock (JournalFull held needed met) before after =
+    IsFull clock held needed met before after
+IsNotMade clock (DiskFault rose) before after = IsInDoubt clock before after
 
 -- An edition was made of what was published, or none.
 abbrev pub MakesOrNot : {D : Type 0} → ℕ → Result PublishedNumbers (PublishFault D)
@@ -242,7 +247,7 @@ pub data Outcome : Type 0 where
   -- an edition was made, and exported
   Published : PublishedNumbers → Outcome
   -- the edition of that serial stands, made now or before, and its export was stopped
-  Unexported : ℕ → OutletStop → Outcome
+  Unexported : ℕ → Stopped → Outcome
   -- there was nothing to publish, and the last edition, which wasn't exported, is now
   Repeated : Unmade → Outcome
   -- no edition was made behind the one of that serial
@@ -251,7 +256,7 @@ pub data Outcome : Type 0 where
 -- What the call answers.
 abbrev pub outcome_of : {D O : Type 0} → Publication D O → Outcome
 outcome_of (publication.Published published) = Published published
-outcome_of (publication.Unexported serial fault) = Unexported serial (stop_of fault)
+outcome_of (publication.Unexported serial fault) = Unexported serial (stopped_of fault)
 outcome_of (publication.Repeated fault) = Repeated (unmade_of fault)
 outcome_of (publication.Refused serial fault) = Refused serial (unmade_of fault)
 
@@ -290,7 +295,7 @@ HasUnexported clock before after =
     ⊎ ((unmade : Unmade) × IsUnexportedYet clock unmade before after)
 
 -- The edition of that serial stands, and its export was stopped.
-pub record IsUnexported (clock serial : ℕ) (stopped : OutletStop)
+pub record IsUnexported (clock serial : ℕ) (stopped : Stopped)
     (before after : InstanceState) : Type 0 where
   pub stood : InstanceState
   pub has : HasUnexported clock before stood

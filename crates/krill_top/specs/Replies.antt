@@ -18,14 +18,15 @@ use Rattle.editions.specs.Edition.{state_after}
 use Rattle.editions.specs.declared.published_state.PublishedNumbers.{PublishedNumbers}
 use Rattle.press_core.specs.declared.fault.PressFault.TheVariants as press
 use Rattle.line_loop.specs.Readings.{IsReading}
-use Rattle.outlet_api.specs.declared.outlet.OutletStop.{OutletStop}
-use Rattle.outlet_api.specs.declared.outlet.OutletStop.TheVariants as stop
 use Rattle.krill_top.specs.InstanceState.{InstanceState, TimedInstanceState}
 use Rattle.krill_top.specs.DeskStates.{press_device}
 use Rattle.krill_top.specs.declared.command_fault.CommandFault.{CommandFault}
 use Rattle.krill_top.specs.declared.command_fault.CommandFault.TheVariants as faults
 use Rattle.krill_top.specs.Outcomes.{Outcome, Commanded, fault_outcome}
 use Rattle.krill_top.specs.Outcomes.Outcome.{Accepted, NoSuchAuthority, Shut as DeskShut, Verdict, JournalFull as DeskFull, DiskFault as DeskFault, Memory as DeskMemory}
+use Rattle.krill_top.specs.Keeps.{keeps_of_command, keeps_of_publication}
+use Rattle.krill_top.specs.Exports.{Stopped}
+use Rattle.krill_top.specs.Exports.Stopped.{ByFault, ByMemory}
 use Rattle.krill_top.specs.Reads.{list_reply, history_reply}
 use Rattle.krill_top.specs.Sheets.{IsShowText, IsRoasText}
 use Rattle.krill_top.specs.Publishing.{Outcome as Publication, Unmade, ComesTo, has_changed}
@@ -56,16 +57,16 @@ IsTold told before text changed after = IsToldSo (λ it. it ≡ told) before tex
 abbrev pub outcome_text : List ℕ → Outcome → List ℕ
 outcome_text name (Accepted count) = accepted_spelling name count
 outcome_text name NoSuchAuthority = refused_spelling (refused.NoSuchAuthority name)
-outcome_text name DeskShut = refused_spelling refused.Shut
+outcome_text name (DeskShut rise) = refused_spelling refused.Shut
 outcome_text name (Verdict refusal) = verdict_spelling refusal
 outcome_text name (DeskFull held needed) = refused_spelling (refused.JournalFull held needed)
-outcome_text name (DeskFault device) = refused_spelling (refused.DiskFault device)
+outcome_text name (DeskFault rise) = refused_spelling (refused.DiskFault rise.0)
 outcome_text name DeskMemory = refused_spelling refused.Memory
 
 -- Whether it changed a desk: the command was accepted, or is in doubt.
 abbrev pub is_change : Outcome → Bool
 is_change (Accepted count) = true
-is_change (DeskFault device) = true
+is_change (DeskFault rise) = true
 is_change other = false
 
 -- A command to the authority of that name comes to this, with the signers that there are. It changes
@@ -76,12 +77,13 @@ pub record CommandedIn (name : List ℕ) (command : Command) (outcome : Outcome)
       (length before.signers) outcome before.desk_states after.desk_states
   pub same : after ≡ record before { desk_states = after.desk_states }
 
--- A command gets the text of what it comes to. The clock isn't read.
+-- A command gets the text of what it comes to, and what a refusal has is kept. The clock isn't read.
 pub record CommandText (name : List ℕ) (command : Command) (before : TimedInstanceState)
     (text : List ℕ) (changed : Bool) (after : TimedInstanceState) : Type 0 where
   pub outcome : Outcome
   pub comes : CommandedIn name command outcome before.state after.state
   pub same_clock : after.clock ≡ before.clock
+  pub keeps : after.kept ≡ keeps_of_command outcome before.kept
   pub text_is : text ≡ outcome_text name outcome
   pub changed_is : changed ≡ is_change outcome
 
@@ -103,14 +105,14 @@ unmade_as (ByPress (press.Nothing serial met)) = refused.Nothing serial
 unmade_as (ByPress (press.SignerFault signer met)) = refused.SignerFault signer
 unmade_as (ByPress (press.KeyClash id met)) = refused.KeyClash id
 unmade_as (ByPress press.Memory) = refused.Memory
-unmade_as Shut = refused.Shut
-unmade_as (JournalFull held needed) = refused.JournalFull held needed
-unmade_as DiskFault = refused.DiskFault press_device
+unmade_as (Shut rose) = refused.Shut
+unmade_as (JournalFull held needed met) = refused.JournalFull held needed
+unmade_as (DiskFault rose) = refused.DiskFault press_device
 
 -- Why an edition isn't exported. Want of memory is told without its serial.
-abbrev pub unexported_as : ℕ → OutletStop → Refused
-unexported_as serial stop.Fault = refused.OutletFault serial
-unexported_as serial stop.Memory = refused.Memory
+abbrev pub unexported_as : ℕ → Stopped → Refused
+unexported_as serial (ByFault rose) = refused.OutletFault serial
+unexported_as serial ByMemory = refused.Memory
 
 abbrev pub publish_text : Publication → List ℕ
 publish_text (Exported published) =
@@ -120,13 +122,15 @@ publish_text (Unexported serial stopped) =
 publish_text (Repeated unmade) = refused_spelling (unmade_as unmade)
 publish_text (NotMade serial unmade) = refused_spelling (unmade_as unmade)
 
--- The clock is read once, and a publication gets the text of what it comes to at that time.
+-- The clock is read once, and a publication gets the text of what it comes to at that time. What a
+-- refusal has is kept.
 pub record PublishText (before : TimedInstanceState) (text : List ℕ)
     (changed : Bool) (after : TimedInstanceState) : Type 0 where
   pub clock : ℕ
   pub read : IsReading before.clock clock after.clock
   pub outcome : Publication
   pub comes : ComesTo clock outcome before.state after.state
+  pub keeps : after.kept ≡ keeps_of_publication outcome before.kept
   pub text_is : text ≡ publish_text outcome
   pub changed_is : changed ≡ has_changed outcome
 

@@ -41,6 +41,7 @@ use Rattle.editions.specs.PublishedState.{PublishedStateValue}
 use Rattle.press_core.specs.Stands.{IsLeftBy}
 use Rattle.press_core.specs.Agreement.{owed_yield, AreSameOrigins, first_mismatch}
 use Rattle.press_core.specs.Loading.{anchor_of}
+use Rattle.session_lines.specs.Keeping.{KeptValue, nothing_kept}
 use Rattle.session_lines.specs.declared.running.SessionEnds.{SessionEnds}
 use Rattle.krill_top.specs.declared.running.RunEnd.{RunEnd}
 use Rattle.krill_top.specs.DeskStates.{DeskStates, DeskState, most_desks, most_sessions, names_in, commands_at}
@@ -48,7 +49,9 @@ use Rattle.krill_top.specs.InstanceState.{InstanceState, OutletState, at_clock, 
 use Rattle.krill_top.specs.InstanceState.{is_exported, AreVouchedIn, VouchForCalls, IsCoherentIn, ShowsLastIn}
 use Rattle.histories.specs.Events.{History}
 use Rattle.histories.specs.Work.{GoesOnAs}
-use Rattle.krill_top.specs.Histories.{HasRoom, MayFind, signatures, work_of}
+use Rattle.krill_top.specs.Histories.{HasPressRoom, MayFind, and_doubt, signatures, work_of}
+use Rattle.krill_top.specs.Crashes.{MayBeLeft, IsReopened}
+use Rattle.krill_top.specs.SoundEditions.{AreFoundSound, TakesNoMore}
 use Rattle.krill_top.specs.Exports.{Repeats}
 use Rattle.krill_top.specs.Session.{session_of}
 use Rattle.outlet_api.specs.declared.outlet.Outlet.{Ghosts as OutletGhosts}
@@ -122,6 +125,7 @@ pub record IsRefusedRun {D G S K O C : Type 0} (ends : Ends D G O)
   pub fault_is : run.fault ≡ Some fault
   pub devices_untouched : run.ends ≡ ends
   pub untouched : run.sessions.items ≡ sessions
+  pub kept : run.kept ≡ nothing_kept
 
 -- The command in doubt would be the next one of its desk.
 abbrev pub IsNext : ℕ → DeskState → Command → Type 0
@@ -255,6 +259,7 @@ pub record IsRefusedAtOpening {D G S K O C : Type 0} (disk_of : DiskGhosts D)
   pub refused : IsDeskRefused disk_of state_of fault ends run.ends
       ⊎ IsClosedAgain disk_of state_of outlet_of site session fault ends run.ends
   pub untouched : run.sessions.items ≡ sessions
+  pub kept : run.kept ≡ nothing_kept
 
 -- ---- what opening finds
 
@@ -302,9 +307,10 @@ pub record Opens {D G O : Type 0} (disk_of : DiskGhosts D) (state_of : G → Sig
 abbrev pub streams_of : {S K C : Type 0} → SessionEnds S K C → Streams S K
 streams_of ends = record { source = ends.source; sink = ends.sink }
 
-abbrev pub worked_by : {S K C : Type 0} → ClockGhosts C → SessionEnds S K C → InstanceState → Worked K
-worked_by clock_of ends state =
-    record { sink = ends.sink; timed = at_clock (clock_of.readings ends.clock) state }
+abbrev pub worked_by : {S K C : Type 0} → ClockGhosts C → SessionEnds S K C → KeptValue
+    → InstanceState → Worked K
+worked_by clock_of ends kept state =
+    record { sink = ends.sink; timed = at_clock (clock_of.readings ends.clock) kept state }
 
 -- What a run leaves that opened desks and press, beside its desks. The press's disk holds the editions
 -- that it held and those that the run published. Each of these follows those before it where the
@@ -355,14 +361,23 @@ pub record ServesOne {D G S K O C : Type 0} (disk_of : DiskGhosts D) (state_of :
   pub fault : run.fault ≡ end_fault end closing
   pub opens : Opens disk_of state_of outlet_of site ends opened begun summary
   pub session : Converses source_of sink_of (streams_of before) (streams_of after) end
-      (at_clock (clock_of.readings before.clock) begun)
-      (at_clock (clock_of.readings after.clock) served)
+      (at_clock (clock_of.readings before.clock) nothing_kept begun)
+      (at_clock (clock_of.readings after.clock) run.kept served)
   pub repeats : Repeats closing served ended
   pub disks : AreServed disk_of ends.desks.items run.ends.desks.items begun.desk_states ended.desk_states
   pub leaves : Leaves disk_of state_of outlet_of random ends opened begun ended run
+  pub published : (vouched : Vouched) → AreVouchedIn vouched ended
+      → AreFoundSound (premises_of vouched ended) begun.editions leaves.grown.0
+  -- of those that were found, too, and of the one in doubt
+  pub cuts : (vouched : Vouched) → AreVouchedIn vouched ended
+      → All (TakesNoMore ended.desk_states) (and_doubt ended.editions ended.in_doubt)
   -- and what the run did, and its signers signed, is a part of a legal history
-  pub goes_on : HasRoom ended → (history : History) → MayFind history begun
+  pub goes_on : HasPressRoom ended → (history : History) → MayFind history begun
       → GoesOnAs begun.site history (signatures ended.calls) (work_of begun ended)
+  -- and whatever a crash on return leaves is what a reopening behind that may find
+  pub crash : (images : ℕ → List ℕ) (image : List ℕ)
+      → MayBeLeft disk_of run.ends.desks.items run.ends.press images image
+      → IsReopened begun ended images image
   pub source_fault : end ≡ SourceFault → HasRisen (source_of.fault_count before.source) (source_of.fault_count after.source)
   pub sink_fault : end ≡ SinkFault → HasRisen (sink_of.fault_count before.sink) (sink_of.fault_count after.sink)
   pub source_later : source_of.fault_count before.source ≤ source_of.fault_count after.source
@@ -380,6 +395,7 @@ pub record TellsOne {D G S K O C : Type 0} (disk_of : DiskGhosts D) (state_of : 
   pub begun : InstanceState
   pub summary : Summary
   pub handed_back : run.sessions.items ≡ after ∷ []
+  pub kept : run.kept ≡ nothing_kept
   pub status : run.status ≡ run_status run.fault
   pub same_source : after.source ≡ before.source
   pub same_clock : after.clock ≡ before.clock
@@ -413,6 +429,7 @@ pub record FindsHeld {D G S K O C : Type 0} (disk_of : DiskGhosts D) (state_of :
   pub held : ℕ
   pub holds : IsFirstHeld begun.desk_states (Some (desk, held))
   pub untouched : run.sessions.items ≡ before ∷ []
+  pub kept : run.kept ≡ nothing_kept
   pub status : run.status ≡ 3
   pub fault : run.fault ≡ Some (faults.NotEmpty desk held)
   pub opens : Opens disk_of state_of outlet_of site ends opened begun summary
@@ -443,12 +460,21 @@ pub record WorksOne {D G S K O C : Type 0} (disk_of : DiskGhosts D) (state_of : 
   pub same_source : after.source ≡ before.source
   pub opens : Opens disk_of state_of outlet_of site ends opened begun summary
   pub works : Works sink_of authorities result
-      (worked_by clock_of before begun) (worked_by clock_of after ended)
+      (worked_by clock_of before nothing_kept begun) (worked_by clock_of after run.kept ended)
   pub disks : AreServed disk_of ends.desks.items run.ends.desks.items begun.desk_states ended.desk_states
   pub leaves : Leaves disk_of state_of outlet_of random ends opened begun ended run
+  pub published : (vouched : Vouched) → AreVouchedIn vouched ended
+      → AreFoundSound (premises_of vouched ended) begun.editions leaves.grown.0
+  -- of those that were found, too, and of the one in doubt
+  pub cuts : (vouched : Vouched) → AreVouchedIn vouched ended
+      → All (TakesNoMore ended.desk_states) (and_doubt ended.editions ended.in_doubt)
   -- and what the run did, and its signers signed, is a part of a legal history
-  pub goes_on : HasRoom ended → (history : History) → MayFind history begun
+  pub goes_on : HasPressRoom ended → (history : History) → MayFind history begun
       → GoesOnAs begun.site history (signatures ended.calls) (work_of begun ended)
+  -- and whatever a crash on return leaves is what a reopening behind that may find
+  pub crash : (images : ℕ → List ℕ) (image : List ℕ)
+      → MayBeLeft disk_of run.ends.desks.items run.ends.press images image
+      → IsReopened begun ended images image
 
 abbrev pub DoesWork : {D G S K O C : Type 0} → DiskGhosts D → (G → SignerState)
     → OutletGhosts O → SinkGhosts K → ClockGhosts C → ℕ → Bases → List ℕ → Ends D G O

@@ -18,9 +18,6 @@ use Rattle.cmd_codec.specs.Spelling.{spelling}
 use Rattle.commit_word.specs.Entries.{StandsIn}
 use Rattle.rp_rules.specs.Certificates.{Vouched}
 use Rattle.notice_board.specs.declared.shown.ShownEdition.{ShownEdition}
-use Rattle.editions.specs.Edition.{Edition, cut_at, set_after}
-use Rattle.editions.specs.Step.{Premises}
-use Rattle.editions.specs.Published.{IsPublished}
 use Rattle.editions.specs.PublishedState.{PublishedStateValue, IsConsistentState}
 use Rattle.press_core.specs.Stands.{IsLeftBy}
 use Rattle.press_core.specs.declared.last_export.LastExport.TheVariants.{Failed}
@@ -48,6 +45,8 @@ use Rattle.krill_top.specs.InstanceState.{InstanceState, lists_of, outlet_state,
 use Rattle.krill_top.specs.InstanceState.{is_exported, IsCoherentIn, ShowsLastIn}
 use Rattle.krill_top.specs.PressDisk.{IsPressServed}
 use Rattle.krill_top.specs.Session.{session_of}
+use Rattle.krill_top.specs.Crashes.{MayBeLeft, IsReopened}
+use Rattle.krill_top.specs.SoundEditions.{AreFoundSound, TakesNoMore}
 use Rattle.krill_top.specs.Run.{AreKept, AreServed, Leaves, Opens}
 use Rattle.krill_top.specs.Statuses.{fault_of, export_fault, graver, run_status}
 
@@ -166,19 +165,6 @@ abbrev pub Closes : {O : Type 0} → Result Bool (ExportFault O) → InstanceSta
 Closes (Ok told) begun ended = is_exported ended ≡ true
 Closes (Err fault) begun ended = IsUnexported (stop_of fault) begun ended
 
--- Each of these editions, behind those before them, is sound to relying parties, who get of it exactly
--- what is owed at its cut.
-abbrev pub AreFoundSound : Premises → List Edition → List Edition → Type 0
-AreFoundSound premises before [] = ⊤
-AreFoundSound premises before (edition ∷ made) =
-    IsPublished premises edition (set_after (before ++ edition ∷ []))
-    × AreFoundSound premises (before ++ edition ∷ []) made
-
--- The edition takes in no more commands of a desk than it has.
-abbrev pub TakesNoMore : DeskStates → Edition → Type 0
-TakesNoMore desk_states edition =
-    (desk : ℕ) → cut_at edition.cut desk ≤ length (commands_at desk_states desk)
-
 -- A run that opened desks and press, served its sessions over them at the same time, exported the last
 -- edition again where it wasn't exported, and hands all back. What each session was answered is of what
 -- its pass knew then; in the end all of that stands. What the run did, and its signers signed, is a part
@@ -220,6 +206,10 @@ pub record ServesAll {D G S K O C : Type 0} (disk_of : DiskGhosts D) (state_of :
       → AreFoundSound (premises_of vouched ended) begun.editions leaves.grown.0
   pub goes_on : HasPressRoom ended → (history : History) → MayFind history begun
       → GoesOnAs begun.site history (signatures ended.calls) (work_of begun ended)
+  -- and whatever a crash on return leaves is what a reopening behind that may find
+  pub crash : (images : ℕ → List ℕ) (image : List ℕ)
+      → MayBeLeft disk_of run.ends.desks.items run.ends.press images image
+      → IsReopened begun ended images image
 
 -- A run that opened desks and press, and found no memory for the locks: no session was served, and all
 -- is as it was found.

@@ -14,8 +14,8 @@ use Rattle.krill_top.specs.declared.faults.OpenFault.{OpenFault}
 use Rattle.krill_top.specs.declared.faults.OpenFault.TheVariants as opening
 use Rattle.krill_top.specs.declared.faults.RunFault.{RunFault}
 use Rattle.krill_top.specs.declared.faults.RunFault.TheVariants as faults
-use Rattle.outlet_api.specs.declared.outlet.OutletStop.{OutletStop}
-use Rattle.outlet_api.specs.declared.outlet.OutletStop.TheVariants as export_stop
+use Rattle.krill_top.specs.Exports.{Stopped}
+use Rattle.krill_top.specs.Exports.Stopped.{ByFault, ByMemory}
 use Rattle.krill_top.specs.Publishing.{Outcome as Publication, is_wanting}
 use Rattle.krill_top.specs.Publishing.Outcome.{Published, Unexported, Repeated, Refused}
 
@@ -64,9 +64,9 @@ abbrev pub wanting_fault : Bool → Option RunFault
 wanting_fault true = Some faults.Memory
 wanting_fault false = None
 
-abbrev pub outlet_fault : OutletStop → RunFault
-outlet_fault export_stop.Fault = faults.Device
-outlet_fault export_stop.Memory = faults.Memory
+abbrev pub outlet_fault : Stopped → RunFault
+outlet_fault (ByFault rose) = faults.Device
+outlet_fault ByMemory = faults.Memory
 
 -- What is wrong where a workload's publication isn't made and exported. Any other refusal is a reply
 -- alone.

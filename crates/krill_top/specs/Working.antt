@@ -9,6 +9,7 @@ use Rattle.krill_top.specs.declared.faults.RunFault.TheVariants as faults
 use Rattle.krill_top.specs.declared.generated.Wanted.{Wanted}
 use Rattle.krill_top.specs.Generated.{IsCommandOf, generated, changed}
 use Rattle.krill_top.specs.InstanceState.{TimedInstanceState}
+use Rattle.krill_top.specs.Keeps.{keeps_of_command, keeps_of_publication}
 use Rattle.krill_top.specs.Outcomes.{Outcome}
 use Rattle.krill_top.specs.Outcomes.Outcome.{Accepted, Verdict, Memory}
 use Rattle.krill_top.specs.Publishing.{Outcome as Publication, ComesTo}
@@ -37,6 +38,7 @@ pub record IsTaken (name : List ℕ) (command : Command) (before after : TimedIn
   pub count : ℕ
   pub comes : CommandedIn name command (Accepted count) before.state after.state
   pub same_clock : after.clock ≡ before.clock
+  pub same_kept : after.kept ≡ before.kept
 
 -- Its reply, where it isn't accepted, and what is wrong where that says that memory was wanting. There
 -- may be none for a verdict's.
@@ -48,12 +50,13 @@ IsRefusalOf name (Verdict refusal) reply fault =
 IsRefusalOf name Memory reply fault = IsReplyOf memory_text reply × (fault ≡ Some faults.Memory)
 IsRefusalOf name other reply fault = IsReplyOf (outcome_text name other) reply × (fault ≡ None)
 
--- It wasn't accepted, and that is told.
+-- It wasn't accepted, and that is told. What the refusal has is kept.
 pub record IsRefused (name : List ℕ) (command : Command) (reply : List ℕ)
     (fault : Option RunFault) (before after : TimedInstanceState) : Type 0 where
   pub outcome : Outcome
   pub comes : CommandedIn name command outcome before.state after.state
   pub same_clock : after.clock ≡ before.clock
+  pub keeps : after.kept ≡ keeps_of_command outcome before.kept
   pub told : IsRefusalOf name outcome reply fault
 
 -- It was given, and was accepted or not.
@@ -116,12 +119,13 @@ AreGiven commands reply (Err fault) before after = StopsAmong commands reply fau
 
 -- ---- a publication
 
--- The clock is read once, and a publication comes to this at that time.
+-- The clock is read once, and a publication comes to this at that time. What a refusal has is kept.
 pub record PublishesAt (outcome : Publication) (before after : TimedInstanceState)
     : Type 0 where
   pub clock : ℕ
   pub read : IsReading before.clock clock after.clock
   pub comes : ComesTo clock outcome before.state after.state
+  pub keeps : after.kept ≡ keeps_of_publication outcome before.kept
 
 -- What was published is exported, or a reply says why not, and that is a fault or not.
 abbrev pub IsPublishedOrTold : Publication → Result PublishedNumbers (Option RunFault)

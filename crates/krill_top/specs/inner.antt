@@ -1,4 +1,5 @@
 -- Scaffolding: words that only private contracts, invariants and proofs need.
+pub mod Room
 pub mod Instances
 pub mod Handlers
 pub mod Opened

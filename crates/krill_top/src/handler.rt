@@ -5,17 +5,20 @@ ghost use Rattle.std.specs.List.{list_all};
 ghost use Rattle.json_api.specs.Reply.{accepted_spelling, published_spelling, serial_spelling};
 ghost use Rattle.json_api.specs.Refused.{verdict_spelling, fault_spelling, refused_spelling};
 ghost use Rattle.krill_top.specs.Replies as spec;
-ghost use Rattle.krill_top.specs.Exports.{stop_of};
+ghost use Rattle.krill_top.specs.Exports.{stopped_of};
 ghost use Rattle.krill_top.specs.Publishing.{outcome_of, unmade_of, unprepared_by};
 ghost use Rattle.krill_top.specs.Replies.{is_blank_byte, IsBlank, memory_text, bad_line_text, published_in_reply, publish_text, unexported_as, serial_text, awaited_text, await_text, IsTold, CommandText, PublishText, SaidText, IsToldOr, IsVerdictText, IsFaultText, IsTextIn};
 ghost use Rattle.krill_top.specs.Statuses.{wanting_fault, outlet_fault};
 ghost use Rattle.krill_top.specs.Working.{Gives, PublishesOrNot, IsPublishedOrTold};
 ghost use Rattle.krill_top.specs.inner.Instances.{MovesTimed, MayText, MayReply};
 ghost use Rattle.krill_top.specs.inner.Handlers.{timed};
+ghost use Rattle.session_lines.specs.Keeping.{nothing_kept};
 
 use crate::command_fault::CommandFault;
 use crate::faults::RunFault;
 use crate::instance::Instance;
+use crate::keeping::{keep_command, keep_publication};
+use crate::long_lines::takes_long;
 use crate::press_opening::PRESS_DEVICE;
 use crate::publication::Publication;
 use crate::publish_fault::PublishFault;
@@ -30,6 +33,7 @@ use line_loop::{Clock, LINE_LIMIT, LineHandler};
 use names::Name;
 use outlet_api::{ExportFault, Outlet};
 use press_core::PrepareFault;
+use session_lines::Kept;
 use signer_api::Signer;
 use std::alloc::{AllocError, Global};
 use std::thread::Threads;
@@ -37,11 +41,13 @@ use std::thread::Threads;
 /// Room for an accepted command's reply, or one that needs no memory, and its line feed.
 const REPLY_ROOM: usize = 256;
 
-/// The instance, the clock of its publications, and what reads the lines that are answered over them.
+/// The instance, the clock of its publications, what is kept of refusals, and what reads the lines that are
+/// answered over them.
 #[derive(Drop)]
 pub struct Handler<D: Disk, G: Signer, O: Outlet, C: Clock> {
     instance: Instance<D, G, O>,
     clock: C,
+    kept: Kept<D, O>,
     reader: LineReader,
 }
 
@@ -50,20 +56,24 @@ impl<D: Disk, G: Signer, O: Outlet, C: Clock> Handler<D, G, O, C> {
     pub fn new(alloc: Global, instance: Instance<D, G, O>, clock: C) -> Handler<D, G, O, C>
         ensures instance { result.instance ≡ instance }
         ensures clock { result.clock ≡ clock }
+        ensures kept { result.kept ≡ nothing_kept }
     {
         Handler {
             instance,
             clock,
+            kept: Kept::new(),
             reader: LineReader::new(alloc),
         }
     }
 
-    /// The instance, with the commands that were accepted and what was published, and the clock.
-    pub fn into_parts(self) -> (Instance<D, G, O>, C)
+    /// The instance, with the commands that were accepted and what was published, the clock, and what was
+    /// kept of refusals.
+    pub fn into_parts(self) -> (Instance<D, G, O>, C, Kept<D, O>)
         ensures instance { result.0 ≡ self.instance }
         ensures clock { result.1 ≡ self.clock }
+        ensures kept { result.2 ≡ self.kept }
     {
-        (self.instance, self.clock)
+        (self.instance, self.clock, self.kept)
     }
 
     // Answers a command, and says whether it changed a desk. The room for the reply is taken before the
@@ -87,7 +97,8 @@ impl<D: Disk, G: Signer, O: Outlet, C: Clock> Handler<D, G, O, C> {
             }
             Err(fault) => {
                 let in_doubt = fault.leaves_doubt();
-                append_fault(alloc, name, fault, out);
+                append_fault(alloc, name, &fault, out);
+                keep_command(&mut self.kept, fault);
                 Ok(in_doubt)
             }
         }
@@ -127,7 +138,11 @@ impl<D: Disk, G: Signer, O: Outlet, C: Clock> Handler<D, G, O, C> {
     {
         match self.instance.command(alloc, name, command) {
             Ok(_) => Ok(()),
-            Err(fault) => Err(wanting_fault(append_fault(alloc, name, fault, out))),
+            Err(fault) => {
+                let is_wanting = append_fault(alloc, name, &fault, out);
+                keep_command(&mut self.kept, fault);
+                Err(wanting_fault(is_wanting))
+            }
         }
     }
 
@@ -185,7 +200,10 @@ impl<D: Disk, G: Signer + Send, O: Outlet, C: Clock> Handler<D, G, O, C> {
         ensures { MovesTimed D.Disk O.Outlet (λ b a. PublishesOrNot out.new.items result b a) (timed C.Clock self.old) (timed C.Clock self.new) }
     {
         let now = self.clock.now();
-        published_or_told(self.instance.publish(rt, alloc, now), out)
+        let outcome = self.instance.publish(rt, alloc, now);
+        let published = published_or_told(&outcome, out);
+        keep_publication(&mut self.kept, outcome);
+        published
     }
 
     // Publishes at the clock's next reading, and says whether that changed the editions or their export. The
@@ -204,7 +222,8 @@ impl<D: Disk, G: Signer + Send, O: Outlet, C: Clock> Handler<D, G, O, C> {
         let now = self.clock.now();
         let publication = self.instance.publish(rt, alloc, now);
         let changed = publication.has_changed();
-        append_publication(out, publication);
+        append_publication(out, &publication);
+        keep_publication(&mut self.kept, publication);
         Ok(changed)
     }
 
@@ -297,8 +316,8 @@ fn published_of(published: editions::PublishedNumbers) -> PublishedReply
 }
 
 // Why nothing is published, as a reply tells it.
-fn refused_of<D: Disk>(fault: PublishFault<D>) -> Refused
-    ensures { result ≡ spec.unmade_as (unmade_of fault) }
+fn refused_of<D: Disk>(fault: &PublishFault<D>) -> Refused
+    ensures { result ≡ spec.unmade_as (unmade_of fault.now) }
 {
     match fault {
         PublishFault::Unprepared { fault } => unprepared_as(fault),
@@ -308,30 +327,33 @@ fn refused_of<D: Disk>(fault: PublishFault<D>) -> Refused
     }
 }
 
-fn unprepared_as<D: Disk>(fault: PrepareFault<D>) -> Refused
-    ensures { result ≡ spec.unmade_as (unprepared_by fault) }
+fn unprepared_as<D: Disk>(fault: &PrepareFault<D>) -> Refused
+    ensures { result ≡ spec.unmade_as (unprepared_by fault.now) }
 {
     match fault {
         PrepareFault::Shut { .. } => Refused::Shut,
-        PrepareFault::ClockRange { now, .. } => Refused::ClockRange { now },
-        PrepareFault::SerialEnd { value, .. } => Refused::SerialEnd { value },
-        PrepareFault::Nothing { serial, .. } => Refused::Nothing { serial },
-        PrepareFault::SignerFault { signer, .. } => Refused::SignerFault { signer },
-        PrepareFault::KeyClash { id, .. } => Refused::KeyClash { id },
-        PrepareFault::JournalFull { held, needed, .. } => Refused::JournalFull { held, needed },
+        PrepareFault::ClockRange { now, .. } => Refused::ClockRange { now: *now },
+        PrepareFault::SerialEnd { value, .. } => Refused::SerialEnd { value: *value },
+        PrepareFault::Nothing { serial, .. } => Refused::Nothing { serial: *serial },
+        PrepareFault::SignerFault { signer, .. } => Refused::SignerFault { signer: *signer },
+        PrepareFault::KeyClash { id, .. } => Refused::KeyClash { id: *id },
+        PrepareFault::JournalFull { held, needed, .. } => Refused::JournalFull {
+            held: *held,
+            needed: *needed,
+        },
         PrepareFault::Memory => Refused::Memory,
     }
 }
 
 // Appends the reply to a publication, in the room that is there.
-fn append_publication<D: Disk, O: Outlet>(out: &mut Vec<u8>, publication: Publication<D, O>)
+fn append_publication<D: Disk, O: Outlet>(out: &mut Vec<u8>, publication: &Publication<D, O>)
     requires { vec_len out.old + REPLY_ROOM ≤ vec_capacity out.old }
-    ensures { out.new.items ≡ out.old.items ++ publish_text (outcome_of publication) ++ 10 ∷ [] }
+    ensures { out.new.items ≡ out.old.items ++ publish_text (outcome_of publication.now) ++ 10 ∷ [] }
 {
     match publication {
-        Publication::Published { published } => append_published(out, &published_of(published)),
+        Publication::Published { published } => append_published(out, &published_of(*published)),
         Publication::Unexported { serial, fault } => {
-            append_refused(out, &unexported_as(serial, fault));
+            append_refused(out, &unexported_as(*serial, fault));
         }
         Publication::Repeated { fault } | Publication::Refused { fault, .. } => {
             append_refused(out, &refused_of(fault));
@@ -340,8 +362,8 @@ fn append_publication<D: Disk, O: Outlet>(out: &mut Vec<u8>, publication: Public
 }
 
 // Why an edition isn't exported, as a reply tells it.
-fn unexported_as<O: Outlet>(serial: u64, fault: ExportFault<O>) -> Refused
-    ensures { result ≡ unexported_as serial (stop_of fault) }
+fn unexported_as<O: Outlet>(serial: u64, fault: &ExportFault<O>) -> Refused
+    ensures { result ≡ unexported_as serial (stopped_of fault.now) }
 {
     match fault {
         ExportFault::OutletFault { .. } => Refused::OutletFault { serial },
@@ -386,22 +408,26 @@ fn append_awaited(out: &mut Vec<u8>, asked: u64, serial: u64)
 fn append_fault<D: Disk>(
     alloc: Global,
     name: &Name,
-    fault: CommandFault<D>,
+    fault: &CommandFault<D>,
     out: &mut Vec<u8>,
 ) -> bool
     requires { vec_len out.old + REPLY_ROOM ≤ vec_capacity out.old }
     ensures { (text : List ℕ) × (out.new.items ≡ out.old.items ++ text ++ 10 ∷ [])
-        × IsFaultText name.now fault text result }
+        × IsFaultText name.now fault.now text result }
 {
     match fault {
         CommandFault::NoSuchAuthority => {
             append_other(out, &Refused::NoSuchAuthority { name: *name })
         }
         CommandFault::Shut { .. } => append_other(out, &Refused::Shut),
-        CommandFault::Verdict { refusal } => append_verdict(alloc, &refusal, out),
-        CommandFault::JournalFull { held, needed } => {
-            append_other(out, &Refused::JournalFull { held, needed })
-        }
+        CommandFault::Verdict { refusal } => append_verdict(alloc, refusal, out),
+        CommandFault::JournalFull { held, needed } => append_other(
+            out,
+            &Refused::JournalFull {
+                held: *held,
+                needed: *needed,
+            },
+        ),
         CommandFault::DiskFault { rose } => {
             let device = rose.desk();
             append_other(out, &Refused::DiskFault { device })
@@ -436,17 +462,17 @@ fn wanting_fault(is_wanting: bool) -> Option<RunFault>
 
 // What was published, or a reply that says why nothing was, in the room that is there.
 fn published_or_told<D: Disk, O: Outlet>(
-    publication: Publication<D, O>,
+    publication: &Publication<D, O>,
     out: &mut Vec<u8>,
 ) -> Result<PublishedNumbers, Option<RunFault>>
     requires { vec_len out.old + REPLY_ROOM ≤ vec_capacity out.old }
-    ensures { IsPublishedOrTold (outcome_of publication) result out.old.items out.new.items }
+    ensures { IsPublishedOrTold (outcome_of publication.now) result out.old.items out.new.items }
 {
     match publication {
-        Publication::Published { published } => Ok(published),
+        Publication::Published { published } => Ok(*published),
         Publication::Unexported { serial, fault } => {
-            let stopped = export_fault(&fault);
-            append_refused(out, &unexported_as(serial, fault));
+            let stopped = export_fault(fault);
+            append_refused(out, &unexported_as(*serial, fault));
             Err(Some(stopped))
         }
         Publication::Repeated { fault } => {
@@ -463,7 +489,7 @@ fn published_or_told<D: Disk, O: Outlet>(
 
 // What is wrong where an edition isn't exported.
 fn export_fault<O: Outlet>(fault: &ExportFault<O>) -> RunFault
-    ensures { result ≡ outlet_fault (stop_of fault.now) }
+    ensures { result ≡ outlet_fault (stopped_of fault.now) }
 {
     match fault {
         ExportFault::OutletFault { .. } => RunFault::Device,
@@ -609,23 +635,17 @@ fn is_blank_byte(byte: u8) -> bool
     byte == b' ' || byte == b'\t' || byte == b'\r'
 }
 
-// How long a line is at most that is looked at for a publication, which has no other member.
-const LONGEST_PUBLISH: usize = 32;
-
-// Whether a short line has the word of a publication, which makes many signatures. One that says it with
-// escapes or among many blanks is missed, and another line may have it.
-fn has_publish(line: &[u8]) -> bool {
-    let word = b"\"publish\"";
-    line.len() <= LONGEST_PUBLISH && line.windows(word.len()).any(|part| part == word.as_slice())
-}
-
 impl<D: Disk, G: Signer, O: Outlet, C: Clock> LineHandler for Handler<D, G, O, C> {
+    ghost use Rattle.std.specs.Prelude.{◌↔◌, IsTrue};
+    ghost use Rattle.krill_top.specs.LongLines.{IsLong};
     ghost use Rattle.krill_top.specs.inner.Instances.{MayReply};
 
     ghost answers = { λ old line reply changed new. MayReply D.Disk O.Outlet (timed C.Clock old) line reply changed (timed C.Clock new) };
 
-    fn takes_long(&self, line: &[u8]) -> bool {
-        has_publish(line)
+    fn takes_long(&self, line: &[u8]) -> bool
+        ensures { IsTrue result ↔ IsLong line.now }
+    {
+        takes_long(line)
     }
 
     fn refuse_long(&mut self, _alloc: Global, out: &mut Vec<u8>) -> Result<(), AllocError> {

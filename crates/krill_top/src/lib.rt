@@ -11,6 +11,8 @@ mod fronts;
 mod generated;
 mod handler;
 mod instance;
+mod keeping;
+mod long_lines;
 mod opening;
 mod press_opening;
 mod pressing;

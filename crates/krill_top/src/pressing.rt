@@ -13,8 +13,9 @@ use crate::desks::Desks;
 use crate::publish_fault::PublishFault;
 use disk_api::Disk;
 use editions::PublishedNumbers;
+use histories::what_a_press_holds;
 use notice_board::Sheet;
-use press_core::{PrepareFault, StoredPrepared, StoredPress};
+use press_core::{PrepareFault, StoredPrepared, StoredPress, edition_records_go_on};
 use signer_api::Signer;
 use std::alloc::Global;
 use std::thread::Threads;
@@ -52,7 +53,10 @@ fn prepare_all<D: Disk, G: Signer + Send, R: Threads + Sync>(
     ensures ready { IfOk result (λ ready. IsReady now desks.now press.old press.new ready.prepared ready.sheet) }
     ensures refused { IfErr result (IsUnprepared now desks.now press.old press.new) }
     ensures told { IfSome press.old.journal.records (λ _. IsSome (D.content press.old.journal.disk)) }
+    ensures known { IfSome (D.content press.old.journal.disk) (λ _. IsSome press.old.journal.records) }
 {
+    edition_records_go_on();
+    what_a_press_holds();
     let gathered = desks.since_cut(alloc, press.press().cut())?;
     let prepared = press.prepare(rt, alloc, now, gathered)?;
     let sheet = prepared.sheet(alloc)?;

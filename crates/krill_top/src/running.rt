@@ -33,14 +33,18 @@ use crate::starting::{NotStarted, SIGNERS_WRONG, Started, start, stop};
 use crate::summary::Summary;
 use crate::words::{Asked, Doing, read_words};
 use crate::working::{ended_by, work};
+use cmd_codec::listed_names_are_names;
+use desk_core::commands_are_determined;
 use disk_api::Disk;
-use editions::steps_stay_steps;
-use histories::{headline, legal_histories_go_on, what_was_done_goes_on};
+use editions::{
+    accepted_names_are_apart, editions_are_published, editions_leave_a_set, steps_stay_steps,
+};
+use histories::{headline, legal_histories_go_on, what_a_press_holds, what_was_done_goes_on};
 use key_ids::Site;
 use line_loop::{Clock, SessionEnd, Sink, Source};
 use manager::MOST_SESSIONS;
 use outlet_api::{ExportFault, Outlet};
-use press_core::{edition_records_go_on, more_editions_stay_shown};
+use press_core::{edition_records_go_on, more_editions_stay_shown, records_tell_one_store};
 use session_lines::{Kept, SessionEnds};
 use signer_api::Signer;
 use std::alloc::Global;
@@ -61,8 +65,8 @@ const RSYNC_BASE: &str = "rsync://rpki.example/repo/";
 
 const RRDP_BASE: &str = "https://rpki.example/rrdp/";
 
-/// What a run leaves: its status, why it isn't 0, the devices, and the sessions' ends, as they stand. Where it served
-/// several sessions it has of each kind of refusal the last value that one of them kept.
+/// What a run leaves: its status, why it isn't 0, the devices, and the sessions' ends, as they stand. It has of each kind
+/// of refusal the last value that one of its sessions kept, or its workload.
 #[derive(Drop)]
 pub struct RunEnd<D: Disk, G: Signer, S: Source, K: Sink, O: Outlet, C: Clock> {
     /// 0, or that of its fault.
@@ -130,7 +134,14 @@ fn serve_one<R: Threads + Sync, D: Disk, G: Signer + Send, S: Source, K: Sink, O
     headline();
     legal_histories_go_on();
     what_was_done_goes_on();
+    what_a_press_holds();
     steps_stay_steps();
+    accepted_names_are_apart();
+    listed_names_are_names();
+    editions_leave_a_set();
+    editions_are_published();
+    commands_are_determined();
+    records_tell_one_store();
     let Started {
         instance,
         summary,
@@ -144,7 +155,7 @@ fn serve_one<R: Threads + Sync, D: Disk, G: Signer + Send, S: Source, K: Sink, O
     } = take_first(&mut sessions);
     let mut handler = Handler::new(alloc, instance, clock);
     let ended = Session::serve(rt, alloc, &mut handler, &mut source, &mut sink);
-    let (mut instance, clock) = handler.into_parts();
+    let (mut instance, clock, kept) = handler.into_parts();
     let closing = instance.repeat_export(alloc);
     let ends = SessionEnds {
         source,
@@ -158,7 +169,7 @@ fn serve_one<R: Threads + Sync, D: Disk, G: Signer + Send, S: Source, K: Sink, O
         summary,
         disks,
     };
-    run_end(fault, stop(started), sessions, Kept::new())
+    run_end(fault, stop(started), sessions, kept)
 }
 
 // Tells the one session what was found of the last edition, and closes the instance.
@@ -263,7 +274,14 @@ fn work_over<R: Threads + Sync, D: Disk, G: Signer + Send, S: Source, K: Sink, O
     headline();
     legal_histories_go_on();
     what_was_done_goes_on();
+    what_a_press_holds();
     steps_stay_steps();
+    accepted_names_are_apart();
+    listed_names_are_names();
+    editions_leave_a_set();
+    editions_are_published();
+    commands_are_determined();
+    records_tell_one_store();
     let Started {
         instance,
         summary,
@@ -277,7 +295,7 @@ fn work_over<R: Threads + Sync, D: Disk, G: Signer + Send, S: Source, K: Sink, O
     } = take_first(&mut sessions);
     let mut handler = Handler::new(alloc, instance, clock);
     let worked = work(rt, alloc, &mut handler, &mut sink, authorities);
-    let (instance, clock) = handler.into_parts();
+    let (instance, clock, kept) = handler.into_parts();
     let ends = SessionEnds {
         source,
         sink,
@@ -289,7 +307,7 @@ fn work_over<R: Threads + Sync, D: Disk, G: Signer + Send, S: Source, K: Sink, O
         summary,
         disks,
     };
-    run_end(ended_by(worked), stop(started), sessions, Kept::new())
+    run_end(ended_by(worked), stop(started), sessions, kept)
 }
 
 /// The status of a run that ended so.

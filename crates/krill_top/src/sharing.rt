@@ -34,7 +34,7 @@ use manager::{
 use outlet_api::Outlet;
 use press_core::{
     edition_records_go_on, more_commands_stand, more_commands_stay_published,
-    more_editions_stay_shown,
+    more_editions_stay_shown, records_tell_one_store,
 };
 use session_lines::{
     Kept, ServedStore, SessionEnds, SessionOutcome, serve_store, sessions_make_what_is_accepted,
@@ -81,6 +81,7 @@ pub(crate) fn serve_many<
     what_was_done_goes_on();
     what_a_press_holds();
     steps_stay_steps();
+    records_tell_one_store();
     let Started {
         instance,
         disks,

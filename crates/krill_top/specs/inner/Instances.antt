@@ -18,6 +18,7 @@ use Rattle.gate_journal.specs.View as journal
 use Rattle.editions.specs.Edition.{Edition}
 use Rattle.editions.specs.PublishedState.{PublishedStateValue}
 use Rattle.press_core.specs.Stands.{IsLeftBy, StandsFor}
+use Rattle.session_lines.specs.Keeping.{KeptValue}
 use Rattle.krill_top.specs.DeskStates.{most_desks, names_in}
 use Rattle.krill_top.specs.InstanceState.{InstanceState, TimedInstanceState, at_clock}
 use Rattle.krill_top.specs.InstanceState.{outlet_state, lists_of, premises_of, AreVouchedIn}
@@ -26,6 +27,7 @@ use Rattle.press_core.specs.Files.{HasFilesOf}
 use Rattle.press_core.specs.Exports.{ShowsEdition, ShowsLast}
 use Rattle.krill_top.specs.DesksInStates.{AreIn, DesksGoOn, RoseWithin}
 use Rattle.krill_top.specs.Replies.{IsReply, IsText}
+use Rattle.krill_top.specs.inner.Room.{KeepsRoom, KeepsBytes}
 
 -- The desks by their numbers, the press and its journal, what readers are shown of the last edition, how
 -- many signers there are, and the outlet.
@@ -54,13 +56,16 @@ HasInDoubt at None (Some entry) = ⊥
 HasInDoubt at (Some edition) None = ⊥
 HasInDoubt at (Some edition) (Some entry) = IsDoubtOf at edition entry
 
--- The journal of the press has the editions, where its disk tells, and takes more where none is in doubt.
+-- The journal of the press has the editions, where its disk tells, and has room for them where it had room
+-- for those that were found; it takes more where none is in doubt.
 pub record IsJournalOf {D : Type 0} (press : StoredValue D) (state : InstanceState) : Type 0 where
   pub limit : press.journal.limit ≡ press_limit
   pub records : press.journal.records ≡ state.records
   pub are : IfSome state.records (AreRecords (store_in state) state.editions)
   pub shut : (press.journal.shut ≡ None) ↔ (state.in_doubt ≡ None)
   pub doubt : HasInDoubt press.press.at state.in_doubt press.journal.doubt
+  pub room : KeepsRoom state
+  pub bytes : KeepsBytes state
 
 -- The instance is in this state: its desks are in their states, its press has what the editions
 -- left, with their files, and stands for them whatever is vouched, if their signatures are and the
@@ -147,17 +152,20 @@ abbrev pub Moves : {D O : Type 0} → DiskGhosts D → OutletGhosts O
 Moves disk_of outlet_of P old new = (before : InstanceState) → IsInState outlet_of old before
     → Arrives disk_of outlet_of P old new before
 
--- The instance, and what the readings of its session's clock give, where it tells.
+-- The instance, what the readings of its session's clock give, where it tells, and what is kept of
+-- refusals.
 pub record TimedInstance (D O : Type 0) : Type 0 where
   pub instance : InstanceValue D O
   pub clock : Option (ℕ → ℕ)
+  pub kept : KeptValue
 
--- What a line may do to the instance and the clock.
+-- What a line may do to the instance, the clock and what is kept.
 abbrev pub MovesTimed : {D O : Type 0} → DiskGhosts D → OutletGhosts O
     → (TimedInstanceState → TimedInstanceState → Type 0)
     → TimedInstance D O → TimedInstance D O → Type 0
 MovesTimed disk_of outlet_of P old new =
-    Moves disk_of outlet_of (λ b a. P (at_clock old.clock b) (at_clock new.clock a))
+    Moves disk_of outlet_of
+    (λ b a. P (at_clock old.clock old.kept b) (at_clock new.clock new.kept a))
     old.instance new.instance
 
 -- A line that isn't blank may get this text.

@@ -1,5 +1,5 @@
 -- What a press makes of the desks' commands, before the instance takes it in.
-use Rattle.std.specs.Prelude.{◌≡◌, ◌⊎◌, ◌≤◌, ℕ, None, Some, IsSome, List, [], ◌∷◌, ◌++◌}
+use Rattle.std.specs.Prelude.{◌≡◌, ◌⊎◌, ◌≤◌, ℕ, None, Some, IfSome, IsSome, List, [], ◌∷◌, ◌++◌}
 use Rattle.host_calls.specs.Rise.{HasRisen}
 use Rattle.disk_api.specs.declared.disk.Disk.{Ghosts as DiskGhosts}
 use Rattle.desk_core.specs.View.{View}
@@ -28,6 +28,7 @@ use Rattle.editions.specs.Edition.{Edition}
 use Rattle.krill_top.specs.declared.publish_fault.PublishFault.{PublishFault}
 use Rattle.krill_top.specs.declared.publish_fault.PublishFault.TheVariants.{Unprepared, Uncommitted}
 use Rattle.krill_top.specs.inner.Gathered.{AreSince}
+use Rattle.krill_top.specs.inner.Room.{FitsBehind}
 
 -- An edition was prepared of all commands behind the cut, with what readers will be shown of it. It can be
 -- written: the press is as it was but for its signers, and its journal but for its room.
@@ -41,6 +42,7 @@ pub record IsReady {D : Type 0} (clock : ℕ) (desks : List (View D)) (old new :
   pub same : new.press ≡ record old.press { ring = new.press.ring }
   pub journal : IsSameButRoom old.journal new.journal
   pub can : CanCommit new prepared
+  pub room : FitsBehind old prepared.edition
   pub sheet_is : sheet ≡ sheet_of prepared.edition.next
 
 -- An edition was prepared of all commands behind the cut, and is the press's last one now, and a record
@@ -72,6 +74,8 @@ pub record IsPressed {D : Type 0} (disk_of : DiskGhosts D) (clock : ℕ) (desks 
       → IsLeftBy lists editions old.press.at → HasRecordsOf editions old
       → HasRecordsOf (editions ++ edition_of prepared ∷ []) new
   pub known : IsSome old.journal.records → IsSome new.journal.records
+  pub known_before : IfSome new.journal.records (λ _. IsSome old.journal.records)
+  pub room : FitsBehind old prepared
   pub is_open : new.journal.shut ≡ None
   pub settled : new.journal.doubt ≡ None
   pub later : disk_of.fault_count old.journal.disk ≤ disk_of.fault_count new.journal.disk
@@ -111,6 +115,7 @@ pub record IsUncommitted {D : Type 0} (disk_of : DiskGhosts D) (clock : ℕ) (de
   pub recorded : IsRecordOf old.press.at prepared entry
   pub doubt : new.journal.doubt ≡ Some entry
   pub records : new.journal.records ≡ old.journal.records
+  pub room : FitsBehind old prepared
   pub risen : HasRisen (disk_of.fault_count old.journal.disk) (disk_of.fault_count new.journal.disk)
   pub later : disk_of.fault_count old.journal.disk ≤ disk_of.fault_count new.journal.disk
 

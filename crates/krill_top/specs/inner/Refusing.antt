@@ -2,10 +2,9 @@
 use Rattle.std.specs.Prelude.{◌≡◌, ℕ, Bool, true, false}
 use Rattle.editions.specs.declared.published_state.PublishedNumbers.{PublishedNumbers}
 use Rattle.krill_top.specs.InstanceState.{InstanceState, last_serial, is_exported}
-use Rattle.krill_top.specs.Exports.{ExportsAll, ExportStops}
+use Rattle.krill_top.specs.Exports.{ExportsAll, ExportStops, Stopped}
 use Rattle.krill_top.specs.Publishing.{Outcome, Unmade, is_nothing}
 use Rattle.krill_top.specs.Publishing.Outcome.{Published, Unexported, Repeated, Refused}
-use Rattle.outlet_api.specs.declared.outlet.OutletStop.{OutletStop}
 
 -- it stays refused
 pub record StaysRefused (unmade : Unmade) (serial : ℕ) (told : Unmade)
@@ -23,7 +22,7 @@ pub record ExportsAgain (unmade told : Unmade) (before after : InstanceState) : 
   pub exports : ExportsAll before after
 
 -- as far as it goes
-pub record StopsAgain (unmade : Unmade) (serial : ℕ) (stopped : OutletStop)
+pub record StopsAgain (unmade : Unmade) (serial : ℕ) (stopped : Stopped)
     (before after : InstanceState) : Type 0 where
   pub serial_is : serial ≡ last_serial before
   pub nothing : is_nothing unmade ≡ true

@@ -17,6 +17,7 @@ returns g c bases random ends before started one =
         outlet = ap (λ (e : Ends D g.row.G.Denot g.row.O.Denot). e.outlet) c.run_end.ensures.ends ∙ c.stop.ensures.outlet;
       };
       sessions = c.run_end.ensures.sessions ∙ one;
+      kept = c.run_end.ensures.kept ∙ c.new.ensures;
       status = c.run_end.ensures.status;
       fault = c.run_end.ensures.fault;
     })

@@ -67,19 +67,19 @@ pub returns-in-Err-clause-rsync : goal.returns-in-Err-clause-rsync
 returns-in-Err-clause-rsync g c asked is bad =
     let same : c.in-Err.fault ≡ faults.Base site.BadRsync = bad_rsync (bases_of asked) c.in-Err.fault (refused_bases c.args.words.now asked is c.in-Err.fault c.in-Err.ensures.refused) bad in
     let ended = c.run_end.ensures in
-    record { status_is = ended.status ∙ ap fault_status same; fault_is = ended.fault ∙ ap Some same; devices_untouched = ended.ends; untouched = ended.sessions }
+    record { status_is = ended.status ∙ ap fault_status same; fault_is = ended.fault ∙ ap Some same; devices_untouched = ended.ends; untouched = ended.sessions; kept = ended.kept ∙ c.new.ensures }
 
 pub returns-in-Err-clause-rrdp : goal.returns-in-Err-clause-rrdp
 returns-in-Err-clause-rrdp g c asked is good bad =
     let same : c.in-Err.fault ≡ faults.Base site.BadRrdp = bad_rrdp (bases_of asked) c.in-Err.fault (refused_bases c.args.words.now asked is c.in-Err.fault c.in-Err.ensures.refused) good bad in
     let ended = c.run_end.ensures in
-    record { status_is = ended.status ∙ ap fault_status same; fault_is = ended.fault ∙ ap Some same; devices_untouched = ended.ends; untouched = ended.sessions }
+    record { status_is = ended.status ∙ ap fault_status same; fault_is = ended.fault ∙ ap Some same; devices_untouched = ended.ends; untouched = ended.sessions; kept = ended.kept ∙ c.new.ensures }
 
 pub returns-in-Err-clause-asked : goal.returns-in-Err-clause-asked
 returns-in-Err-clause-asked g c asked is good =
     let same : c.in-Err.fault ≡ faults.Memory = no_memory (bases_of asked) c.in-Err.fault (refused_bases c.args.words.now asked is c.in-Err.fault c.in-Err.ensures.refused) good in
     let ended = c.run_end.ensures in
-    inl (record { status_is = ended.status ∙ ap fault_status same; fault_is = ended.fault ∙ ap Some same; devices_untouched = ended.ends; untouched = ended.sessions })
+    inl (record { status_is = ended.status ∙ ap fault_status same; fault_is = ended.fault ∙ ap Some same; devices_untouched = ended.ends; untouched = ended.sessions; kept = ended.kept ∙ c.new.ensures })
 
 -- ---- what is done
 

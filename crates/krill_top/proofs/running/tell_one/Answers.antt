@@ -32,6 +32,7 @@ returns g c bases random ends before started one =
       signers = ap (λ (e : Ends D g.row.G.Denot g.row.O.Denot). map g.G.Signer.state e.signers.items) c.run_end.ensures.ends ∙ c.stop.ensures.signers;
       outlet = ap (λ (e : Ends D g.row.G.Denot g.row.O.Denot). e.outlet) c.run_end.ensures.ends ∙ c.stop.ensures.outlet;
       sessions = c.run_end.ensures.sessions ∙ c.put_in_front.ensures.items ∙ ap (λ (l : List Session). after ∷ l) taken.1;
+      kept = c.run_end.ensures.kept ∙ c.new.ensures;
       status = c.run_end.ensures.status ∙ ap run_status (sym c.run_end.ensures.fault);
       source = refl;
       clock = refl;

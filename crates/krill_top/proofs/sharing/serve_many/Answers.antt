@@ -11,6 +11,7 @@ use Rattle.krill_top.specs.inner.Instances.{stored_in}
 use Rattle.krill_top.specs.inner.Opened.{AreClosed}
 use Rattle.krill_top.specs.inner.Shared.{IsServedRun}
 use Rattle.krill_top.proofs.ManyServed.{Laws, named_in}
+use Rattle.krill_top.proofs.Crashes.{CrashLaws}
 use Rattle.krill_top.proofs.Room.{RoomLaws}
 use Rattle.krill_top.proofs.RunHistories.{HistoryLaws}
 use Rattle.krill_top.proofs.Served.{serves_none}
@@ -74,6 +75,7 @@ returns-in-Ok g c bases random ends started =
       steps = c.headline.ensures.steps;
       stay = c.steps_stay_steps.ensures.all;
     } in
+    let crashes : CrashLaws = record { commands = c.commands_are_determined.ensures; editions = c.records_tell_one_store.ensures.one } in
     let room : RoomLaws = record {
       reopen = c.legal_histories_go_on.ensures.reopenings;
       limits = c.headline.ensures.limits;
@@ -87,7 +89,7 @@ returns-in-Ok g c bases random ends started =
           let here : IsServedRun g.D.Disk g.G.Signer.state g.O.Outlet g.S.Source g.K.Sink g.C.Clock (named_in g.D.Disk g.O.Outlet instance opened.desks.items opened.board) opened.board.shown before run =
           subst (λ (o : O). IsServedRun g.D.Disk g.G.Signer.state g.O.Outlet g.S.Source g.K.Sink g.C.Clock (named_of g.D.Disk g.O.Outlet opened.desks.items (stored_in instance) opened.board o) opened.board.shown before run) outlet
           (subst (λ (s : StoredValue D). IsServedRun g.D.Disk g.G.Signer.state g.O.Outlet g.S.Source g.K.Sink g.C.Clock (named_of g.D.Disk g.O.Outlet opened.desks.items s opened.board opened.outlet) opened.board.shown before run) press served) in
-          serves_all g.D.Disk g.G.Signer.state g.O.Outlet g.S.Source g.K.Sink g.C.Clock laws c.more_commands_stay_published.ensures c.sessions_make_what_is_accepted.ensures history room bases random ends before run c.args.started started
+          serves_all g.D.Disk g.G.Signer.state g.O.Outlet g.S.Source g.K.Sink g.C.Clock laws c.more_commands_stay_published.ensures c.sessions_make_what_is_accepted.ensures history room crashes bases random ends before run c.args.started started
           opened.desks.items desks opened.board shown here)
       | inr unserved ↦ inr (serves_none g.D.Disk g.G.Signer.state g.O.Outlet g.S.Source g.K.Sink g.C.Clock c.edition_records_go_on.ensures bases random ends before run c.args.started started
           (record {

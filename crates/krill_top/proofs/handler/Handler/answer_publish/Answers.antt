@@ -11,6 +11,6 @@ returns-clause-ok g c =
       text,
       c.append_publication.ensures ∙ ap (λ (l : List ℕ). l ++ text ++ 10 ∷ []) c.in_ok-reserve.ensures.items,
       publish_told g.D.Disk g.O.Outlet c.now-now.result (outcome_of c.publish-publication.result) text c.has_changed-changed.result (timed g.C.Clock c.args.self.now)
-          (record { instance = c.publish-publication.new.self; clock = g.C.Clock.readings c.now-now.new.self }) c.now-now.ensures
-          refl c.has_changed-changed.ensures c.publish-publication.ensures,
+          (record { instance = c.publish-publication.new.self; clock = g.C.Clock.readings c.now-now.new.self; kept = c.keep_publication.new.kept }) c.now-now.ensures
+          c.keep_publication.ensures refl c.has_changed-changed.ensures c.publish-publication.ensures,
     )
