@@ -6,6 +6,9 @@
 //! the folder of the files that are exported.
 #![tactic(auto)]
 
+ghost use Rattle.std.specs.Prelude.{◌≡◌, ◌↔◌};
+ghost use Rattle.std.specs.IoError.{error_kind};
+
 mod clock;
 mod sessions;
 mod signers;
@@ -336,7 +339,9 @@ fn make_copy(rt: &HostRuntime, path: &str) -> io::Result<()> {
     }
 }
 
-pub(crate) fn stop_of(error: io::Error) -> DiskStop {
+pub(crate) fn stop_of(error: io::Error) -> DiskStop
+    ensures { (result ≡ DiskStop.Memory) ↔ (error_kind error ≡ ErrorKind.OutOfMemory) }
+{
     if error.kind() == ErrorKind::OutOfMemory {
         DiskStop::Memory
     } else {
