@@ -2,8 +2,8 @@
 
 First the judge is tried: it finds nothing in runs of a program that is right, which is played (played.py), and each fault
 that is planted in them, and each program that is made wrong (planted.py). Then krillc is tried: what stands in a session's
-place, and what clients do (ends.py); and sessions of random lines at files and FIFOs, with publications, kills and
-reopenings (trials.py).
+place, and what clients do (ends.py); two sessions that need each other (meeting.py); what is put there while it starts
+(swaps.py); and sessions of random lines at files and FIFOs, with publications, kills and reopenings (trials.py).
 
 Usage: python3 checks/sessions TURNS PROGRAM, in a scratch folder. '-' stands for a program that isn't there."""
 import random, sys
@@ -30,15 +30,20 @@ def try_judge():
 
 
 def main():
+    if TURNS < 1:
+        fail("no turns: nothing would be tried")
     told = try_judge()
     if KRILLC is None:
         print(f"checks/sessions: krillc isn't built: it isn't tried; {told}")
         return
     if not numbers_of_files():
         fail("krillc --help names no files of sessions")
-    import ends, trials
+    import ends, meeting, swaps, trials
     cases = ends.try_ends()
-    print(f"checks/sessions: ok, {cases} cases of files and FIFOs; {trials.try_turns()}; {told}")
+    met = meeting.try_meeting("meeting")
+    swapped, turns = swaps.try_swaps(), trials.try_turns()
+    print(f"checks/sessions: ok, {cases} cases of files and FIFOs; {met} commands of two sessions that need each other; "
+          f"{swapped}; {turns}; {told}")
 
 
 main()

@@ -2,16 +2,17 @@
 import fcntl, json, os, signal, struct, subprocess, termios, time
 
 from clients import AtFifos, AtStreams
-from parts import KRILLC, fail, numbers_of_files, start
+from parts import LONGEST, fail, numbers_of_files, run as run_in, start
 from store import Store
 
 NUMBERS = None
+# What standard error has first in each run without signers.
+NOTE = "krillc: no signer's pipes stand in krill-data: signatures are a rehearsal's, which no relying party accepts\n"
 ODD = "neither a FIFO nor a regular file"
+DENIED = "Permission denied (os error 13)"
 ASIDE = "stays\n"
 # So many bytes lie in a FIFO that takes no more, but for less than a reply's.
 NEARLY_FULL = 50_000
-# A wait for what never comes is given up behind so many seconds.
-LONGEST = 300
 
 
 def update(number, ca="ta"):
@@ -33,8 +34,12 @@ def read(at):
 
 
 def run(store, *words, lines=""):
-    return subprocess.run([KRILLC, *(words or ["run"])], cwd=store.folder, input=lines, capture_output=True,
-                          text=True, timeout=LONGEST)
+    return run_in(store.folder, *(words or ["run"]), lines=lines)
+
+
+def refusal(number, which, why):
+    """What standard error has where a run ends by that file."""
+    return f"{NOTE}krillc: krill-data/session-{number}.{which}: {why}\nkrillc: device failed\n"
 
 
 def accepted(place):
@@ -66,17 +71,43 @@ def links_and_folders(folder):
         for kind in ("link to a FIFO", "link to a file", "link to nothing", "folder", "socket"):
             store = Store(f"{folder}-{which}-{kind.replace(' ', '-')}")
             aside = store.path("aside")
-            for other in ("in", "out"):
-                write(path(store, number, other), update(1) + "\n" if other == "in" else "")
-            os.remove(path(store, number, which))
+            other = "out" if which == "in" else "in"
+            write(path(store, number, other), update(1) + "\n")
             odd_in_place(kind, aside, path(store, number, which))
-            done = run(store, lines=update(0) + "\n")
-            wanted = f"session-{number}.{which}: {ODD}"
-            check(done.returncode == 4 and wanted in done.stderr and "device failed" in done.stderr and not done.stdout,
-                  f"a {kind} as session-{number}.{which}", done)
-            check(os.path.getsize(store.path("desk-00")) <= 17, f"a {kind}: a command was taken")
+            refuses(store, number, which, ODD)
+            check(read(path(store, number, other)) == update(1) + "\n", f"a {kind} as .{which}: the other file was written")
+            check(os.path.exists(aside) == (kind in ("link to a FIFO", "link to a file")), f"a {kind}: {aside} was made")
             check(not os.path.isfile(aside) or read(aside) == ASIDE, f"a {kind}: what it leads to was written")
             tried += 1
+    return tried
+
+
+def refuses(store, number, which, why):
+    """A run ends by that file before it reads a line."""
+    done = run(store, lines=update(0) + "\n")
+    check((done.returncode, done.stdout, done.stderr) == (4, "", refusal(number, which, why)),
+          f"session-{number}.{which}, which is to be refused: {why}", done)
+    check(os.path.getsize(store.path("desk-00")) <= 17, f"session-{number}.{which}: a command was taken")
+
+
+def files_without_permission(folder):
+    """A file that krillc may not both read and write is refused and stays as it is; who is root may do either."""
+    if os.geteuid() == 0:
+        return 0
+    number, tried = NUMBERS[0], 0
+    for which in ("in", "out"):
+        for kind in ("file", "FIFO"):
+            for mode in (0o400, 0o200):
+                store = Store(f"{folder}-{which}-{kind}-{mode:o}")
+                place, other = path(store, number, which), path(store, number, "out" if which == "in" else "in")
+                write(other, update(1) + "\n")
+                os.mkfifo(place) if kind == "FIFO" else write(place, ASIDE)
+                os.chmod(place, mode)
+                refuses(store, number, which, DENIED)
+                check(read(other) == update(1) + "\n", f"a {kind} of mode {mode:o} as .{which}: the other file was written")
+                os.chmod(place, 0o600)
+                check(kind == "FIFO" or read(place) == ASIDE, f"a {kind} of mode {mode:o} was written")
+                tried += 1
     return tried
 
 
@@ -121,6 +152,33 @@ def regular_files(folder):
     for number in strangers:
         check(not os.path.exists(path(store, number, "out")), f"session-{number}.in was taken for a session")
     return 1 + len(strangers)
+
+
+def files_and_fifos(folder):
+    """Lines of a file with replies to a FIFO, whoever is there; and lines of a FIFO with replies to a file."""
+    store = Store(folder)
+    number = NUMBERS[0]
+    lines, replies = path(store, number, "in"), path(store, number, "out")
+    os.mkfifo(replies)
+    write(lines, update(0) + "\n")
+    done = run(store)
+    check((done.returncode, done.stderr) == (0, NOTE), "replies to a FIFO with nobody there", done)
+    write(lines, update(1) + "\n")
+    heard = os.open(replies, os.O_RDONLY | os.O_NONBLOCK)
+    done = run(store)
+    told = os.read(heard, 1 << 16).decode()
+    os.close(heard)
+    check((done.returncode, done.stderr, told) == (0, NOTE, accepted(2)), "replies to a FIFO", done, told)
+    store.remove_sessions()
+    os.mkfifo(lines)
+    write(replies, "left from before, and longer than the replies\n" * 9)
+    program = start(store.folder, "run")
+    until(lambda: read(replies) == "", "a file for replies beside a FIFO is cut off")
+    write(lines, update(2) + "\n")
+    until(lambda: read(replies) == accepted(3), "replies to a file beside a FIFO")
+    program.send_signal(signal.SIGTERM)
+    check(program.wait(LONGEST) == -signal.SIGTERM, "a signal ends it otherwise", program.returncode)
+    return 3
 
 
 def audits_and_workloads(folder):
@@ -239,8 +297,8 @@ def each_waits_for_the_other(folder):
     return 1
 
 
-TRIED = (links_and_folders, one_without_the_other, regular_files, audits_and_workloads, clients_that_leave,
-         clients_that_do_not_read, each_waits_for_the_other)
+TRIED = (links_and_folders, files_without_permission, one_without_the_other, regular_files, files_and_fifos,
+         audits_and_workloads, clients_that_leave, clients_that_do_not_read, each_waits_for_the_other)
 
 
 def try_ends():

@@ -1,9 +1,9 @@
 """A store's files, and what is found in them."""
-import json, os, shutil, subprocess, sys
+import json, os, shutil, sys
 
 from logs import Run
 from model import Edition
-from parts import DATA, KRILLC, fail
+from parts import DATA, fail, run
 
 sys.path.append(os.path.join(os.path.dirname(os.path.dirname(os.path.abspath(__file__))), "stores"))
 from journal import CURRENT, NEW, Press, journal_of, records_of
@@ -28,8 +28,7 @@ class Store:
 
     def ask(self, *lines):
         """The replies of a run of its own, of standard input alone."""
-        done = subprocess.run([KRILLC, "run"], cwd=self.folder, input="".join(json.dumps(line) + "\n" for line in lines),
-                              capture_output=True, text=True)
+        done = run(self.folder, "run", lines="".join(json.dumps(line) + "\n" for line in lines))
         if done.returncode:
             fail(f"a run ends with status {done.returncode}: {done.stderr}")
         return [json.loads(reply) for reply in done.stdout.splitlines()]
@@ -56,7 +55,7 @@ class Store:
         return found
 
     def audit(self):
-        done = subprocess.run([KRILLC, "audit"], cwd=self.folder, stdin=subprocess.DEVNULL, capture_output=True, text=True)
+        done = run(self.folder, "audit")
         if done.returncode:
             fail(f"an audit ends with status {done.returncode}: {done.stderr}")
         return json.loads(done.stdout)

@@ -69,7 +69,7 @@ class Turns:
         if program.poll() is not None or not (is_done or is_killed):
             fail(f"sessions at FIFOs: status {program.poll()}, and not every line has a reply")
         program.send_signal(signal.SIGKILL if is_killed else signal.SIGTERM)
-        program.wait()
+        program.wait(LONGEST)
         for session in clients + beside:
             session.end()
         self.kills += is_killed
