@@ -6,7 +6,7 @@ place, and what clients do (ends.py); two sessions that need each other (meeting
 (swaps.py); and sessions of random lines at files and FIFOs, with publications, kills and reopenings (trials.py).
 
 Usage: python3 checks/sessions TURNS PROGRAM, in a scratch folder. '-' stands for a program that isn't there."""
-import random, sys
+import os, random, sys
 
 # The folder stays as it is.
 sys.dont_write_bytecode = True
@@ -42,8 +42,9 @@ def main():
     cases = ends.try_ends()
     met = meeting.try_meeting("meeting")
     swapped, turns = swaps.try_swaps(), trials.try_turns()
+    unasked = "" if os.geteuid() else "; files without permission aren't tried: root may open any"
     print(f"checks/sessions: ok, {cases} cases of files and FIFOs; {met} commands of two sessions that need each other; "
-          f"{swapped}; {turns}; {told}")
+          f"{swapped}; {turns}{unasked}; {told}")
 
 
 main()

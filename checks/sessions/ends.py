@@ -174,7 +174,8 @@ def files_and_fifos(folder):
     write(replies, "left from before, and longer than the replies\n" * 9)
     program = start(store.folder, "run")
     until(lambda: read(replies) == "", "a file for replies beside a FIFO is cut off")
-    write(lines, update(2) + "\n")
+    with os.fdopen(os.open(lines, os.O_RDWR), "w") as client:
+        client.write(update(2) + "\n")
     until(lambda: read(replies) == accepted(3), "replies to a file beside a FIFO")
     program.send_signal(signal.SIGTERM)
     check(program.wait(LONGEST) == -signal.SIGTERM, "a signal ends it otherwise", program.returncode)
