@@ -3,6 +3,7 @@ pub mod Known
 pub mod Parts
 pub mod Feeds
 pub mod Tails
+pub mod Waiting
 pub mod Progress
 pub mod Steps
 pub mod Serving

@@ -1,15 +1,16 @@
 -- What answers lines as a function of the handler that it is lent.
 use denote.Ref.{Bor, MutBor}
-use Rattle.std.specs.Prelude.{◌≡◌, ◌≤◌, ◌<◌, ℕ, Bool, List, ◌++◌, length}
+use Rattle.std.specs.Prelude.{◌≡◌, ◌≤◌, ◌<◌, ℕ, Bool, List, [], ◌++◌, length}
 use Rattle.std.specs.Prelude.{Vec, vec_len, Result, IfOk, OnErr}
 use Rattle.line_loop.specs.declared.TheConstants.{LINE_LIMIT}
 
--- It may be asked for the answer to each line that is kept, where few replies wait.
-abbrev pub TakesLines : {H A Z : Type 0}
+-- It may be asked for the answer to each line that is kept, where few replies wait: none where that
+-- line takes long.
+abbrev pub TakesLines : {H A Z : Type 0} → (List ℕ → Type 0)
     → (MutBor H → A → Bor (List ℕ) → MutBor (Vec ℕ Z) → Type 0) → Type 0
-TakesLines {H} {A} {Z} takes = (handler : MutBor H) (alloc : A) (line : Bor (List ℕ))
+TakesLines {H} {A} {Z} long takes = (handler : MutBor H) (alloc : A) (line : Bor (List ℕ))
     (out : MutBor (Vec ℕ Z)) → length line.now ≤ LINE_LIMIT → vec_len out.now < 65536
-    → takes handler alloc line out
+    → (long line.now → out.now.items ≡ []) → takes handler alloc line out
 
 -- What it says of such a line is an answer of the handler's to it, at the end of the replies. An
 -- `Err` changes nothing.

@@ -1,7 +1,8 @@
 // What answers a session's lines, one at a time.
-ghost use Rattle.std.specs.Prelude.{◌≡◌, ℕ, ◌<◌, ◌≤◌, Bool, false, List, [], ◌++◌, length, take, vec_len, IfOk, OnOk, OnErr, IfSome, IfNone};
+ghost use Rattle.std.specs.Prelude.{◌≡◌, ◌↔◌, ℕ, ◌<◌, ◌≤◌, Bool, false, List, [], ◌++◌, length, take, vec_len, IsTrue, IfOk, OnOk, OnErr, IfSome, IfNone};
+ghost use Rattle.std.specs.Bool.{OnFalse};
 ghost use Rattle.line_loop.specs.Functions.{TakesLines, GivesAnswers};
-ghost use Rattle.line_loop.specs.inner.Pending.{NoFeed, IsTailOf, IsTail};
+ghost use Rattle.line_loop.specs.inner.Pending.{NoFeed, IsTailOf, IsTail, IsLongFirst, NoneWaits};
 ghost use Rattle.line_loop.specs.inner.Progress.{AnswersOne, Advances};
 
 use crate::LINE_LIMIT;
@@ -10,20 +11,23 @@ use std::alloc::{AllocError, Global};
 
 /// What lines are answered over, by the function that [`crate::serve_lines`] is lent. It answers a line
 /// of at most [`crate::LINE_LIMIT`] bytes, at the end of the replies, of which fewer than
-/// [`crate::REPLIES_LIMIT`] bytes wait, and says whether that changed what its reply acknowledges: such a
-/// reply is given before the next line is answered. A reply is the bytes that are written, its line feed
-/// among them, and none where a line has no reply. An `Err` changes nothing.
+/// [`crate::REPLIES_LIMIT`] bytes wait, and none where the line takes long. It says whether that changed
+/// what its reply acknowledges: such a reply is given before the next line is answered. A reply is the
+/// bytes that are written, its line feed among them, and none where a line has no reply. An `Err`
+/// changes nothing.
 pub trait LineHandler {
     /// From the first state the handler may answer this line, which stands without its line feed, with
     /// this reply, and be left in the second state. The flag says whether the line changed what its
     /// reply acknowledges.
     ghost answers: { Self → List ℕ → List ℕ → Bool → Self → Type 0 };
 
-    /// Whether the replies that wait are given before this line is answered, as they are to be where
-    /// the answer takes long. It is asked where replies wait, and of no longer line.
-    fn takes_long(&self, _line: &[u8]) -> bool {
-        false
-    }
+    /// The lines whose answers take long. Before such a line is answered the replies to the lines before
+    /// it are given to the sink, so that nobody waits for them so long.
+    ghost takes_time: { List ℕ → Type 0 };
+
+    /// Whether this line takes long. It is asked where replies wait, and of no longer line.
+    fn takes_long(&self, line: &[u8]) -> bool
+        ensures { IsTrue result ↔ takes_time line.now };
 
     /// Answers a longer line, whose bytes were not kept: with one reply, whichever they were. It
     /// changes nothing that a reply acknowledges.
@@ -49,7 +53,9 @@ fn answer_line<
 ) -> Result<bool, AllocError>
     requires within { n ≤ length window.now.bytes }
     requires few { vec_len out.old < 65536 }
-    requires takes { TakesLines (F.pre answer.now) }
+    requires none_waits { window.now.skips ≡ false → n ≤ LINE_LIMIT
+        → H.takes_time (take n window.now.bytes) → out.old.items ≡ [] }
+    requires takes { TakesLines H.takes_time (F.pre answer.now) }
     requires gives { GivesAnswers H.answers (F.post answer.now) }
     ensures ok { IfOk result (λ changes. (reply : List ℕ) × (out.new.items ≡ out.old.items ++ reply)
         × ((line : List ℕ) → IsTailOf line (take n window.now.bytes) window.now.skips →
@@ -76,7 +82,8 @@ pub(crate) fn answer_next<
     out: &mut Vec<u8>,
 ) -> Result<Option<bool>, AllocError>
     requires few { vec_len out.old < 65536 }
-    requires takes { TakesLines (F.pre answer.now) }
+    requires none_waits { NoneWaits H.takes_time window.old out.old.items }
+    requires takes { TakesLines H.takes_time (F.pre answer.now) }
     requires gives { GivesAnswers H.answers (F.post answer.now) }
     ensures answered { IfOk result (λ found. IfSome found (λ changes. (reply : List ℕ)
         × (out.new.items ≡ out.old.items ++ reply)
@@ -96,9 +103,11 @@ pub(crate) fn answer_next<
     Ok(Some(changes))
 }
 
-/// Whether the first pending line has ended, and the handler takes long over it.
+/// Whether the first pending line has ended, and the handler takes long over it. Of a line whose bytes
+/// are not kept, it doesn't.
 pub(crate) fn next_takes_long<H: LineHandler>(handler: &H, window: &mut Window) -> bool
     ensures same { window.new ≡ window.old }
+    ensures quick { OnFalse result ((n : ℕ) → IsLongFirst H.takes_time window.new n → ⊥) }
 {
     match window.find_line() {
         Some(n) if n <= LINE_LIMIT && !window.skips() => handler.takes_long(window.front(n)),
@@ -117,8 +126,8 @@ pub(crate) fn answer_last<
     window: &Window,
     out: &mut Vec<u8>,
 ) -> Result<(), AllocError>
-    requires few { vec_len out.old < 65536 }
-    requires takes { TakesLines (F.pre answer.now) }
+    requires empty { out.old.items ≡ [] }
+    requires takes { TakesLines H.takes_time (F.pre answer.now) }
     requires gives { GivesAnswers H.answers (F.post answer.now) }
     ensures ok { OnOk result ((reply : List ℕ) × (changes : Bool) × (out.new.items ≡ out.old.items ++ reply)
         × ((tail : List ℕ) → IsTail tail window.now →

@@ -77,7 +77,7 @@ fn answer_batch<
     out: &mut Vec<u8>,
 ) -> Result<bool, AllocError>
     requires empty { out.old.items ≡ [] }
-    requires takes { TakesLines (F.pre answer.now) }
+    requires takes { TakesLines H.takes_time (F.pre answer.now) }
     requires gives { GivesAnswers H.answers (F.post answer.now) }
     ensures batch { Advances (AnswersAtMostOne H.answers) handler.old window.old out.new.items handler.new window.new }
     ensures fewer { IfOk result (λ more. OnTrue more (length window.new.bytes < length window.old.bytes)) }
@@ -112,7 +112,7 @@ fn answer_pending<
     out: &mut Vec<u8>,
 ) -> Result<(), SinkStop>
     requires empty { out.old.items ≡ [] }
-    requires takes { TakesLines (F.pre answer.now) }
+    requires takes { TakesLines H.takes_time (F.pre answer.now) }
     requires gives { GivesAnswers H.answers (F.post answer.now) }
     ensures ok { OnOk result ((replies : List ℕ)
         × Appends (K.taken sink.old) (K.taken sink.new) replies
@@ -148,7 +148,7 @@ fn finish<
     out: &mut Vec<u8>,
 ) -> Result<(), SinkStop>
     requires empty { out.old.items ≡ [] }
-    requires takes { TakesLines (F.pre answer.now) }
+    requires takes { TakesLines H.takes_time (F.pre answer.now) }
     requires gives { GivesAnswers H.answers (F.post answer.now) }
     ensures ok { OnOk result ((reply : List ℕ) × (changes : Bool)
         × Appends (K.taken sink.old) (K.taken sink.new) reply
@@ -185,7 +185,7 @@ pub fn serve_lines<
     S: Source,
     K: Sink,
 >(alloc: Global, handler: &mut H, answer: &F, source: &mut S, sink: &mut K) -> SessionEnd
-    requires takes { TakesLines (F.pre answer.now) }
+    requires takes { TakesLines H.takes_time (F.pre answer.now) }
     requires gives { GivesAnswers H.answers (F.post answer.now) }
     // What the source gave and what the sink took, where they are known.
     ensures session { (given : List ℕ) × (written : List ℕ)

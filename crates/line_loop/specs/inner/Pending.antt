@@ -33,3 +33,14 @@ IsTail tail pending = IsTailOf tail pending.bytes pending.skips
 abbrev pub IsShortened : Pending → Pending → Type 0
 IsShortened old new = ((new.skips ≡ true) × (new.bytes ≡ []) × ((old.skips ≡ true) ⊎ (LINE_LIMIT < length old.bytes)))
     ⊎ ((new ≡ old) × (old.skips ≡ false) × (length old.bytes ≤ LINE_LIMIT))
+
+-- The first line ended, at n, is kept whole, and takes long.
+pub record IsLongFirst (long : List ℕ → Type 0) (pending : Pending) (n : ℕ) : Type 0 where
+  pub ends : EndsLine pending.bytes n
+  pub whole : pending.skips ≡ false
+  pub kept : n ≤ LINE_LIMIT
+  pub takes_long : long (take n pending.bytes)
+
+-- no reply waits before such a line
+abbrev pub NoneWaits : (List ℕ → Type 0) → Pending → List ℕ → Type 0
+NoneWaits long pending waiting = (n : ℕ) → IsLongFirst long pending n → waiting ≡ []

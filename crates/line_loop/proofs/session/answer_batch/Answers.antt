@@ -1,7 +1,9 @@
 use Rattle.std.proofs.Common.{Bool, List, ℕ, length, ap, sym, subst, arith}
+use Rattle.std.proofs.lemmas.Bool.{OnFalse_at}
 use Rattle.line_loop.specs.inner.Pending.{Pending}
 use Rattle.line_loop.specs.Replies.{AnswersAtMostOne}
 use Rattle.line_loop.specs.inner.Progress.{AnswersOne, AnswersQuietly, Advances}
+use Rattle.line_loop.proofs.Waiting.{may_wait}
 use Rattle.line_loop.proofs.Steps.{quiet_start, quiet_line, quiet_end, last_line}
 use Rattle.line_loop.proofs.session.answer_batch.Goals as goal
 
@@ -10,6 +12,7 @@ lines-init g c = record {
   quiet = quiet_start g.H.LineHandler.answers c.args.handler.now c.args.window.now c.args.out.now.items c.requires.empty;
   no_longer = omega arith;
   few = omega (arith, ap (λ (xs : List ℕ). length xs) c.requires.empty, c.args.out.now.ok.0);
+  none_waits = λ n first. c.requires.empty;
 }
 
 pub returns-in_err-answer_next-clause-batch : goal.returns-in_err-answer_next-clause-batch
@@ -50,4 +53,5 @@ lines-preserved g c =
           (subst (λ (b : Bool). Advances (AnswersOne g.H.LineHandler.answers b) c.lines.handler c.lines.window a.0 c.answer_next.new.handler c.answer_next.new.window) c.if-changes.false a.2));
       no_longer = omega (arith, fewer, c.lines.invariant.no_longer, ap (λ (w : Pending). length w.bytes) c.next_takes_long.ensures.same);
       few = omega (arith, c.len.ensures, c.if-len-ge-REPLIES_LIMIT.false);
+      none_waits = may_wait g.H.LineHandler.takes_time c.next_takes_long.new.window c.answer_next.new.out.items (OnFalse_at c.if-next_takes_long.false c.next_takes_long.ensures.quick);
     }
