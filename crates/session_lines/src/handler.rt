@@ -4,6 +4,7 @@ ghost use Rattle.session_lines.specs.Texts.{serial_text, IsListText, IsShowText,
 ghost use Rattle.session_lines.specs.Replies.{IsRead, IsToldOr, IsCommandText, IsPublicationText, IsAwaitText, IsSaidText, IsText, IsReply};
 ghost use Rattle.session_lines.specs.Sessions.{state_of};
 ghost use Rattle.session_lines.specs.Keeping.{nothing_kept};
+ghost use Rattle.session_lines.specs.LongLines.{IsLong};
 
 use crate::kept::Kept;
 use crate::long_lines::takes_long;
@@ -274,7 +275,8 @@ impl<N: Names, D: Disk, O: Outlet, C: Clock> Handler<N, D, O, C> {
     }
 
     /// Answers a line at the end of `out`, and says whether that changed anything. An `Err` changes nothing. A
-    /// publication starts threads by that handle; and where a lock is held by another session, it is waited for.
+    /// publication starts threads by that handle; and where a lock is held by another session, it is waited for. So
+    /// a line that is said to take long is to be given where no other reply waits.
     pub fn answer<S: Signer + Send, R: Threads + Wait + Sync>(
         &mut self,
         rt: &R,
@@ -283,6 +285,7 @@ impl<N: Names, D: Disk, O: Outlet, C: Clock> Handler<N, D, O, C> {
         line: &[u8],
         out: &mut Vec<u8>,
     ) -> Result<bool, AllocError>
+        requires none_waits { IsLong line.now → out.old.items ≡ [] }
         ensures ok { IfOk result (λ changed. (reply : List ℕ)
             × IsReply O D.Disk (length N.named.signers) (state_of C.Clock self.old) line.now reply changed (state_of C.Clock self.new)
             × (out.new.items ≡ out.old.items ++ reply)) }
@@ -316,16 +319,16 @@ fn fault_changes_editions<D: Disk, O: Outlet>(fault: &PublishFault<D, O>) -> boo
 }
 
 impl<N: Names, D: Disk, O: Outlet, C: Clock> LineHandler for Handler<N, D, O, C> {
-    ghost use Rattle.std.specs.Prelude.{◌↔◌, IsTrue, length};
+    ghost use Rattle.std.specs.Prelude.{length};
     ghost use Rattle.session_lines.specs.LongLines.{IsLong};
     ghost use Rattle.session_lines.specs.Replies.{IsReply};
     ghost use Rattle.session_lines.specs.Sessions.{state_of};
 
     ghost answers = { λ old line reply changed new. IsReply O D.Disk (length N.named.signers) (state_of C.Clock old) line reply changed (state_of C.Clock new) };
 
-    fn takes_long(&self, line: &[u8]) -> bool
-        ensures { IsTrue result ↔ IsLong line.now }
-    {
+    ghost takes_time = { IsLong };
+
+    fn takes_long(&self, line: &[u8]) -> bool {
         takes_long(line)
     }
 

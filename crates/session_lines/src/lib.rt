@@ -14,6 +14,7 @@ mod serving;
 pub use handler::Handler;
 pub use kept::Kept;
 pub use laws::sessions_make_what_is_accepted;
+pub use long_lines::takes_long_alone;
 pub use running::{ServedStore, SessionEnds, SessionOutcome, serve_store};
 pub use serving::{ServedSession, Session, SessionParts, serve_all};
 

@@ -1,6 +1,7 @@
 //! Sessions: each one's lines answered over its pass, in a thread of its own.
-ghost use Rattle.std.specs.Prelude.{◌≡◌, ◌≤◌, ◌<◌, ℕ, List, ◌++◌, length, IfOk, OnErr, slice_index_or};
+ghost use Rattle.std.specs.Prelude.{◌≡◌, ◌≤◌, ◌<◌, ℕ, List, [], ◌++◌, length, IfOk, OnErr, slice_index_or};
 ghost use Rattle.host_calls.specs.Rise.{HasRisen};
+ghost use Rattle.session_lines.specs.LongLines.{IsLong};
 ghost use Rattle.session_lines.specs.Replies.{IsReply};
 ghost use Rattle.session_lines.specs.Sessions.{state_of, Converses, IsServed};
 
@@ -20,7 +21,8 @@ pub struct Session;
 impl Session {
     /// Answers the session's lines, each once and in order, until the session ends.
     ///
-    /// Before it waits for more input it has given the replies to all lines that have come.
+    /// Before it waits for more input it has given the replies to all lines that have come, and before it answers a
+    /// line that takes long, those to the lines before that.
     pub fn serve<
         N: Names,
         D: Disk,
@@ -50,6 +52,7 @@ impl Session {
         let answer = |handler: &mut Handler<N, D, O, C>, alloc: Global, line: &[u8], out: &mut Vec<
             u8,
         >| -> Result<bool, AllocError>
+            requires none_waits { IsLong line.now → out.old.items ≡ [] }
             ensures ok { IfOk result (λ changed. (reply : List ℕ)
                 × IsReply O D.Disk (length N.named.signers) (state_of C.Clock handler.old) line.now reply changed (state_of C.Clock handler.new)
                 × (out.new.items ≡ out.old.items ++ reply)) }

@@ -15,7 +15,10 @@ use std::io::Cursor;
 struct Echo;
 
 impl LineHandler for Echo {
+    ghost use Rattle.std.specs.Prelude.{◌≡◌, Some, List, slice_get};
     ghost use Rattle.line_loop.specs.declared.TheConstants.{LINE_LIMIT};
+
+    ghost takes_time = { λ line. slice_get line 0 ≡ Some 119 };
 
     ghost answers = { λ old line reply changes new. ((length line ≤ LINE_LIMIT) × (reply ≡ line ++ 10 ∷ []))
         ⊎ ((LINE_LIMIT < length line) × (reply ≡ 33 ∷ 10 ∷ [])) };
