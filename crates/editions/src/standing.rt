@@ -1,12 +1,13 @@
 //! What stands after an edition: the set of its objects, and the table of what they say.
 
-ghost use Rattle.std.specs.Prelude.{◌≡◌, refl, IfOk};
+ghost use Rattle.std.specs.Prelude.{◌≡◌, ◌++◌, refl, IfOk, OnOk};
 ghost use Rattle.pub_set.specs.Objects.{Rise, IsAscending};
 ghost use Rattle.pub_set.specs.Changes.{uri_of, IsApplied};
 ghost use Rattle.editions.specs.Joining.{IsJoined};
-ghost use Rattle.editions.specs.Standing.{object_after, next_uri, coming_row, next_row, IsTableAfter};
+ghost use Rattle.editions.specs.Standing.{object_after, next_uri, coming_row, IsTableAfter};
 ghost use Rattle.editions.specs.laws.StandingLaws as laws;
 
+use crate::in_place::changed_table;
 use crate::joining::{AtUri, Joins, join_all};
 use key_roll::{IssuedRow, What};
 use pub_set::{Change, Object, ObjectSet, Uri};
@@ -104,28 +105,6 @@ impl Joins<IssuedRow, Change> for NextRow {
     ghost stays = { laws.coming_stays };
 }
 
-// A row goes on where nothing comes.
-impl Joins<IssuedRow, NextRow> for IssuedRow {
-    ghost joined = { next_row };
-
-    fn join(
-        alloc: Global,
-        stands: Option<&IssuedRow>,
-        comes: Option<&NextRow>,
-    ) -> Result<Option<IssuedRow>, AllocError> {
-        match (stands, comes) {
-            (_, Some(NextRow::Issued { row })) | (Some(row), None) => {
-                Ok(Some(copy_row(alloc, row)?))
-            }
-            (_, Some(NextRow::Gone { .. })) | (None, None) => Ok(None),
-        }
-    }
-
-    ghost nothing = { refl };
-
-    ghost stays = { laws.next_stays };
-}
-
 // What the object says, once more.
 fn copy_what(alloc: Global, what: &What) -> Result<What, AllocError>
     ensures { IfOk result (λ copy. copy ≡ what.now) }
@@ -191,8 +170,31 @@ pub(crate) fn coming_rows(
     join_all::<IssuedRow, Change, NextRow>(alloc, issued, changes)
 }
 
-/// The table of what stands after the changes, of which these rows tell what was issued. Linear in all three; a row
-/// that stays is copied once.
+// Puts the same rows behind the others.
+fn push_row_copies(
+    alloc: Global,
+    all: &mut Vec<IssuedRow>,
+    rows: &[IssuedRow],
+) -> Result<(), AllocError>
+    ensures { OnOk result (all.new.items ≡ all.old.items ++ rows.now) }
+{
+    for row in rows {
+        all.push(copy_row(alloc, row)?)?;
+    }
+    Ok(())
+}
+
+// The same rows once more.
+fn copied_rows(alloc: Global, rows: &[IssuedRow]) -> Result<Vec<IssuedRow>, AllocError>
+    ensures { IfOk result (λ copies. copies.items ≡ rows.now) }
+{
+    let mut copies = Vec::with_capacity(alloc, rows.len())?;
+    push_row_copies(alloc, &mut copies, rows)?;
+    Ok(copies)
+}
+
+/// The table of what stands after the changes, of which these rows tell what was issued. Linear in all three; a row that
+/// stands and one that was issued are copied once.
 pub fn next_table(
     alloc: Global,
     old: &[IssuedRow],
@@ -204,7 +206,6 @@ pub fn next_table(
     requires issued { Rise (λ row. row.uri) issued.now }
     ensures { IfOk result (λ rows. IsTableAfter old.now changes.now issued.now rows.items) }
 {
-    let coming = coming_rows(alloc, changes, issued)?;
-    let rows = join_all::<IssuedRow, NextRow, IssuedRow>(alloc, old, &coming)?;
-    Ok(rows)
+    let rows = copied_rows(alloc, old)?;
+    changed_table(alloc, rows, changes, issued)
 }

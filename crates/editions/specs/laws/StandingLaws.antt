@@ -6,9 +6,7 @@ use Rattle.pub_set.specs.declared.steps.Change.{Change}
 use Rattle.pub_set.specs.declared.steps.Change.TheVariants.{Put, Withdraw}
 use Rattle.pub_set.specs.Changes.{uri_of}
 use Rattle.editions.specs.Joining.{IsAt}
-use Rattle.editions.specs.declared.standing.NextRow.{NextRow}
-use Rattle.editions.specs.declared.standing.NextRow.TheVariants.{Issued, Gone}
-use Rattle.editions.specs.Standing.{object_after, next_uri, coming_row, next_row}
+use Rattle.editions.specs.Standing.{object_after, next_uri, coming_row}
 
 pub object_stays : (stands : Option Object) (comes : Option Change) (uri : List ℕ)
     → IsAt (λ object. object.uri) uri stands → IsAt uri_of uri comes
@@ -23,10 +21,3 @@ pub coming_stays : (stands : Option IssuedRow) (comes : Option Change) (uri : Li
 coming_stays (Some issued) change uri there comes = there
 coming_stays None None uri there comes = tt
 coming_stays None (Some change) uri there comes = comes
-
-pub next_stays : (stands : Option IssuedRow) (comes : Option NextRow) (uri : List ℕ)
-    → IsAt (λ row. row.uri) uri stands → IsAt next_uri uri comes
-    → IsAt (λ row. row.uri) uri (next_row stands comes)
-next_stays row None uri there comes = there
-next_stays row (Some (Issued issued)) uri there comes = comes
-next_stays row (Some (Gone at)) uri there comes = tt
