@@ -59,6 +59,7 @@ module _ {D O : Type 0} (law : RecordsLaw) (outlet_of : OutletGhosts O) (named :
   pub closed : (disk_of : DiskGhosts D) → IsSafe disk_of locked.press.journal → IsClosed disk_of outlet_of named locked
   closed disk_of safe = record {
     is = is;
+    known = safe.known;
     bytes = both (disk_of.content locked.press.journal.disk) _ (FindsAll outlet_of named locked is) (IsSome locked.press.journal.records) safe.known safe.bytes
         (λ some file recovers. finds_here file some recovers);
     images = λ image may. one (disk_of.content locked.press.journal.disk) (FindsAll outlet_of named locked is image) (IsSome locked.press.journal.records) safe.known

@@ -1,5 +1,5 @@
 -- What the press's disk holds once no other thread has the press.
-use Rattle.std.specs.Prelude.{ℕ, List, Option, None, Some, IfSome}
+use Rattle.std.specs.Prelude.{ℕ, List, Option, None, Some, IfSome, IsSome}
 use Rattle.disk_api.specs.declared.disk.Disk.{Ghosts as DiskGhosts}
 use Rattle.outlet_api.specs.declared.outlet.Outlet.{Ghosts as OutletGhosts}
 use Rattle.authority_book.specs.declared.commands.Command.{Command}
@@ -43,11 +43,14 @@ abbrev pub FindsAll : {D O : Type 0} (outlet_of : OutletGhosts O) (named : Named
 FindsAll outlet_of named locked is file =
     (editions : List Edition) → FindsBehind outlet_of named locked is file editions
 
--- So of what the disk holds and of what a crash may leave there, where the disk tells. No edition that is
--- found takes in a command that isn't among those which the followers have seen.
+-- So of what the disk holds and of what a crash may leave there, where the disk tells; and there the
+-- press's journal knows its records. No edition that is found takes in a command that isn't among those
+-- which the followers have seen.
 pub record IsClosed {D O : Type 0} (disk_of : DiskGhosts D) (outlet_of : OutletGhosts O)
     (named : Named) (locked : LockedValue D O) : Type 0 where
   pub is : IsLocked outlet_of named locked
+  pub known : IfSome (disk_of.content locked.press.journal.disk)
+      (λ _. IsSome locked.press.journal.records)
   pub bytes : IfSome (disk_of.content locked.press.journal.disk)
       (FindsAll outlet_of named locked is)
   pub images : (image : List ℕ) → disk_of.may_leave locked.press.journal.disk image
