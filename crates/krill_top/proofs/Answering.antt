@@ -18,7 +18,7 @@ use Rattle.krill_top.specs.declared.command_fault.CommandFault.TheVariants as fa
 use Rattle.krill_top.specs.DeskStates.{DeskStates, DeskState, desk_named}
 use Rattle.line_loop.specs.Readings.{IsReading}
 use Rattle.krill_top.specs.InstanceState.{InstanceState, TimedInstanceState, at_clock}
-use Rattle.krill_top.specs.Keeps.{keeps_of_command, keeps_of_publication}
+use Rattle.krill_top.specs.Keeps.{keeps_of_command_outcome, keeps_of_publication_outcome}
 use Rattle.krill_top.specs.Outcomes.{Outcome, CommandedAt, fault_outcome}
 use Rattle.krill_top.specs.Outcomes.Outcome.{Accepted, Verdict}
 use Rattle.krill_top.specs.Publishing.{Outcome as Publication, ComesTo, has_changed}
@@ -71,7 +71,7 @@ module _ {D O : Type 0} (disk_of : DiskGhosts D) (outlet_of : OutletGhosts O) wh
 
   module _ (name : List ℕ) (command : Command) (text : List ℕ) (old new : TimedInstance D O) (same_clock : new.clock ≡ old.clock) where
     -- it comes to an outcome, and gets that text
-    told_outcome : (outcome : Outcome) (changed : Bool) → new.kept ≡ keeps_of_command outcome old.kept → text ≡ outcome_text name outcome → changed ≡ is_change outcome
+    told_outcome : (outcome : Outcome) (changed : Bool) → new.kept ≡ keeps_of_command_outcome outcome old.kept → text ≡ outcome_text name outcome → changed ≡ is_change outcome
         → Moves disk_of outlet_of (λ b a. CommandedIn name command outcome b a) old.instance new.instance
         → MovesTimed disk_of outlet_of (λ b a. IsToldOr (CommandText name command) b text changed a) old new
     told_outcome outcome changed keeps is so moves =
@@ -92,7 +92,7 @@ module _ {D O : Type 0} (disk_of : DiskGhosts D) (outlet_of : OutletGhosts O) wh
         same_timed : (before after : InstanceState) → after ≡ before → at_clock new.clock new.kept after ≡ at_clock old.clock old.kept before
         same_timed before after same = λ i. record { state = same i; clock = same_clock i; kept = same_kept i }
 
-    pub fault_text : (fault : CommandFault D) (changed wanting : Bool) → new.kept ≡ keeps_of_command (fault_outcome fault) old.kept → IsFaultText name fault text wanting → changed ≡ is_change (fault_outcome fault)
+    pub fault_text : (fault : CommandFault D) (changed wanting : Bool) → new.kept ≡ keeps_of_command_outcome (fault_outcome fault) old.kept → IsFaultText name fault text wanting → changed ≡ is_change (fault_outcome fault)
         → Moves disk_of outlet_of (λ b a. CommandedIn name command (fault_outcome fault) b a) old.instance new.instance
         → MovesTimed disk_of outlet_of (λ b a. IsToldOr (CommandText name command) b text changed a) old new
     fault_text faults.NoSuchAuthority changed wanting keeps is so moves = told_outcome (fault_outcome {D = D} faults.NoSuchAuthority) changed keeps is.0 so moves
@@ -108,7 +108,7 @@ module _ {D O : Type 0} (disk_of : DiskGhosts D) (outlet_of : OutletGhosts O) wh
   -- ---- a publication
 
   pub publish_told : (clock : ℕ) (outcome : Publication) (text : List ℕ) (changed : Bool) (old new : TimedInstance D O) → IsReading old.clock clock new.clock
-      → new.kept ≡ keeps_of_publication outcome old.kept → text ≡ publish_text outcome → changed ≡ has_changed outcome → Moves disk_of outlet_of (λ b a. ComesTo clock outcome b a) old.instance new.instance
+      → new.kept ≡ keeps_of_publication_outcome outcome old.kept → text ≡ publish_text outcome → changed ≡ has_changed outcome → Moves disk_of outlet_of (λ b a. ComesTo clock outcome b a) old.instance new.instance
       → MovesTimed disk_of outlet_of (λ b a. PublishText b text changed a) old new
   publish_told clock outcome text changed old new read keeps is so moves =
       moves_at disk_of outlet_of (λ b a. ComesTo clock outcome b a) (λ b a. PublishText b text changed a) old new moves

@@ -29,15 +29,9 @@ use Rattle.krill_top.specs.InstanceState.{InstanceState, lists_of, store_in}
 use Rattle.krill_top.specs.PressDisk.{Holds, IsPressServed}
 use Rattle.krill_top.specs.Run.{IsKeptAt, IsServedAt, AreKept, AreServed}
 use Rattle.krill_top.specs.RunDisks.{RecoveredTo}
+use Rattle.krill_top.specs.inner.RunLaws.{RunLaws}
 use Rattle.krill_top.proofs.Lists.{list_at}
 use Rattle.krill_top.proofs.Told.{commands_are, editions_are}
-
--- ---- laws
-
--- Records tell one list of commands; and one store and list of editions.
-pub record CrashLaws : Type 0 where
-  pub commands : (number : ℕ) (records : List (List ℕ)) (one other : List Command) → Records number records one → Records number records other → one ≡ other
-  pub editions : (store other : Store) (editions more : List Edition) (records : List (List ℕ)) → AreRecords store editions records → AreRecords other more records → (store ≡ other) × (editions ≡ more)
 
 -- ---- one disk
 
@@ -148,7 +142,7 @@ kept_served disk_of number (Some old) (Some new) (Some was) None served = absurd
 pub all_kept : {D : Type 0} (disk_of : DiskGhosts D) (olds news : List D) (begun ended : DeskStates) → AreServed disk_of olds news begun ended → AreKept disk_of olds news begun ended
 all_kept disk_of olds news begun ended served = λ n. kept_served disk_of n (slice_get olds n) (slice_get news n) (slice_get begun n) (slice_get ended n) (served n)
 
-module _ (laws : CrashLaws) {D : Type 0} (disk_of : DiskGhosts D) (olds news : List D) (session : List ℕ) (old new : D) (begun ended : InstanceState)
+module _ (laws : RunLaws) {D : Type 0} (disk_of : DiskGhosts D) (olds news : List D) (session : List ℕ) (old new : D) (begun ended : InstanceState)
     (desks : AreKept disk_of olds news begun.desk_states ended.desk_states) (press : IsPressServed disk_of session old new begun ended) (many : length ended.desk_states ≡ most_desks)
     (images : ℕ → List ℕ) (image : List ℕ) (left : MayBeLeft disk_of news new images image) where
   found_at : (number : ℕ) (was : Option DeskState) (is : Option DeskState) (before after : Option D) → IsKeptAt disk_of number before after was is → (state : DeskState) → is ≡ Some state

@@ -21,7 +21,8 @@ use Rattle.press_core.specs.Exports.{export_of, ended_by, IsCoherent, ShowsFiles
 use Rattle.press_core.specs.declared.last_export.LastExport.{LastExport}
 use Rattle.press_core.specs.declared.last_export.LastExport.TheVariants.{NoExport, Failed, Done}
 use Rattle.krill_top.specs.InstanceState.{InstanceState, OutletState, outlet_state, lists_of, last_serial, is_of, is_exported, repository_in, IsCoherentIn, ShowsLastIn}
-use Rattle.krill_top.specs.Exports.{Exports, ExportsOrStops, IsStopped, stopped_of}
+use Rattle.krill_top.specs.Exports.{Exports, ExportsOrStops, IsStoppedBetween, stopped_of}
+use Rattle.krill_top.specs.inner.RunLaws.{NewestLaw}
 use Rattle.krill_top.specs.inner.Instances.{InstanceValue, IsInState, Arrives, Moves, stored_in}
 use Rattle.manager.specs.Pressing.{exported_as}
 use Rattle.manager.specs.Ready.{ShowsItsLast}
@@ -34,10 +35,6 @@ use Rattle.krill_top.proofs.Vouching.{keeps_same}
 abbrev pub FilesLaw : Type 0
 FilesLaw = (session : List ℕ) (site : Bases) (editions : List Edition) (last : LastExport) (files : Option Files)
     → ShowsLast (ShowsEdition session site) editions last files → ShowsLast (ShowsFiles (repository_at session site)) editions last files
-
-abbrev pub NewestLaw : Type 0
-NewestLaw = (session : List ℕ) (site : Bases) (editions : List Edition) (files : Files)
-    → ShowsLast (ShowsEdition session site) editions (Done (length editions)) (Some files) → ShowsEdition session site editions files
 
 shows_newest : (session : List ℕ) (site : Bases) (editions : List Edition) (serial : ℕ) (files : Option Files) → serial ≡ length editions → IfSome files (ShowsEdition session site editions)
     → ShowsLast (ShowsEdition session site) editions (Done serial) files
@@ -74,7 +71,7 @@ pub record IsExportOf {T O : Type 0} (result : Result T (ExportFault O)) (press 
   pub counts : was.faults ≤ is.faults
   pub cause : IfErr result (IsCauseOf was.faults is.faults)
 
-cause_of : {O : Type 0} (fault : ExportFault O) (was is : ℕ) → IsCauseOf was is fault → IsStopped was is (stopped_of fault)
+cause_of : {O : Type 0} (fault : ExportFault O) (was is : ℕ) → IsCauseOf was is fault → IsStoppedBetween was is (stopped_of fault)
 cause_of (OutletFault rose) was is cause = cause
 cause_of Memory was is cause = tt
 
@@ -142,6 +139,7 @@ module _ {D O : Type 0} (disk_of : DiskGhosts D) (outlet_of : OutletGhosts O) wh
           site = stands.site;
           session = stands.session;
           journal = record { limit = stands.journal.limit; records = stands.journal.records; are = stands.journal.are; shut = stands.journal.shut; doubt = stands.journal.doubt; room = stands.journal.room; bytes = stands.journal.bytes };
+          cuts = record { made = stands.cuts.made; grows = stands.cuts.grows; within = stands.cuts.within };
           exported = refl;
           outlet = refl;
           shows = shows;
@@ -183,7 +181,7 @@ module _ {D O : Type 0} (disk_of : DiskGhosts D) (outlet_of : OutletGhosts O) wh
       arrived files_law old before stands (Err fault) new is (ExportsOrStops {T = T} {O = O} (Err fault))
       (record {
         exports = exports files_law old before stands (Err fault) new is;
-        cause = subst (λ (o : OutletState). IsStopped o.faults outlet.faults (stopped_of fault)) stands.outlet (cause_of fault was.faults outlet.faults is.cause);
+        cause = subst (λ (o : OutletState). IsStoppedBetween o.faults outlet.faults (stopped_of fault)) stands.outlet (cause_of fault was.faults outlet.faults is.cause);
         ended = refl;
       })
       tt

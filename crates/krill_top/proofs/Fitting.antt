@@ -18,7 +18,6 @@ use Rattle.pub_set.specs.declared.steps.Change.TheVariants.{Put, Withdraw}
 use Rattle.editions.specs.Edition.{Edition}
 use Rattle.editions.specs.PlannedAndMade.{CanBeRead}
 use Rattle.editions.specs.PublishedState.{PublishedStateValue}
-use Rattle.press_records.specs.Store.{Store}
 use Rattle.press_core.specs.Follows.{edition_of}
 use Rattle.press_core.specs.JournalRecords.{AreRecords, IsRecordOf, press_limit, store_for}
 use Rattle.press_core.specs.Next.{NextValue}
@@ -28,19 +27,7 @@ use Rattle.press_core.specs.Stands.{IsLeftBy}
 use Rattle.histories.specs.Legal.{IsOfBytes, press_bytes_for}
 use Rattle.krill_top.specs.Histories.{HasRoomFor, and_doubt}
 use Rattle.krill_top.specs.inner.Room.{IsEditionOfBytes}
-
--- ---- laws
-
--- one record more is that of one edition more
-abbrev pub RecordsLaw : Type 0
-RecordsLaw = (lists : List (List Command)) (before : List Edition) (at : PublishedStateValue) (prepared : NextValue)
-    (store : Store) (records : List (List ℕ)) (entry : List ℕ)
-    → IsLeftBy lists before at → AreRecords store before records → IsRecordOf at prepared entry
-    → AreRecords store (before ++ edition_of prepared ∷ []) (records ++ entry ∷ [])
-
-abbrev pub TakesLaw : Type 0
-TakesLaw = (session : List ℕ) (site : Bases) (editions : List Edition) (records : List (List ℕ)) → AreRecords (store_for session site) editions records
-    → held_by records ≡ press_bytes_for site editions
+use Rattle.krill_top.specs.inner.RunLaws.{RecordsLaw, TakesLaw}
 
 -- ---- one record more
 

@@ -22,16 +22,14 @@ use Rattle.krill_top.specs.DesksInStates.{IsIn, InAt}
 use Rattle.krill_top.specs.InstanceState.{lists_of}
 use Rattle.krill_top.specs.Run.{IsKept, IsKeptAt}
 use Rattle.krill_top.specs.inner.Opened.{IsClosed}
+use Rattle.krill_top.specs.inner.RunLaws.{CommandsLaw}
 use Rattle.krill_top.proofs.OutOfLocks.{HasCounted, HasCountedAt}
 use Rattle.krill_top.proofs.Lists.{accepted_front}
 use Rattle.krill_top.proofs.InTurn.{opened_stood_for, closed_left}
 use Rattle.krill_top.proofs.Served.{OpenedAs, OpenedAt, ClosedAt}
 
-abbrev pub OneList : Type 0
-OneList = (number : ℕ) (records : List (List ℕ)) (one other : List Command) → Records number records one → Records number records other → one ≡ other
-
 -- records that begin with others are those of commands that begin with theirs
-pub begins : OneList → (number : ℕ) (old new : List Command) (was is : List (List ℕ)) → Records number was old → Records number is new → IsPrefix was is → BeginsWith old new
+pub begins : CommandsLaw → (number : ℕ) (old new : List Command) (was is : List (List ℕ)) → Records number was old → Records number is new → IsPrefix was is → BeginsWith old new
 begins law number old new was is first second prefix =
     let n = length old in
     let long : n ≡ length (map spelling old) = sym (length-map old spelling) in
@@ -99,7 +97,7 @@ module _ {D : Type 0} (disk_of : DiskGhosts D) where
       kept_one number disk desk new back was is opened goes counted stands closed
 
 -- a desk that came out has the records with which it went in in front
-pub begins_at : {D : Type 0} → OneList → (number : ℕ) (desk new : Option (View D)) (was is : Option DeskState) → InAt number desk was → InAt number new is
+pub begins_at : {D : Type 0} → CommandsLaw → (number : ℕ) (desk new : Option (View D)) (was is : Option DeskState) → InAt number desk was → InAt number new is
     → ((d n : View D) → desk ≡ Some d → new ≡ Some n → IsPrefix d.records n.records) → BeginsAt was is
 begins_at law number desk new None is first second front = tt
 begins_at law number desk new (Some was) None first second front = tt
@@ -114,7 +112,7 @@ abbrev pub seen_of : FollowerSeat → List (List ℕ)
 seen_of seat = seat.seen
 
 -- the followers have seen the front of each desk's list
-pub more_lists : {D : Type 0} → OneList → (signers number : ℕ) (lists : List (List Command)) (seats : List FollowerSeat) (desks : List (View D)) (states : DeskStates) → length lists ≡ length states
+pub more_lists : {D : Type 0} → CommandsLaw → (signers number : ℕ) (lists : List (List Command)) (seats : List FollowerSeat) (desks : List (View D)) (states : DeskStates) → length lists ≡ length states
     → AreListsOf signers number lists (map seen_of seats) → ((k : ℕ) (desk : View D) → slice_get desks k ≡ Some desk → IsPrefix (seat_at seats k).seen desk.records)
     → ((k : ℕ) → InAt (number + k) (slice_get desks k) (slice_get states k)) → AreMore lists (lists_of states)
 more_lists law signers number [] seats desks [] long are front stands = tt
@@ -132,7 +130,7 @@ more_lists {D} law signers number (list ∷ lists) (seat ∷ seats) (desk ∷ de
     )
 
 -- the commands of the records that were found are those with which the run began
-pub same_found : {D : Type 0} → OneList → (signers number : ℕ) (found : List (List Command)) (opened : List (CountedView D)) (states : DeskStates) → AreListsOf signers number found (map records_in opened)
+pub same_found : {D : Type 0} → CommandsLaw → (signers number : ℕ) (found : List (List Command)) (opened : List (CountedView D)) (states : DeskStates) → AreListsOf signers number found (map records_in opened)
     → ((k : ℕ) → InAt (number + k) (slice_get (map desk_in opened) k) (slice_get states k)) → found ≡ lists_of states
 same_found law signers number [] [] [] are stands = refl
 same_found law signers number [] [] (state ∷ states) are stands = absurd (stands 0)

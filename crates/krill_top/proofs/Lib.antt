@@ -6,6 +6,7 @@ pub mod PressStanding
 pub mod Moving
 pub mod Commanding
 pub mod Lists
+pub mod Cuts
 pub mod Since
 pub mod Named
 pub mod Pressed
@@ -33,6 +34,7 @@ pub mod Told
 pub mod Crashes
 pub mod Room
 pub mod RoomServed
+pub mod Unchanged
 pub mod ServedMany
 pub mod Doings
 pub mod PressOpening

@@ -1,8 +1,8 @@
 -- The lists of the desks' commands, in their places.
-use Rattle.std.proofs.Common.{◌≡◌, ℕ, zero, suc, ◌+◌, ◌<◌, List, [], ◌∷◌, ◌++◌, length, take, drop, get_or, refl, sym, ◌∙◌, ap, subst, arith}
+use Rattle.std.proofs.Common.{◌≡◌, ℕ, zero, suc, ◌+◌, ◌<◌, ◌≤◌, List, [], ◌∷◌, ◌++◌, length, take, drop, get_or, refl, sym, ◌∙◌, ap, subst, arith}
 use Rattle.std.specs.Prelude.{⊤, Option, None, Some, slice_get}
 use Rattle.std.proofs.lemmas.Option.{none-some, same_Some}
-use Rattle.std.proofs.lemmas.List.{take_all}
+use Rattle.std.proofs.lemmas.List.{length-append, take_all}
 use Rattle.authority_book.specs.declared.commands.Command.{Command}
 use Rattle.authority_book.specs.Settings.{Settings}
 use Rattle.authority_book.specs.Fold.{fold_of, after, after_all, AcceptedInTurn}
@@ -16,6 +16,10 @@ use Rattle.krill_top.specs.DesksInStates.{InAt, AreIn, DeskGoesOnAt, DesksGoOn}
 use Rattle.krill_top.specs.Publishing.{TakesAll}
 
 -- ---- one list after another
+
+-- the first of one element, and nothing behind it
+pub only_one : {A : Type 0} (x y : A) (rest : List A) → y ∷ [] ≡ x ∷ rest → (x ≡ y) × (rest ≡ [])
+only_one x y rest e = (cc, cc)
 
 -- Both have something at a place, or neither has.
 abbrev Both : {A B : Type 0} → Option A → Option B → Type 0
@@ -94,6 +98,15 @@ are_more (was ∷ before) (is ∷ after) each = (each 0, are_more before after (
 pub lists_grow : {D : Type 0} (disk_of : DiskGhosts D) (old new : List (View D)) (before after : DeskStates) → DesksGoOn disk_of old new before after → AreMore (lists_of before) (lists_of after)
 lists_grow disk_of old new before after goes =
     are_more before after (λ k. each_grows disk_of (slice_get old k) (slice_get new k) (slice_get before k) (slice_get after k) (goes k))
+
+pub more_long : (less more : List (List Command)) → AreMore less more → (desk : ℕ) → length (get_or less desk []) ≤ length (get_or more desk [])
+more_long [] [] grow desk = omega arith
+more_long [] (list ∷ more) grow desk = absurd grow
+more_long (list ∷ less) [] grow desk = absurd grow
+more_long (list ∷ less) (longer ∷ more) grow zero =
+    let long : length longer ≡ length list + length grow.0.0 = ap length grow.0.1 ∙ length-append list grow.0.0 in
+    omega (arith, long)
+more_long (list ∷ less) (longer ∷ more) grow (suc desk) = more_long less more grow.1 desk
 
 -- ---- configurations at a cut
 

@@ -46,10 +46,11 @@ use Rattle.krill_top.specs.InstanceState.{InstanceState, OutletState, outlet_sta
 use Rattle.krill_top.specs.InstanceState.{last_serial, is_of, is_exported, is_exported_at, repository_in, IsCoherentIn, ShowsLastIn}
 use Rattle.krill_top.specs.SharedRuns.{Closes}
 use Rattle.krill_top.specs.inner.Instances.{InstanceValue, IsInState, stored_in}
+use Rattle.krill_top.specs.inner.RunLaws.{RunLaws}
 use Rattle.krill_top.specs.inner.Started.{IsResumedIn}
 use Rattle.krill_top.proofs.Closing.{done_exported}
-use Rattle.krill_top.proofs.Exporting.{NewestLaw, newest_shown, or_parts, export_serial}
-use Rattle.krill_top.proofs.KeptDesks.{OneList, more_lists, same_found}
+use Rattle.krill_top.proofs.Exporting.{newest_shown, or_parts, export_serial}
+use Rattle.krill_top.proofs.KeptDesks.{more_lists, same_found}
 use Rattle.krill_top.proofs.Lists.{as_many, from_first}
 use Rattle.krill_top.proofs.OutOfLocks.{ComesOut}
 use Rattle.krill_top.proofs.Vouching.{front_of, rest_of}
@@ -67,10 +68,9 @@ FoundLaw {D} {O} disk_of outlet_of = (opened : List (CountedView D)) (first : St
     → (is : IsResumed (map desk_in opened) first) → AreFound (named_of disk_of outlet_of opened (exported_as last first) board outlet) is.editions
 
 pub record Laws {D O : Type 0} (disk_of : DiskGhosts D) (outlet_of : OutletGhosts O) : Type 0 where
-  pub one : OneList
+  pub run : RunLaws
   pub left : MoreLeft
   pub stand : MoreStand
-  pub newest : NewestLaw
   pub found : FoundLaw disk_of outlet_of
 
 -- what the instance's parts are called
@@ -140,7 +140,7 @@ module _ {D O : Type 0} (disk_of : DiskGhosts D) (outlet_of : OutletGhosts O) (l
   long = over.made.left.desks ∙ over.made.one_each ∙ sym many ∙ as_many desks out.states out.are
 
   pub more : AreMore on.lists (lists_of out.states)
-  more = more_lists laws.one (length named.signers) 0 on.lists locked.seats desks out.states long over.seen are.seen (from_first desks out.states out.are)
+  more = more_lists laws.run.commands (length named.signers) 0 on.lists locked.seats desks out.states long over.seen are.seen (from_first desks out.states out.are)
 
   pub more_vouched : (vouched : Vouched) → IsMore (premises_named named on.lists vouched) (premises_of vouched ended)
   more_vouched vouched = record { lists = more; site = refl; vouched = λ key digest signature is. is }
@@ -149,7 +149,7 @@ module _ {D O : Type 0} (disk_of : DiskGhosts D) (outlet_of : OutletGhosts O) (l
 
   pub found_steps : (vouched : Vouched) → AreFoundSteps vouched ended → AreFoundStepsOf named begun.editions vouched
   found_steps vouched steps lists records =
-      let same : lists ≡ lists_of begun.desk_states = same_found laws.one (length named.signers) 0 lists opened begun.desk_states records
+      let same : lists ≡ lists_of begun.desk_states = same_found laws.run.commands (length named.signers) 0 lists opened begun.desk_states records
       (from_first (map desk_in opened) begun.desk_states (subst (λ (v : List (View D)). AreIn v begun.desk_states) (sym same_desks) stands.desks)) in
       subst (λ (l : List (List Command)). AreSteps (premises_named named l vouched) begun.editions) (just ∙ sym same)
       (subst (λ (e : List Edition). AreSteps (premises_named named begun.found.lists vouched) e) just_editions steps)
@@ -209,7 +209,7 @@ module _ {D O : Type 0} (disk_of : DiskGhosts D) (outlet_of : OutletGhosts O) (l
       let count : last_serial ended ≡ length ended.editions = sym serial_is ∙ over.made.counted in
       elim (or_parts (last_serial ended == 0) (is_of ended.exported (last_serial ended)) is) [
         | inl none ↦ inl (nil_from_length ended.editions (sym count ∙ eqb-true (last_serial ended) 0 none))
-        | inr done ↦ inr (newest_shown laws.newest ended.session ended.site ended.editions ended.outlet.files
+        | inr done ↦ inr (newest_shown laws.run.newest ended.session ended.site ended.editions ended.outlet.files
             (subst (λ (l : LastExport). ShowsLast (ShowsEdition ended.session ended.site) ended.editions l ended.outlet.files)
             (export_serial ended.exported (last_serial ended) done ∙ ap Done count) over.shows))
       ]

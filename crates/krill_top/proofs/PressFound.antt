@@ -1,5 +1,5 @@
 -- The state in which opening finds the press, and what its disk holds.
-use Rattle.std.proofs.Common.{◌≡◌, ◌≢◌, ◌≤◌, ◌<◌, ℕ, List, [], ◌∷◌, length, refl, sym, ◌∙◌, ap, subst, arith, inl, inr}
+use Rattle.std.proofs.Common.{◌≡◌, ◌≢◌, ◌≤◌, ◌<◌, ℕ, List, [], ◌∷◌, length, refl, sym, ◌∙◌, ap, subst, arith, inl, inr, append-nil}
 use Rattle.std.proofs.lemmas.Bool.{false≢true}
 use Rattle.std.proofs.lemmas.Option.{none-some}
 use Rattle.std.proofs.lemmas.List.Elements.{All-nil, All-cons}
@@ -40,6 +40,7 @@ use Rattle.krill_top.specs.inner.Instances.{HasInDoubt, IsJournalOf, IsPressIn}
 use Rattle.krill_top.specs.inner.PressOpened.{IsToldBy, IsBehindLoaded, IsOpenedPress}
 use Rattle.krill_top.specs.inner.Started.{IsPressFound}
 use Rattle.krill_top.specs.Histories.{HasRoomFor}
+use Rattle.krill_top.specs.SoundEditions.{TakesNoMore}
 use Rattle.krill_top.proofs.Fitting.{room_known}
 use Rattle.krill_top.proofs.Lists.{as_many, lists_long}
 
@@ -187,6 +188,7 @@ module _ {D : Type 0} (disk_of : DiskGhosts D) (given : Given) (old : D) (press 
       site = opened.behind.goes_on.site;
       session = session_is;
       journal = journal_is;
+      cuts = record { made = []; grows = sym (append-nil opened.editions); within = All-nil (TakesNoMore given.found) };
       exported = opened.behind.goes_on.last_export;
       outlet = outlet_is;
       shows = tt;

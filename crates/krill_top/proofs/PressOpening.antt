@@ -39,7 +39,7 @@ use Rattle.krill_top.specs.declared.summary.Summary.{Summary}
 use Rattle.krill_top.specs.DeskStates.{DeskStates, DeskState, commands_of as commands_in, commands_at}
 use Rattle.krill_top.specs.InstanceState.{lists_of}
 use Rattle.krill_top.specs.DesksInStates.{AreIn}
-use Rattle.krill_top.specs.PressDisk.{Given, AreAsked, load_fault_of, IsNotLoaded, IsPast, IsCutWithin, IsStopCause, IsOutletLeft, IsStopped}
+use Rattle.krill_top.specs.PressDisk.{Given, AreAsked, load_fault_of, IsNotLoaded, IsPast, IsCutWithin, IsStopCause, IsOutletLeft, IsLoadedAndStopped}
 use Rattle.krill_top.specs.inner.Gathered.{IsFirstOf, AreFirstsOf}
 use Rattle.krill_top.specs.inner.PressOpened.{IsToldBy, IsWithin, IsPastOf, audit_fault_of, resume_fault_of}
 use Rattle.krill_top.specs.inner.Summing.{summed}
@@ -402,7 +402,7 @@ untouched given loaded editions Memory = inl refl
 -- what was loaded stands on the disk
 pub stopped_loaded : {D : Type 0} (disk_of : DiskGhosts D) (given : Given) (fault : OpenFault) (old : D) (loaded : LoadedValue D) (editions : List Edition) (signers : List SignerState) → IsLeftAs editions loaded → IsInOrder loaded
     → IfSome (disk_of.content old) (λ file. IsLoadOf given.site given.session file editions loaded) → IfSome loaded.journal.records (AreRecords (loaded_store loaded) editions) → IsSafe disk_of loaded.journal
-    → disk_of.fault_count old ≤ disk_of.fault_count loaded.journal.disk → IsStopCause given loaded signers given.outlet fault → IsStopped disk_of given fault old loaded.journal.disk signers given.outlet
+    → disk_of.fault_count old ≤ disk_of.fault_count loaded.journal.disk → IsStopCause given loaded signers given.outlet fault → IsLoadedAndStopped disk_of given fault old loaded.journal.disk signers given.outlet
 stopped_loaded disk_of given fault old loaded editions signers left order known records safe later cause =
     let has : HasEditions disk_of (loaded_store loaded) editions loaded.journal = record { limit = order.limit; settled = order.settled; are = records } in
     record {

@@ -1,5 +1,5 @@
 -- The press's disk over a run, from what opening found to what closing leaves.
-use Rattle.std.proofs.Common.{◌≡◌, ℕ, List, [], ◌∷◌, ◌++◌, sym, subst, arith, inl, inr}
+use Rattle.std.proofs.Common.{◌≡◌, ℕ, List, [], ◌∷◌, ◌++◌, refl, sym, subst, arith, inl, inr}
 use Rattle.std.proofs.lemmas.Bool.{false≢true}
 use Rattle.std.specs.Prelude.{Option, None, Some, IfSome, IsSome}
 use Rattle.disk_api.specs.declared.disk.Disk.{Ghosts as DiskGhosts}
@@ -11,11 +11,13 @@ use Rattle.press_records.specs.Store.{Store}
 use Rattle.press_core.specs.JournalRecords.{AreRecords, Finds, press_limit}
 use Rattle.press_core.specs.Stands.{IsLeftBy}
 use Rattle.krill_top.specs.InstanceState.{InstanceState, lists_of, store_in}
+use Rattle.krill_top.specs.Histories.{HasPressRoom}
 use Rattle.krill_top.specs.PressDisk.{Holds, HoldsIn, IsPressServed}
 use Rattle.krill_top.specs.inner.Instances.{InstanceValue, IsDoubtOf, HasInDoubt, IsInState, PressGoesOn}
+use Rattle.krill_top.specs.inner.Room.{HasRoomUnknown}
 use Rattle.krill_top.specs.inner.Started.{IsPressFound}
 use Rattle.outlet_api.specs.declared.outlet.Outlet.{Ghosts as OutletGhosts}
-use Rattle.krill_top.proofs.Fitting.{RecordsLaw}
+use Rattle.krill_top.specs.inner.RunLaws.{RecordsLaw}
 use Rattle.krill_top.proofs.PressFound.{some_so, some_both}
 
 found_by : (store : Store) (editions : List Edition) (records : List (List ℕ)) (file : List ℕ) → RecoversTo press_limit records file → AreRecords store editions records → Finds store editions file
@@ -58,6 +60,7 @@ module _ {D O : Type 0} (disk_of : DiskGhosts D) (outlet_of : OutletGhosts O) wh
         found = first.found;
         known = first.known;
         records = first.records;
+        told = subst (λ (r : Option (List (List ℕ))). IfSome (disk_of.content closed.journal.disk) (λ _. IsSome r)) stands.journal.records safe.known;
         is_open = first.is_open;
         left = some_both (disk_of.content closed.journal.disk) _ _ (HoldsIn ended) safe.known safe.bytes
             (λ file some recovers. holds_in law closed ended file stands some recovers);
@@ -68,3 +71,13 @@ module _ {D O : Type 0} (disk_of : DiskGhosts D) (outlet_of : OutletGhosts O) wh
             record { from = rose.from; to = rose.to; begins = omega (arith, first.later, rose.begins); risen = rose.risen; ends = rose.ends };
         later = omega (arith, first.later, goes.later);
       })
+
+-- where no records are known, the disk doesn't tell
+untold : {A B : Type 0} (content : Option A) (records : Option B) → IfSome content (λ _. IsSome records) → records ≡ None → content ≡ None
+untold None records known none = refl
+untold (Some file) None known none = absurd (false≢true known)
+untold (Some file) (Some all) known none = absurd (cc)
+
+pub room_unknown : {D : Type 0} (disk_of : DiskGhosts D) (session : List ℕ) (old new : D) (begun ended : InstanceState) → IsPressServed disk_of session old new begun ended
+    → HasPressRoom disk_of new ended → HasRoomUnknown ended
+room_unknown disk_of session old new begun ended served room none = room (untold (disk_of.content new) ended.records served.told none) none

@@ -67,6 +67,7 @@ use Rattle.krill_top.specs.DesksInStates.{Leads}
 use Rattle.krill_top.specs.inner.Instances.{InstanceValue, IsInState, IsInstance, IsJournalOf, HasInDoubt, PressGoesOn, Moves, stored_in}
 use Rattle.krill_top.specs.Histories.{HasRoomFor, and_doubt}
 use Rattle.krill_top.specs.inner.Room.{IsEditionOfBytes}
+use Rattle.krill_top.proofs.Cuts.{cuts_commanded, cuts_doubted, cuts_published}
 use Rattle.krill_top.proofs.Fitting.{bytes_push, known_itself, prepared_bytes, room_then}
 use Rattle.krill_top.proofs.Standing.{At, at_place, go_on_same}
 use Rattle.krill_top.proofs.PressStanding.{press_kept, grow_same}
@@ -183,6 +184,7 @@ module _ {D O : Type 0} (outlet_of : OutletGhosts O) where
         site = stands.site;
         session = stands.session;
         journal = journal_asked instance ring journal before room stands.journal;
+        cuts = record { made = stands.cuts.made; grows = stands.cuts.grows; within = stands.cuts.within };
         exported = stands.exported;
         outlet = stands.outlet;
         shows = stands.shows;
@@ -493,6 +495,9 @@ module _ {D O : Type 0} (outlet_of : OutletGhosts O) where
           site = done.site ∙ stands.site;
           session = done.session ∙ stands.session;
           journal = journal_then;
+          cuts =
+              let cuts = cuts_published before edition (stands.journal.shut.0 done.was_open) takes stands.cuts in
+              record { made = cuts.made; grows = cuts.grows; within = cuts.within };
           exported = done.last_export ∙ stands.exported;
           outlet = stands.outlet;
           shows = still_shown before.session before.site before.editions edition before.exported before.outlet.files stands.shows;
@@ -576,6 +581,9 @@ module _ {D O : Type 0} (outlet_of : OutletGhosts O) where
     doubt_follows : (vouched : Vouched) → AreVouchedIn vouched in_doubt → Follows (premises_of vouched before) clock before.editions done.prepared
     doubt_follows vouched all = done.edition.follows (premises_of vouched before) before.editions (doubt_behind vouched all)
 
+    doubt_takes : TakesAll before.desk_states doubted.cut
+    doubt_takes desk = ap (λ (c : List ℕ). cut_at c desk) done.edition.is_prepared.cut ∙ they_take_all old.desks before.desk_states old.press.at.cut done.groups doubt_sound done.since desk
+
     doubts : IsInDoubt clock before in_doubt
     doubts = record {
       is_open = stands.journal.shut.0 done.was_open;
@@ -585,7 +593,7 @@ module _ {D O : Type 0} (outlet_of : OutletGhosts O) where
       prepared = done.prepared;
       is_prepared = done.edition.is_prepared;
       doubted = refl;
-      takes_all = λ desk. ap (λ (c : List ℕ). cut_at c desk) done.edition.is_prepared.cut ∙ they_take_all old.desks before.desk_states old.press.at.cut done.groups doubt_sound done.since desk;
+      takes_all = doubt_takes;
       kept = subst (λ (s : List SignerState). Keeps s press.press.ring) stands.ring done.kept;
       held = subst (λ (s : List SignerState). HoldKeys s press.press.ring) stands.ring done.held;
       sound = λ vouched all.
@@ -630,6 +638,9 @@ module _ {D O : Type 0} (outlet_of : OutletGhosts O) where
           site = stands.site;
           session = stands.session;
           journal = doubt_journal;
+          cuts =
+              let cuts = cuts_doubted before doubted (stands.journal.shut.0 done.was_open) doubt_takes stands.cuts in
+              record { made = cuts.made; grows = cuts.grows; within = cuts.within };
           exported = stands.exported;
           outlet = stands.outlet;
           shows = stands.shows;
@@ -725,6 +736,9 @@ module _ {D O : Type 0} (outlet_of : OutletGhosts O) where
           site = stands.site;
           session = stands.session;
           journal = record { limit = stands.journal.limit; records = stands.journal.records; are = stands.journal.are; shut = stands.journal.shut; doubt = stands.journal.doubt; room = stands.journal.room; bytes = stands.journal.bytes };
+          cuts =
+              let cuts = cuts_commanded before goes.after grow stands.cuts in
+              record { made = cuts.made; grows = cuts.grows; within = cuts.within };
           exported = stands.exported;
           outlet = stands.outlet;
           shows = stands.shows;

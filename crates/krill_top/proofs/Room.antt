@@ -1,6 +1,6 @@
 -- The journals have room for what they hold and for what is in doubt, behind a legal history that left what
 -- was found.
-use Rattle.std.proofs.Common.{◌≡◌, ◌≢◌, ◌<◌, ◌≤◌, ℕ, zero, suc, List, [], ◌∷◌, ◌++◌, map, length, get_or, replicate, refl, sym, ap, ◌∙◌, subst, arith, inl, inr, append-nil}
+use Rattle.std.proofs.Common.{◌≡◌, ◌≢◌, ◌≤◌, ℕ, zero, suc, List, [], ◌∷◌, ◌++◌, get_or, replicate, refl, sym, ap, ◌∙◌, subst, inl, inr, append-nil}
 use Rattle.std.specs.Prelude.{◌⊎◌, Option, None, Some, IfSome, All}
 use Rattle.std.proofs.lemmas.List.Elements.{All-nil, All-cons, All-append}
 use Rattle.authority_book.specs.declared.commands.Command.{Command}
@@ -15,10 +15,8 @@ use Rattle.press_core.specs.Follows.{edition_of}
 use Rattle.press_core.specs.JournalRecords.{AreRecords, press_limit, store_for}
 use Rattle.press_core.specs.Stands.{IsLeftBy}
 use Rattle.histories.specs.Acknowledged.{Acknowledged, acknowledged, commands_of, editions_of}
-use Rattle.histories.specs.Devices.{Signature}
 use Rattle.histories.specs.Events.{History}
 use Rattle.histories.specs.Events.Event.{Reopen}
-use Rattle.histories.specs.Found.{AreFoundAfter}
 use Rattle.histories.specs.Legal.{IsLegal, bytes_for, most_bytes, press_bytes_for}
 use Rattle.manager.specs.Closing.{doubted_edition}
 use Rattle.manager.specs.Locked.{IsInDoubt, all_of}
@@ -28,31 +26,13 @@ use Rattle.krill_top.specs.DeskStates.{DeskStates, commands_at}
 use Rattle.krill_top.specs.Histories.{MayFind, and_doubt}
 use Rattle.krill_top.specs.InstanceState.{InstanceState, lists_of}
 use Rattle.krill_top.specs.inner.Room.{IsEditionOfBytes}
-use Rattle.krill_top.proofs.Fitting.{RecordsLaw, TakesLaw, read_all}
-use Rattle.krill_top.proofs.RunHistories.{ReopenLaw, told_on}
-
--- ---- laws
-
-abbrev pub LimitLaw : Type 0
-LimitLaw = (site : Bases) (history : History) (desk : ℕ) → IsLegal site history → bytes_for (commands_of history desk) ≤ most_bytes
-
-abbrev pub PressLimitLaw : Type 0
-PressLimitLaw = (site : Bases) (history : History) → IsLegal site history → editions_of history ≢ [] → press_bytes_for site (editions_of history) ≤ press_limit
-
-abbrev pub BytesLaw : Type 0
-BytesLaw = (site : Bases) (history : History) → IsLegal site history → All IsEditionOfBytes (editions_of history)
-
-pub record RoomLaws : Type 0 where
-  pub reopen : ReopenLaw
-  pub limits : LimitLaw
-  pub press_limits : PressLimitLaw
-  pub bytes : BytesLaw
-  pub takes : TakesLaw
-  pub records : RecordsLaw
+use Rattle.krill_top.specs.inner.RunLaws.{RunLaws}
+use Rattle.krill_top.proofs.Fitting.{read_all}
+use Rattle.krill_top.proofs.RunHistories.{told_on}
 
 -- ---- what was found
 
-module _ (laws : RoomLaws) (history : History) (begun : InstanceState) (find : MayFind history begun) where
+module _ (laws : RunLaws) (history : History) (begun : InstanceState) (find : MayFind history begun) where
   abbrev reopened : History
   reopened = history ++ record { signed = []; event = Reopen (lists_of begun.desk_states) begun.editions } ∷ []
 
@@ -85,7 +65,7 @@ module _ (laws : RoomLaws) (history : History) (begun : InstanceState) (find : M
 
 -- ---- the press
 
-module _ (laws : RoomLaws) (named : Named) (editions : List Edition) (lists : List (List Command)) (run : List Stood) (calls : List Call) (ring : List SignerState) (at : PublishedStateValue)
+module _ (laws : RunLaws) (named : Named) (editions : List Edition) (lists : List (List Command)) (run : List Stood) (calls : List Call) (ring : List SignerState) (at : PublishedStateValue)
     (session : List ℕ) (site : Bases) where
   abbrev all : List Edition
   all = all_of editions run

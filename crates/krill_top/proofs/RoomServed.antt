@@ -11,13 +11,14 @@ use Rattle.histories.specs.Legal.{bytes_for, most_bytes}
 use Rattle.press_core.specs.Stored.{StoredValue}
 use Rattle.krill_top.specs.DeskStates.{DeskState, commands_of}
 use Rattle.krill_top.specs.DesksInStates.{HasDeskRoom, DeskGoesOnAt, DesksGoOn}
-use Rattle.krill_top.specs.Histories.{HasPressRoom, HasRoomFor, MayFind, and_doubt, doubt_of}
+use Rattle.krill_top.specs.Histories.{HasRoomFor, MayFind, and_doubt, doubt_of}
 use Rattle.krill_top.specs.InstanceState.{Found, InstanceState}
 use Rattle.krill_top.specs.Run.{AreServed, IsServedAt}
 use Rattle.krill_top.specs.inner.Instances.{IsJournalOf}
-use Rattle.krill_top.specs.inner.Room.{HasRoom, IsEditionOfBytes}
+use Rattle.krill_top.specs.inner.Room.{HasRoom, HasRoomUnknown, IsEditionOfBytes}
 use Rattle.krill_top.proofs.Fitting.{room_either}
-use Rattle.krill_top.proofs.Room.{RoomLaws, found_bytes, found_fits, found_press}
+use Rattle.krill_top.specs.inner.RunLaws.{RunLaws}
+use Rattle.krill_top.proofs.Room.{found_bytes, found_fits, found_press}
 use Rattle.krill_top.proofs.RunHistories.{RunAt, run_served}
 
 module _ {D : Type 0} (disk_of : DiskGhosts D) where
@@ -42,9 +43,9 @@ module _ {D : Type 0} (disk_of : DiskGhosts D) where
   desk_room number disk back old new (Some was) (Some is) run served goes small =
       room_on old new was is goes (subst (λ (d : Option Command). bytes_for (and_doubt was.commands d) ≤ most_bytes) (sym (open_at number disk back was is served)) small)
 
-  pub room_served : RoomLaws → (history : History) (begun ended : InstanceState) → MayFind history begun → (disks backs : List D) (old new : List (View D)) (press : StoredValue D)
+  pub room_served : RunLaws → (history : History) (begun ended : InstanceState) → MayFind history begun → (disks backs : List D) (old new : List (View D)) (press : StoredValue D)
       → begun.found.editions ≡ begun.editions → ended.site ≡ begun.site → ended.found ≡ begun.found → AreServed disk_of disks backs begun.desk_states ended.desk_states
-      → DesksGoOn disk_of old new begun.desk_states ended.desk_states → IsJournalOf press ended → HasPressRoom ended → HasRoom ended
+      → DesksGoOn disk_of old new begun.desk_states ended.desk_states → IsJournalOf press ended → HasRoomUnknown ended → HasRoom ended
   room_served laws history begun ended find disks backs old new press just same_site same_found served goes journal unknown =
       let found : ended.found.editions ≡ begun.editions = ap (λ (f : Found). f.editions) same_found ∙ just in
       let small : HasRoomFor ended.site ended.found.editions =

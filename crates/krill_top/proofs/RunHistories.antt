@@ -25,43 +25,21 @@ use Rattle.press_records.specs.Edition.{StandingValue, after_edition, editions, 
 use Rattle.press_core.specs.Records.{edition_value}
 use Rattle.press_core.specs.JournalRecords.{press_limit}
 use Rattle.editions.specs.Edition.{Edition}
-use Rattle.editions.specs.Step.{Premises, AreMore, IsMore, AreSteps}
+use Rattle.editions.specs.Step.{Premises, AreMore, AreSteps}
 use Rattle.editions.specs.VouchedCalls.{IsVouchedBy}
-use Rattle.histories.specs.Acknowledged.{Acknowledged, acknowledged, acknowledging, acknowledging_all, ground_after, signatures_of, editions_of}
+use Rattle.histories.specs.Acknowledged.{Acknowledged, acknowledged, acknowledging, acknowledging_all, ground_after, signatures_of}
 use Rattle.histories.specs.Devices.{Signature, are_vouched, is_signature}
 use Rattle.histories.specs.Events.{History}
 use Rattle.histories.specs.Events.Event.{Reopen}
-use Rattle.histories.specs.Found.{AreFoundAfter}
-use Rattle.histories.specs.Legal.{IsLegal, IsNextCommand, FollowsTheOthers, InTurn, IsOfBytes, bytes_for, most_bytes, press_bytes_for, records_over}
-use Rattle.histories.specs.Work.{Work, IsListWork, AreListWorks, IsWork, GoesOnAs, ground_with}
+use Rattle.histories.specs.Legal.{IsNextCommand, FollowsTheOthers, InTurn, IsOfBytes, bytes_for, most_bytes, press_bytes_for, records_over}
+use Rattle.histories.specs.Work.{IsListWork, AreListWorks, IsWork, GoesOnAs, ground_with}
 use Rattle.krill_top.specs.DeskStates.{DeskState, DeskStates, most_desks, commands_at}
 use Rattle.krill_top.specs.Histories.{MayFind, and_doubt, desk_doubt, signature_of, signatures, work_of}
 use Rattle.krill_top.specs.inner.Room.{HasRoom}
+use Rattle.krill_top.specs.inner.RunLaws.{RunLaws}
 use Rattle.krill_top.specs.Run.{IsKeptAt, IsServedAt}
 use Rattle.krill_top.proofs.Vouching.{front_of}
 use Rattle.krill_top.specs.InstanceState.{Found, InstanceState, lists_of, premises_of, AreVouchedIn}
-
--- ---- laws
-
-abbrev pub WorkLaw : Type 0
-WorkLaw = (site : Bases) (history : History) (signed : List Signature) (work : Work) → IsLegal site history → AreFoundAfter history work.found.commands work.found.editions
-    → IsWork site (are_vouched (signatures_of history ++ signed)) work → GoesOnAs site history signed work
-
-abbrev pub ReopenLaw : Type 0
-ReopenLaw = (site : Bases) (history : History) (signed : List Signature) (lists : List (List Command)) (editions : List Edition) → IsLegal site history → AreFoundAfter history lists editions
-    → IsLegal site (history ++ record { signed = signed; event = Reopen lists editions } ∷ [])
-
-abbrev pub StepsLaw : Type 0
-StepsLaw = (site : Bases) (history : History) → IsLegal site history → AreSteps (ground_after site history) (editions_of history)
-
-abbrev pub StayLaw : Type 0
-StayLaw = (less more : Premises) (editions : List Edition) → IsMore less more → AreSteps less editions → AreSteps more editions
-
-pub record HistoryLaws : Type 0 where
-  pub work : WorkLaw
-  pub reopen : ReopenLaw
-  pub steps : StepsLaw
-  pub stay : StayLaw
 
 -- ---- what a run did at a desk
 
@@ -308,7 +286,7 @@ same_lists : (lists : List (List Command)) → AreMore lists lists
 same_lists [] = tt
 same_lists (list ∷ lists) = (([], sym (append-nil list)), same_lists lists)
 
-module _ (laws : HistoryLaws) (history : History) (begun ended : InstanceState) (same_site : ended.site ≡ begun.site) (same_found : ended.found ≡ begun.found)
+module _ (laws : RunLaws) (history : History) (begun ended : InstanceState) (same_site : ended.site ≡ begun.site) (same_found : ended.found ≡ begun.found)
     (just : begun.found.lists ≡ lists_of begun.desk_states) (just_editions : begun.found.editions ≡ begun.editions) (find : MayFind history begun) (room : HasRoom ended)
     (runs : (k : ℕ) → RunAt k (slice_get begun.desk_states k) (slice_get ended.desk_states k)) (many : length ended.desk_states ≡ most_desks)
     (made : List Edition) (grows : ended.editions ≡ begun.editions ++ made)

@@ -1,5 +1,5 @@
 -- A run over all desks, from what opening found, what the session did, and what closing leaves.
-use Rattle.std.proofs.Common.{◌≡◌, ℕ, zero, suc, ◌+◌, ◌≤◌, List, [], ◌∷◌, map, refl, sym, ◌∙◌, ap, subst, arith}
+use Rattle.std.proofs.Common.{◌≡◌, ℕ, zero, suc, ◌+◌, ◌≤◌, List, [], ◌∷◌, ◌++◌, map, refl, sym, ◌∙◌, ap, subst, arith}
 use Rattle.std.specs.Prelude.{Bool, true, not, Option, None, Some, Result, Ok, IfSome, slice_get, ⊤}
 use Rattle.std.specs.Option.{option_map}
 use Rattle.std.proofs.lemmas.Option.{IfSome_then}
@@ -21,14 +21,15 @@ use Rattle.signer_api.specs.State.{SignerState}
 use Rattle.krill_top.specs.declared.ends.Ends.{Ends}
 use Rattle.krill_top.specs.declared.starting.Started.{Started}
 use Rattle.key_ids.specs.Uris.{Bases}
+use Rattle.editions.specs.Edition.{Edition}
 use Rattle.gate_journal.specs.View.{IsSafe as IsSafeJournal}
 use Rattle.krill_top.specs.InstanceState.{InstanceState, at_clock, lists_of, outlet_state, is_exported}
 use Rattle.krill_top.specs.declared.faults.RunFault.{RunFault}
 use Rattle.krill_top.specs.declared.faults.RunFault.TheVariants as run_faults
 use Rattle.krill_top.specs.inner.Started.{IsStarted, IsStartedIn}
 use Rattle.krill_top.proofs.PressStanding.{press_kept}
-use Rattle.krill_top.proofs.Fitting.{RecordsLaw}
-use Rattle.krill_top.proofs.PressServed.{press_served}
+use Rattle.krill_top.specs.inner.RunLaws.{NewestLaw, RecordsLaw, RunLaws}
+use Rattle.krill_top.proofs.PressServed.{press_served, room_unknown}
 use Rattle.krill_top.specs.Session.{session_of}
 use Rattle.krill_top.specs.Exports.{Repeats}
 use Rattle.outlet_api.specs.declared.outlet.Outlet.{Ghosts as OutletGhosts}
@@ -41,21 +42,22 @@ use Rattle.krill_top.specs.inner.Opened.{IsOpened, IsClosed, AreOpened, AreClose
 use Rattle.krill_top.specs.Sessions.{Served, Converses}
 use Rattle.krill_top.specs.Telling.{Tells}
 use Rattle.krill_top.specs.Working.{Works, ended_by}
-use Rattle.krill_top.specs.Run.{IsNext, IsServed, IsServedAt, AreServed, Leaves, ServesOne, TellsOne, IsFirstHeld, FindsHeld, WorksOne, streams_of, worked_by}
+use Rattle.krill_top.specs.Run.{IsNext, IsServed, IsServedAt, AreServed, Leaves, LeavesFound, ServesOne, TellsOne, IsFirstHeld, FindsHeld, WorksOne, streams_of, worked_by}
 use Rattle.krill_top.specs.Summaries.{summary_line}
 use Rattle.krill_top.specs.SharedRuns.{ServesNone}
 use Rattle.session_lines.specs.Keeping.{KeptValue, nothing_kept}
 use Rattle.krill_top.proofs.Standing.{go_on_same}
 use Rattle.krill_top.proofs.Moving.{arrives_then}
 use Rattle.krill_top.proofs.WorkedWell.{begun_exported, works_exported}
-use Rattle.krill_top.proofs.Exporting.{NewestLaw, exported_shown}
+use Rattle.krill_top.proofs.Exporting.{exported_shown}
 use Rattle.krill_top.proofs.Closing.{well_exported, started_shown, coherent_begun, repeats_same}
 use Rattle.krill_top.proofs.Lists.{lists_long}
-use Rattle.krill_top.proofs.Room.{RoomLaws}
 use Rattle.krill_top.proofs.RoomServed.{room_served}
-use Rattle.krill_top.proofs.RunHistories.{HistoryLaws, run_served, goes_on}
-use Rattle.krill_top.proofs.SoundRuns.{SoundLaws, cuts_held, found_sound}
-use Rattle.krill_top.proofs.Crashes.{CrashLaws, all_kept, reopened}
+use Rattle.krill_top.proofs.RunHistories.{run_served, goes_on}
+use Rattle.krill_top.proofs.Cuts.{made_behind}
+use Rattle.krill_top.proofs.SoundRuns.{found_sound, found_within}
+use Rattle.krill_top.proofs.Crashes.{all_kept, reopened}
+use Rattle.krill_top.proofs.Unchanged.{found_goes_on, found_reopened}
 use Rattle.krill_top.proofs.InTurn.{opened_stood_for, closed_left}
 
 module _ {D : Type 0} (disk_of : DiskGhosts D) where
@@ -270,7 +272,28 @@ module _ {D G S K O C : Type 0} (disk_of : DiskGhosts D) (state_of : G → Signe
         well = λ zero. exported_shown disk_of outlet_of law closed ended done.stands (exported zero);
       }
 
-  pub serves : NewestLaw → RecordsLaw → SoundLaws → CrashLaws → HistoryLaws → RoomLaws → (site : Bases) (random : List ℕ) (ends : Ends D G O) (before after : SessionEnds S K C) (end : SessionEnd) (closing : Result Bool (ExportFault O))
+  -- what one leaves that changed nothing
+  leaves_found : RunLaws → (site : Bases) (random : List ℕ) (ends : Ends D G O) (run : RunEnd D G S K O C) (started : Started D G O) (found : DeskStates)
+      → (at : IsStartedIn disk_of state_of outlet_of site (session_of random) ends started found) → AreServed disk_of ends.desks.items run.ends.desks.items at.begun.desk_states at.begun.desk_states
+      → IsHandedBack run started.instance → LeavesFound disk_of state_of outlet_of random ends at.opened at.begun run
+  leaves_found laws site random ends run started found at disks is =
+      let instance : InstanceValue D O = started.instance in
+      let begun : InstanceState = at.begun in
+      let first = found_first at.opened begun at.opens.just.lists at.opens.just.editions (repeats_same {O = O} (Ok (not (is_exported at.opened))) at.opened begun at.opens.exported) in
+      let press = press_served disk_of outlet_of laws.records (session_of random) ends.press instance.journal.disk run.ends.press instance begun begun at.press
+      (press_kept disk_of instance.journal.disk begun begun refl) at.stands is.safe is.press in
+      record {
+        disks = disks;
+        press = press;
+        signers_ended = is.signers ∙ at.stands.ring;
+        outlet_ended = ap (outlet_state outlet_of) is.outlet ∙ at.stands.outlet;
+        coherent = at.coherent;
+        shown = started_shown outlet_of instance at.opened begun at.stands at.opens.just.exported at.opens.exported;
+        goes_on = found_goes_on disk_of outlet_of laws ends.desks.items run.ends.desks.items (session_of random) ends.press run.ends.press instance begun at.stands disks press first.0 first.1;
+        crash = found_reopened disk_of outlet_of laws ends.desks.items run.ends.desks.items (session_of random) ends.press run.ends.press instance begun at.stands disks press;
+      }
+
+  pub serves : RunLaws → (site : Bases) (random : List ℕ) (ends : Ends D G O) (before after : SessionEnds S K C) (end : SessionEnd) (closing : Result Bool (ExportFault O))
       (run : RunEnd D G S K O C) (started : Started D G O) (served closed : InstanceValue D O)
       → IsStarted disk_of state_of outlet_of site (session_of random) ends started
       → Served disk_of outlet_of source_of sink_of (streams_of before) (streams_of after) (timed_by before nothing_kept started.instance) (timed_by after run.kept served) end
@@ -278,7 +301,7 @@ module _ {D G S K O C : Type 0} (disk_of : DiskGhosts D) (state_of : G → Signe
       → IsRun disk_of state_of outlet_of source_of sink_of before after end closing run closed
       → ServesOne disk_of state_of outlet_of source_of sink_of clock_of site random ends before run
   unfolding opened_seen arrives_then
-  serves law records sound crashes histories room_laws site random ends before after end closing run started served closed begins session repeats is =
+  serves laws site random ends before after end closing run started served closed begins session repeats is =
       let disks = ends.desks.items in
       let instance : InstanceValue D O = started.instance in
       let found = opened_seen disk_of disks instance.desks begins.desks in
@@ -292,9 +315,10 @@ module _ {D G S K O C : Type 0} (disk_of : DiskGhosts D) (state_of : G → Signe
       let disks_then = leaves_disks (λ b a. Q done.after a) site random ends run started closed begins at whole
       (record { desks = is.desks; press = is.press; safe = is.safe; signers = is.signers; outlet = is.outlet }) in
       let at_first = found_first at.opened begun at.opens.just.lists at.opens.just.editions (repeats_same {O = O} (Ok (not (is_exported at.opened))) at.opened begun at.opens.exported) in
-      let left : Leaves disk_of state_of outlet_of random ends at.opened begun last.after run = leaves law records (λ b a. Q done.after a) site random ends run started closed begins at whole
+      let left : Leaves disk_of state_of outlet_of random ends at.opened begun last.after run = leaves laws.newest laws.records (λ b a. Q done.after a) site random ends run started closed begins at whole
       (record { desks = is.desks; press = is.press; safe = is.safe; signers = is.signers; outlet = is.outlet })
       (λ zero. well_exported end closing done.after last.after last.step (sym is.status ∙ zero)) in
+      let grown : (made : List Edition) × (last.after.editions ≡ begun.editions ++ made) = (last.stands.cuts.made, made_behind begun last.after whole.same_found at_first.1 last.stands.cuts) in
       record {
         after = after;
         end = end;
@@ -310,20 +334,22 @@ module _ {D G S K O C : Type 0} (disk_of : DiskGhosts D) (state_of : G → Signe
         opens = at.opens;
         session = done.step;
         repeats = last.step;
-        crash = λ images image may. reopened crashes disk_of disks run.ends.desks.items (session_of random) ends.press run.ends.press begun last.after
+        crash = λ images image may. reopened laws disk_of disks run.ends.desks.items (session_of random) ends.press run.ends.press begun last.after
             (all_kept disk_of disks run.ends.desks.items begun.desk_states last.after.desk_states disks_then) left.press
             (sym (lists_long last.after.desk_states) ∙ last.stands.left.desks ∙ last.stands.one_each) images image may;
-        published = λ vouched. found_sound sound begun last.after
+        published = λ vouched. found_sound laws begun last.after
             (λ k. run_served disk_of k (slice_get disks k) (slice_get run.ends.desks.items k) (slice_get begun.desk_states k) (slice_get last.after.desk_states k) (disks_then k))
-            (last.stands.left.desks ∙ last.stands.one_each) (λ vouched all. (last.stands.stands vouched all).steps) left.grown.0 left.grown.1 vouched;
-        cuts = λ vouched all. cuts_held vouched last.after (last.stands.stands vouched all).steps (IfSome_then last.after.in_doubt (last.stands.in_doubt vouched all) (λ edition is. is.1.steps));
+            (last.stands.left.desks ∙ last.stands.one_each) (λ vouched all. (last.stands.stands vouched all).steps) grown.0 grown.1 vouched;
+        cuts = last.stands.cuts.within;
+        found_cuts = λ vouched all. found_within vouched last.after (last.stands.stands vouched all).steps begun.editions grown.0 grown.1;
         disks = disks_then;
-        goes_on = λ room history find. goes_on histories history begun last.after whole.same_site whole.same_found at_first.0 at_first.1 find
-            (room_served disk_of room_laws history begun last.after find disks run.ends.desks.items instance.desks closed.desks (stored_in closed) at_first.1 whole.same_site whole.same_found disks_then whole.disks last.stands.journal room)
+        goes_on = λ room history find. goes_on laws history begun last.after whole.same_site whole.same_found at_first.0 at_first.1 find
+            (room_served disk_of laws history begun last.after find disks run.ends.desks.items instance.desks closed.desks (stored_in closed) at_first.1 whole.same_site whole.same_found disks_then whole.disks last.stands.journal
+            (room_unknown disk_of (session_of random) ends.press run.ends.press begun last.after left.press room))
             (λ k. run_served disk_of k (slice_get disks k) (slice_get run.ends.desks.items k) (slice_get begun.desk_states k) (slice_get last.after.desk_states k) (disks_then k))
             (sym (lists_long last.after.desk_states) ∙ last.stands.left.desks ∙ last.stands.one_each) whole.grown.0 whole.grown.1
             (λ vouched all. (last.stands.stands vouched all).steps) (λ vouched all. IfSome_then last.after.in_doubt (last.stands.in_doubt vouched all) (λ edition is. is.1.steps));
-        leaves = left;
+        leaves = record left { grown = grown };
         source_fault = is.source_fault;
         sink_fault = is.sink_fault;
         source_later = is.source_later;
@@ -340,7 +366,7 @@ module _ {D G S K O C : Type 0} (disk_of : DiskGhosts D) (state_of : G → Signe
     pub fault : run.fault ≡ ended_by result
     pub source : after.source ≡ before.source
 
-  pub works_one : NewestLaw → RecordsLaw → SoundLaws → CrashLaws → HistoryLaws → RoomLaws → (authorities : ℕ) (site : Bases) (random : List ℕ) (ends : Ends D G O) (before after : SessionEnds S K C) (result : Result (Unit {0}) (Option RunFault))
+  pub works_one : RunLaws → (authorities : ℕ) (site : Bases) (random : List ℕ) (ends : Ends D G O) (before after : SessionEnds S K C) (result : Result (Unit {0}) (Option RunFault))
       (run : RunEnd D G S K O C) (started : Started D G O) (closed : InstanceValue D O)
       → IsStarted disk_of state_of outlet_of site (session_of random) ends started
       → ((state : InstanceState) → IsInState outlet_of started.instance state → IsFirstHeld state.desk_states None)
@@ -348,7 +374,7 @@ module _ {D G S K O C : Type 0} (disk_of : DiskGhosts D) (state_of : G → Signe
       → IsWorked before after run result closed
       → WorksOne disk_of state_of outlet_of sink_of clock_of authorities site random ends before run
   unfolding opened_seen
-  works_one law records sound crashes histories room_laws authorities site random ends before after result run started closed begins none works is =
+  works_one laws authorities site random ends before after result run started closed begins none works is =
       let disks = ends.desks.items in
       let instance : InstanceValue D O = started.instance in
       let found = opened_seen disk_of disks instance.desks begins.desks in
@@ -357,8 +383,9 @@ module _ {D G S K O C : Type 0} (disk_of : DiskGhosts D) (state_of : G → Signe
       let done = works begun at.stands in
       let disks_then = leaves_disks (λ b a. Works sink_of authorities result (worked_by clock_of before nothing_kept b) (worked_by clock_of after run.kept a)) site random ends run started closed begins at done is.handed_back in
       let at_first = found_first at.opened begun at.opens.just.lists at.opens.just.editions (repeats_same {O = O} (Ok (not (is_exported at.opened))) at.opened begun at.opens.exported) in
-      let left : Leaves disk_of state_of outlet_of random ends at.opened begun done.after run = leaves law records (λ b a. Works sink_of authorities result (worked_by clock_of before nothing_kept b) (worked_by clock_of after run.kept a)) site random ends run started closed begins at done is.handed_back
+      let left : Leaves disk_of state_of outlet_of random ends at.opened begun done.after run = leaves laws.newest laws.records (λ b a. Works sink_of authorities result (worked_by clock_of before nothing_kept b) (worked_by clock_of after run.kept a)) site random ends run started closed begins at done is.handed_back
       (λ zero. works_exported sink_of authorities result (worked_by clock_of before nothing_kept begun) (worked_by clock_of after run.kept done.after) (begun_exported O at.opened begun at.opens.exported) done.step (sym is.status ∙ zero)) in
+      let grown : (made : List Edition) × (done.after.editions ≡ begun.editions ++ made) = (done.stands.cuts.made, made_behind begun done.after done.same_found at_first.1 done.stands.cuts) in
       record {
         after = after;
         opened = at.opened;
@@ -373,20 +400,22 @@ module _ {D G S K O C : Type 0} (disk_of : DiskGhosts D) (state_of : G → Signe
         same_source = is.source;
         opens = at.opens;
         works = done.step;
-        crash = λ images image may. reopened crashes disk_of disks run.ends.desks.items (session_of random) ends.press run.ends.press begun done.after
+        crash = λ images image may. reopened laws disk_of disks run.ends.desks.items (session_of random) ends.press run.ends.press begun done.after
             (all_kept disk_of disks run.ends.desks.items begun.desk_states done.after.desk_states disks_then) left.press
             (sym (lists_long done.after.desk_states) ∙ done.stands.left.desks ∙ done.stands.one_each) images image may;
-        published = λ vouched. found_sound sound begun done.after
+        published = λ vouched. found_sound laws begun done.after
             (λ k. run_served disk_of k (slice_get disks k) (slice_get run.ends.desks.items k) (slice_get begun.desk_states k) (slice_get done.after.desk_states k) (disks_then k))
-            (done.stands.left.desks ∙ done.stands.one_each) (λ vouched all. (done.stands.stands vouched all).steps) left.grown.0 left.grown.1 vouched;
-        cuts = λ vouched all. cuts_held vouched done.after (done.stands.stands vouched all).steps (IfSome_then done.after.in_doubt (done.stands.in_doubt vouched all) (λ edition is. is.1.steps));
+            (done.stands.left.desks ∙ done.stands.one_each) (λ vouched all. (done.stands.stands vouched all).steps) grown.0 grown.1 vouched;
+        cuts = done.stands.cuts.within;
+        found_cuts = λ vouched all. found_within vouched done.after (done.stands.stands vouched all).steps begun.editions grown.0 grown.1;
         disks = disks_then;
-        goes_on = λ room history find. goes_on histories history begun done.after done.same_site done.same_found at_first.0 at_first.1 find
-            (room_served disk_of room_laws history begun done.after find disks run.ends.desks.items instance.desks closed.desks (stored_in closed) at_first.1 done.same_site done.same_found disks_then done.disks done.stands.journal room)
+        goes_on = λ room history find. goes_on laws history begun done.after done.same_site done.same_found at_first.0 at_first.1 find
+            (room_served disk_of laws history begun done.after find disks run.ends.desks.items instance.desks closed.desks (stored_in closed) at_first.1 done.same_site done.same_found disks_then done.disks done.stands.journal
+            (room_unknown disk_of (session_of random) ends.press run.ends.press begun done.after left.press room))
             (λ k. run_served disk_of k (slice_get disks k) (slice_get run.ends.desks.items k) (slice_get begun.desk_states k) (slice_get done.after.desk_states k) (disks_then k))
             (sym (lists_long done.after.desk_states) ∙ done.stands.left.desks ∙ done.stands.one_each) done.grown.0 done.grown.1
             (λ vouched all. (done.stands.stands vouched all).steps) (λ vouched all. IfSome_then done.after.in_doubt (done.stands.in_doubt vouched all) (λ edition is. is.1.steps));
-        leaves = left;
+        leaves = record left { grown = grown };
       }
 
   -- what closing leaves of a run that found a desk with commands
@@ -397,11 +426,11 @@ module _ {D G S K O C : Type 0} (disk_of : DiskGhosts D) (state_of : G → Signe
     pub status : run.status ≡ 3
     pub fault : run.fault ≡ Some (run_faults.NotEmpty desk held)
 
-  pub finds_held : RecordsLaw → (site : Bases) (random : List ℕ) (ends : Ends D G O) (before : SessionEnds S K C) (desk held : ℕ) (run : RunEnd D G S K O C) (started : Started D G O)
+  pub finds_held : RunLaws → (site : Bases) (random : List ℕ) (ends : Ends D G O) (before : SessionEnds S K C) (desk held : ℕ) (run : RunEnd D G S K O C) (started : Started D G O)
       → IsStarted disk_of state_of outlet_of site (session_of random) ends started
       → ((state : InstanceState) → IsInState outlet_of started.instance state → IsFirstHeld state.desk_states (Some (desk, held)))
       → IsHeld before run desk held started.instance → FindsHeld disk_of state_of outlet_of site random ends before run
-  finds_held records site random ends before desk held run started begins holds is =
+  finds_held laws site random ends before desk held run started begins holds is =
       let disks = ends.desks.items in
       let instance : InstanceValue D O = started.instance in
       let found = desks_closed_again disk_of disks instance.desks run.ends.desks.items begins.desks is.handed_back.desks in
@@ -418,13 +447,7 @@ module _ {D G S K O C : Type 0} (disk_of : DiskGhosts D) (state_of : G → Signe
         status = is.status;
         fault = is.fault;
         opens = at.opens;
-        disks = subst (λ (b : DeskStates). AreServed disk_of disks run.ends.desks.items b b) (sym at.same) found.2;
-        press = press_served disk_of outlet_of records (session_of random) ends.press instance.journal.disk run.ends.press instance at.begun at.begun at.press
-            (press_kept disk_of instance.journal.disk at.begun at.begun refl) at.stands is.handed_back.safe is.handed_back.press;
-        signers_ended = is.handed_back.signers ∙ at.stands.ring;
-        outlet_ended = ap (outlet_state outlet_of) is.handed_back.outlet ∙ at.stands.outlet;
-        coherent = at.coherent;
-        shown = started_shown outlet_of instance at.opened at.begun at.stands at.opens.just.exported at.opens.exported;
+        leaves = leaves_found laws site random ends run started found.0 at (subst (λ (b : DeskStates). AreServed disk_of disks run.ends.desks.items b b) (sym at.same) found.2) is.handed_back;
       }
 
   -- what closing leaves of a run that served no session
@@ -435,10 +458,10 @@ module _ {D G S K O C : Type 0} (disk_of : DiskGhosts D) (state_of : G → Signe
     pub status : run.status ≡ 6
     pub fault : run.fault ≡ Some run_faults.Memory
 
-  pub serves_none : RecordsLaw → (site : Bases) (random : List ℕ) (ends : Ends D G O) (before : List (SessionEnds S K C)) (run : RunEnd D G S K O C) (started : Started D G O)
+  pub serves_none : RunLaws → (site : Bases) (random : List ℕ) (ends : Ends D G O) (before : List (SessionEnds S K C)) (run : RunEnd D G S K O C) (started : Started D G O)
       → IsStarted disk_of state_of outlet_of site (session_of random) ends started
       → IsUnserved before run started.instance → ServesNone disk_of state_of outlet_of site random ends before run
-  serves_none records site random ends before run started begins is =
+  serves_none laws site random ends before run started begins is =
       let disks = ends.desks.items in
       let instance : InstanceValue D O = started.instance in
       let found = desks_closed_again disk_of disks instance.desks run.ends.desks.items begins.desks is.handed_back.desks in
@@ -452,13 +475,7 @@ module _ {D G S K O C : Type 0} (disk_of : DiskGhosts D) (state_of : G → Signe
         status = is.status;
         fault = is.fault;
         opens = at.opens;
-        disks = subst (λ (b : DeskStates). AreServed disk_of disks run.ends.desks.items b b) (sym at.same) found.2;
-        press = press_served disk_of outlet_of records (session_of random) ends.press instance.journal.disk run.ends.press instance at.begun at.begun at.press
-            (press_kept disk_of instance.journal.disk at.begun at.begun refl) at.stands is.handed_back.safe is.handed_back.press;
-        signers_ended = is.handed_back.signers ∙ at.stands.ring;
-        outlet_ended = ap (outlet_state outlet_of) is.handed_back.outlet ∙ at.stands.outlet;
-        coherent = at.coherent;
-        shown = started_shown outlet_of instance at.opened at.begun at.stands at.opens.just.exported at.opens.exported;
+        leaves = leaves_found laws site random ends run started found.0 at (subst (λ (b : DeskStates). AreServed disk_of disks run.ends.desks.items b b) (sym at.same) found.2) is.handed_back;
       }
 
   -- what closing leaves of a run that told
@@ -475,10 +492,10 @@ module _ {D G S K O C : Type 0} (disk_of : DiskGhosts D) (state_of : G → Signe
     pub clock : after.clock ≡ before.clock
     pub tells : Tells sink_of line run.fault before.sink after.sink
 
-  pub tells_one : RecordsLaw → (site : Bases) (random : List ℕ) (ends : Ends D G O) (before after : SessionEnds S K C) (run : RunEnd D G S K O C) (started : Started D G O)
+  pub tells_one : RunLaws → (site : Bases) (random : List ℕ) (ends : Ends D G O) (before after : SessionEnds S K C) (run : RunEnd D G S K O C) (started : Started D G O)
       → IsStarted disk_of state_of outlet_of site (session_of random) ends started → IsTold before after run (summary_line started.summary) started.instance
       → TellsOne disk_of state_of outlet_of sink_of site random ends before run
-  tells_one records site random ends before after run started begins is =
+  tells_one laws site random ends before after run started begins is =
       let disks = ends.desks.items in
       let instance : InstanceValue D O = started.instance in
       let found = desks_closed_again disk_of disks instance.desks run.ends.desks.items begins.desks is.desks in
@@ -495,11 +512,6 @@ module _ {D G S K O C : Type 0} (disk_of : DiskGhosts D) (state_of : G → Signe
         same_clock = is.clock;
         opens = at.opens;
         tells = is.tells;
-        disks = subst (λ (b : DeskStates). AreServed disk_of disks run.ends.desks.items b b) (sym at.same) found.2;
-        press = press_served disk_of outlet_of records (session_of random) ends.press instance.journal.disk run.ends.press instance at.begun at.begun at.press
-            (press_kept disk_of instance.journal.disk at.begun at.begun refl) at.stands is.safe is.press;
-        signers_ended = is.signers ∙ at.stands.ring;
-        outlet_ended = ap (outlet_state outlet_of) is.outlet ∙ at.stands.outlet;
-        coherent = at.coherent;
-        shown = started_shown outlet_of instance at.opened at.begun at.stands at.opens.just.exported at.opens.exported;
+        leaves = leaves_found laws site random ends run started found.0 at (subst (λ (b : DeskStates). AreServed disk_of disks run.ends.desks.items b b) (sym at.same) found.2)
+            (record { desks = is.desks; press = is.press; safe = is.safe; signers = is.signers; outlet = is.outlet });
       }

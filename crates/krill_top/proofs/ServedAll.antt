@@ -1,8 +1,8 @@
 -- A run over several sessions: whose its commands are, what was shown, and what it leaves.
-use Rattle.std.proofs.Common.{◌≡◌, ◌+◌, ◌<◌, ◌≤◌, ℕ, zero, suc, Bool, true, false, List, [], ◌∷◌, ◌++◌, map, length, get_or, refl, sym, ap, ◌∙◌, subst, arith, inl, inr}
-use Rattle.std.specs.Prelude.{◌⊎◌, Option, None, Some, Result, IfSome, All, nat_lt, slice_get, if◌then◌else◌}
+use Rattle.std.proofs.Common.{◌≡◌, ◌<◌, ◌≤◌, ℕ, zero, suc, Bool, true, false, List, [], ◌∷◌, ◌++◌, map, length, get_or, refl, sym, ap, ◌∙◌, subst, arith, inl, inr}
+use Rattle.std.specs.Prelude.{◌⊎◌, Option, None, Some, Result, IfSome, IsSome, All, nat_lt, slice_get, if◌then◌else◌}
 use Rattle.std.proofs.lemmas.Bool.Decides.{nat_tests}
-use Rattle.std.proofs.lemmas.List.{length-map, length-append}
+use Rattle.std.proofs.lemmas.List.{length-map}
 use Rattle.std.proofs.lemmas.List.Elements.{All-nil, All-cons, All-append}
 use Rattle.std.proofs.lemmas.Option.{slice_get-get_or}
 use mathlib.Core.List.{IsPrefix}
@@ -39,7 +39,7 @@ use Rattle.session_lines.specs.Sessions.{Streams, Converses}
 use Rattle.session_lines.specs.declared.running.SessionEnds.{SessionEnds}
 use Rattle.session_lines.specs.declared.running.SessionOutcome.{SessionOutcome}
 use Rattle.krill_top.specs.declared.faults.RunFault.TheVariants as run_faults
-use Rattle.krill_top.specs.DeskStates.{DeskState, DeskStates, most_desks, commands_at, commands_of}
+use Rattle.krill_top.specs.DeskStates.{DeskState, most_desks, commands_at, commands_of}
 use Rattle.krill_top.specs.DesksInStates.{InAt}
 use Rattle.krill_top.specs.InstanceState.{InstanceState, lists_of}
 use Rattle.krill_top.specs.SharedRuns.{records_at, KnowsFound, IsSharedList, Shares, AreServedIn, AreAllServed, IsNoneServed, gravest_from}
@@ -57,8 +57,8 @@ use Rattle.krill_top.specs.InstanceState.{premises_of, AreVouchedIn}
 use Rattle.krill_top.specs.PressDisk.{HoldsIn, IsPressServed}
 use Rattle.krill_top.specs.Run.{AreKept}
 use Rattle.press_core.specs.Follows.{edition_of}
-use Rattle.krill_top.specs.Histories.{HasPressRoom, MayFind, and_doubt}
-use Rattle.krill_top.specs.inner.Room.{HasRoom}
+use Rattle.krill_top.specs.Histories.{MayFind, and_doubt}
+use Rattle.krill_top.specs.inner.Room.{HasRoom, HasRoomUnknown}
 use Rattle.key_ids.specs.Uris.{Bases}
 use Rattle.histories.specs.Events.{History}
 use Rattle.histories.specs.Legal.{press_bytes_for}
@@ -67,10 +67,10 @@ use Rattle.krill_top.specs.SoundEditions.{AreFoundSound, TakesNoMore}
 use Rattle.krill_top.specs.inner.Opened.{AreOpened, AreClosed}
 use Rattle.krill_top.specs.inner.Started.{IsPressFound}
 use Rattle.krill_top.proofs.KeptDesks.{record_at, records_or, begins_at, kept_at}
-use Rattle.krill_top.proofs.Lists.{as_many, lists_long}
+use Rattle.krill_top.proofs.Lists.{as_many, list_at, lists_long, more_long}
 use Rattle.krill_top.proofs.OutOfLocks.{ComesOut}
 use Rattle.krill_top.proofs.PressFound.{some_so}
-use Rattle.krill_top.proofs.Room.{RoomLaws, found_bytes, found_fits, found_press, made_bytes, press_room}
+use Rattle.krill_top.proofs.Room.{found_bytes, found_fits, found_press, made_bytes, press_room}
 use Rattle.krill_top.proofs.Served.{OpenedAt, closed_at}
 use Rattle.krill_top.proofs.Vouching.{front_of}
 use Rattle.krill_top.proofs.ManyServed as ended
@@ -273,7 +273,7 @@ module _ {D O : Type 0} (disk_of : DiskGhosts D) (outlet_of : OutletGhosts O) (l
       → AreKept disk_of olds news begun.desk_states last.desk_states
   kept olds news opens each closed = λ n.
       kept_at disk_of n (slice_get olds n) (slice_get instance.desks n) (slice_get desks n) (slice_get news n) (slice_get begun.desk_states n) (slice_get out.states n)
-      (each n) (begins_at laws.one n (slice_get instance.desks n) (slice_get desks n) (slice_get begun.desk_states n) (slice_get out.states n) (stands.desks n) (out.are n) (λ d v was is. front n d v was is))
+      (each n) (begins_at laws.run.commands n (slice_get instance.desks n) (slice_get desks n) (slice_get begun.desk_states n) (slice_get out.states n) (stands.desks n) (out.are n) (λ d v was is. front n d v was is))
       (out.counted n) (out.are n) (closed_at disk_of desks news closed n)
 
   -- ---- the press's disk
@@ -299,6 +299,7 @@ module _ {D O : Type 0} (disk_of : DiskGhosts D) (outlet_of : OutletGhosts O) (l
         found = at.found;
         known = at.known;
         records = at.records;
+        told = subst (λ (d : D). IfSome (disk_of.content d) (λ _. IsSome are.locked.press.journal.records)) (sym here) are.closed.known;
         is_open = at.is_open;
         left = subst (λ (d : D). IfSome (disk_of.content d) (HoldsIn last)) (sym here)
             (some_so (disk_of.content are.locked.press.journal.disk) finds_all (HoldsIn last) are.closed.bytes (λ file all. out.tied begun.editions found file (all begun.editions)));
@@ -347,24 +348,10 @@ module _ {D O : Type 0} (disk_of : DiskGhosts D) (outlet_of : OutletGhosts O) (l
 
   -- ---- cuts
 
-  got_commands : (states : DeskStates) (desk : ℕ) → get_or (lists_of states) desk [] ≡ commands_at states desk
-  got_commands [] desk = refl
-  got_commands (state ∷ states) zero = refl
-  got_commands (state ∷ states) (suc desk) = got_commands states desk
-
-  more_long : (less more : List (List Command)) → AreMore less more → (desk : ℕ) → length (get_or less desk []) ≤ length (get_or more desk [])
-  more_long [] [] grow desk = omega arith
-  more_long [] (list ∷ more) grow desk = absurd grow
-  more_long (list ∷ less) [] grow desk = absurd grow
-  more_long (list ∷ less) (longer ∷ more) grow zero =
-      let long : length longer ≡ length list + length grow.0.0 = ap length grow.0.1 ∙ length-append list grow.0.0 in
-      omega (arith, long)
-  more_long (list ∷ less) (longer ∷ more) grow (suc desk) = more_long less more grow.1 desk
-
   takes : (edition : Edition) → ((desk : ℕ) → cut_at edition.cut desk ≤ length (get_or are.closed.is.lists desk [])) → TakesNoMore last.desk_states edition
   takes edition within desk =
       let long = more_long are.closed.is.lists (lists_of out.states) (ended.more disk_of outlet_of laws instance begun stands resumed just just_editions opened same_desks board viewed desks many disk ring outlet repeated are out) desk in
-      omega (arith, within desk, long, ap length (got_commands out.states desk))
+      omega (arith, within desk, long, ap length (list_at out.states desk))
 
   take_run : (before : List Edition) (run : List Stood) → AreAfter are.closed.is.lists before run → All (TakesNoMore last.desk_states) (editions_of run)
   take_run before [] after = All-nil (TakesNoMore last.desk_states)
@@ -388,7 +375,7 @@ module _ {D O : Type 0} (disk_of : DiskGhosts D) (outlet_of : OutletGhosts O) (l
       let steps = ended.steps disk_of outlet_of laws instance begun stands resumed just just_editions opened same_desks board viewed desks many disk ring outlet repeated are out vouched vouches in
       front_of (TakesNoMore last.desk_states) begun.editions (editions_of are.closed.is.run) (λ k d within desk.
       let step = steps k (get_or last.editions k d) (slice_get-get_or last.editions k d within) in
-      subst (λ (list : List Command). cut_at (get_or last.editions k d).cut desk ≤ length list) (got_commands last.desk_states desk) (step.1.cut.held desk))
+      subst (λ (list : List Command). cut_at (get_or last.editions k d).cut desk ≤ length list) (list_at last.desk_states desk) (step.1.cut.held desk))
 
   -- ---- room for a history
 
@@ -397,16 +384,16 @@ module _ {D O : Type 0} (disk_of : DiskGhosts D) (outlet_of : OutletGhosts O) (l
       let here : IsSharedDesk number passes d = subst (λ (v : View D). IsSharedDesk number passes v) (got desks number d d is) (shared.each number d (within_list desks number d is)) in
       ap (λ (k : ℕ). get_or (map records_in opened) k []) here.number_is ∙ begun_records number within
 
-  pub has_room : RoomLaws → (history : History) → MayFind history begun → HasPressRoom last → HasRoom last
-  has_room room_laws history find unknown = record {
-    desks = λ desk within. out.fits desk (commands_at begun.desk_states desk) (found_records desk within) (found_fits room_laws history begun find desk);
+  pub has_room : (history : History) → MayFind history begun → HasRoomUnknown last → HasRoom last
+  has_room history find unknown = record {
+    desks = λ desk within. out.fits desk (commands_at begun.desk_states desk) (found_records desk within) (found_fits laws.run history begun find desk);
     press = λ some.
         subst (λ (s : Bases). press_bytes_for s (and_doubt last.editions last.in_doubt) ≤ press_limit) over.site
-        (press_room room_laws (ended.named_in disk_of outlet_of instance opened board) begun.editions are.closed.is.lists are.closed.is.run are.closed.is.calls are.locked.press.press.ring are.locked.press.press.at
+        (press_room laws.run (ended.named_in disk_of outlet_of instance opened board) begun.editions are.closed.is.lists are.closed.is.run are.closed.is.calls are.locked.press.press.ring are.locked.press.press.at
         are.locked.press.press.rrdp.session are.locked.press.press.site are.locked.press.journal.records over.records over.made.left over.room are.locked.press.journal.doubt over.doubt over.doubt_room
-        (λ found. subst (λ (s : Bases). press_bytes_for s begun.editions ≤ press_limit) (sym (over.site ∙ stands.site)) (found_press room_laws history begun find found))
+        (λ found. subst (λ (s : Bases). press_bytes_for s begun.editions ≤ press_limit) (sym (over.site ∙ stands.site)) (found_press laws.run history begun find found))
         (λ none more. subst (λ (s : Bases). press_bytes_for s (and_doubt last.editions last.in_doubt) ≤ press_limit) (sym over.site) (unknown none more))
         some);
-    bytes = made_bytes room_laws (ended.named_in disk_of outlet_of instance opened board) begun.editions are.closed.is.lists are.closed.is.run are.closed.is.calls are.locked.press.press.ring are.locked.press.press.at
-        are.locked.press.press.rrdp.session are.locked.press.press.site (found_bytes room_laws history begun find) over.made.after are.locked.press.journal.doubt over.doubt;
+    bytes = made_bytes laws.run (ended.named_in disk_of outlet_of instance opened board) begun.editions are.closed.is.lists are.closed.is.run are.closed.is.calls are.locked.press.press.ring are.locked.press.press.at
+        are.locked.press.press.rrdp.session are.locked.press.press.site (found_bytes laws.run history begun find) over.made.after are.locked.press.journal.doubt over.doubt;
   }

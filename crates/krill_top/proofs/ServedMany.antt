@@ -35,12 +35,12 @@ use Rattle.krill_top.specs.inner.Instances.{InstanceValue, stored_in}
 use Rattle.krill_top.specs.inner.Shared.{IsServedRun, worst_of}
 use Rattle.krill_top.specs.inner.Started.{IsResumedIn, IsStarted, IsStartedIn}
 use Rattle.krill_top.proofs.Closing.{coherent_begun, repeats_same}
-use Rattle.krill_top.proofs.RunHistories.{HistoryLaws, run_at, goes_on}
+use Rattle.krill_top.proofs.RunHistories.{run_at, goes_on}
 use Rattle.krill_top.proofs.Lists.{as_many, lists_long}
 use Rattle.krill_top.proofs.ManyServed as ended
 use Rattle.krill_top.proofs.OutOfLocks.{ComesOut, comes_out}
-use Rattle.krill_top.proofs.Crashes.{CrashLaws, reopened}
-use Rattle.krill_top.proofs.Room.{RoomLaws}
+use Rattle.krill_top.proofs.PressServed.{room_unknown}
+use Rattle.krill_top.proofs.Crashes.{reopened}
 use Rattle.krill_top.proofs.Served.{OpenedAt, found_first, opened_seen, opened_seen_at}
 use Rattle.krill_top.proofs.ServedAll as all
 
@@ -106,7 +106,7 @@ well_closed worst (Err (export.OutletFault rose)) begun ended closes well = absu
 well_closed worst (Err export.Memory) begun ended closes well = absurd (some_wanting worst well)
 
 module _ {D G S K O C : Type 0} (disk_of : DiskGhosts D) (state_of : G → SignerState) (outlet_of : OutletGhosts O) (source_of : SourceGhosts S) (sink_of : SinkGhosts K) (clock_of : ClockGhosts C)
-    (laws : ended.Laws disk_of outlet_of) (stay : all.StayPublished) (makes : all.MakesLaw O disk_of source_of sink_of) (history_laws : HistoryLaws) (room_laws : RoomLaws) (crashes : CrashLaws)
+    (laws : ended.Laws disk_of outlet_of) (stay : all.StayPublished) (makes : all.MakesLaw O disk_of source_of sink_of)
     (site : Bases) (random : List ℕ) (ends : Ends D G O) (before : List (SessionEnds S K C)) (run : RunEnd D G S K O C) (started : Started D G O) where
   pub serves_all : IsStarted disk_of state_of outlet_of site (session_of random) ends started → (opened : List (CountedView D)) → AreCounted started.instance.desks opened
       → (board : BoardSeat) → board.shown ≡ shown_at started.instance.press.at ∷ []
@@ -168,7 +168,7 @@ module _ {D G S K O C : Type 0} (disk_of : DiskGhosts D) (state_of : G → Signe
         shares = all.shares disk_of outlet_of laws instance begun at.stands at.resumed just just_editions opened same_desks board shown is.is.viewed is.desks many store.disk store.ring store.outlet store.repeated run_ends out
             is.is.first is.is.is_first is.is.first_shown is.is.places is.is.left is.is.shared is.is.seen;
         disks = kept;
-        crash = λ images image may. reopened crashes disk_of disks run.ends.desks.items (session_of random) ends.press run.ends.press begun last kept press
+        crash = λ images image may. reopened laws.run disk_of disks run.ends.desks.items (session_of random) ends.press run.ends.press begun last kept press
             (sym (as_many is.desks out.states out.are) ∙ many) images image may;
         leaves = record {
           press = press;
@@ -193,9 +193,10 @@ module _ {D G S K O C : Type 0} (disk_of : DiskGhosts D) (state_of : G → Signe
             is.is.first is.is.is_first is.is.first_shown is.is.places is.is.left is.is.shared is.is.seen;
         published = all.published disk_of outlet_of laws instance begun at.stands at.resumed just just_editions opened same_desks board shown is.is.viewed is.desks many store.disk store.ring store.outlet store.repeated run_ends out
             is.is.first is.is.is_first is.is.first_shown is.is.places is.is.left is.is.shared is.is.seen stay;
-        goes_on = λ room history find. goes_on history_laws history begun last at.stands.site refl just just_editions find
+        goes_on = λ room history find. goes_on laws.run history begun last at.stands.site refl just just_editions find
             (all.has_room disk_of outlet_of laws instance begun at.stands at.resumed just just_editions opened same_desks board shown is.is.viewed is.desks many store.disk store.ring store.outlet store.repeated run_ends out
-            is.is.first is.is.is_first is.is.first_shown is.is.places is.is.left is.is.shared is.is.seen room_laws history find room)
+            is.is.first is.is.is_first is.is.first_shown is.is.places is.is.left is.is.shared is.is.seen history find
+            (room_unknown disk_of (session_of random) ends.press run.ends.press begun last press room))
             (λ k. run_at disk_of k (slice_get disks k) (slice_get run.ends.desks.items k) (slice_get begun.desk_states k) (slice_get out.states k) (kept k))
             (sym (as_many is.desks out.states out.are) ∙ many) (editions_of run_ends.closed.is.run) refl
             (ended.steps disk_of outlet_of laws instance begun at.stands at.resumed just just_editions opened same_desks board is.is.viewed is.desks many store.disk store.ring store.outlet store.repeated run_ends out)

@@ -1,7 +1,6 @@
 -- Editions that follow one another are sound, and take in no more commands than there are.
 use Rattle.std.proofs.Common.{◌≡◌, ℕ, zero, suc, ◌<◌, ◌≤◌, List, [], ◌∷◌, ◌++◌, take, length, get_or, refl, sym, ap, subst, arith, append_assoc}
-use Rattle.std.specs.Prelude.{Option, None, Some, IfSome, All, slice_get}
-use Rattle.std.specs.List.{AllByRecursion}
+use Rattle.std.specs.Prelude.{Some, All, slice_get}
 use Rattle.std.proofs.lemmas.List.Elements.{All-take, recursion_from_All}
 use Rattle.std.proofs.lemmas.Option.{slice_get-get_or}
 use Rattle.names.specs.Name.{IsName}
@@ -9,45 +8,17 @@ use Rattle.authority_book.specs.declared.commands.Command.{Command}
 use Rattle.authority_book.specs.Fold.{empty_settings, fold_of, Taken}
 use Rattle.cmd_codec.specs.Spelling.{IsRecordable}
 use Rattle.entitle.specs.Certified.{names_of}
-use Rattle.pub_set.specs.declared.objects.Object.{Object}
-use Rattle.pub_set.specs.Objects.{content_at, IsAscending}
 use Rattle.rp_rules.specs.Certificates.{Vouched}
-use Rattle.editions.specs.Edition.{Edition, set_after, cut_at}
+use Rattle.editions.specs.Edition.{Edition, cut_at}
 use Rattle.editions.specs.Names.{AreTree}
-use Rattle.editions.specs.Published.{IsPublished}
 use Rattle.editions.specs.Step.{Premises, IsStep, AreSteps, configs_at}
 use Rattle.krill_top.specs.DeskStates.{DeskStates, most_desks}
-use Rattle.krill_top.specs.Histories.{and_doubt}
 use Rattle.krill_top.specs.InstanceState.{InstanceState, lists_of, premises_of, AreVouchedIn}
 use Rattle.krill_top.specs.SoundEditions.{AreFoundSound, TakesNoMore}
+use Rattle.krill_top.specs.inner.RunLaws.{RunLaws}
 use Rattle.krill_top.proofs.Lists.{accepted_front, list_at, lists_long}
 use Rattle.krill_top.proofs.RunHistories.{RunAt}
-
--- ---- laws
-
-abbrev pub Apart : Type 0
-Apart = (commands : List Command) → Taken 0 commands → AreTree (fold_of 0 commands).names
-
-abbrev pub Named : Type 0
-Named = (commands : List Command) → AllByRecursion IsRecordable commands → All (λ row. IsName row.name) (fold_of 0 commands).names
-
-abbrev pub LeaveASet : Type 0
-LeaveASet = (editions : List Edition) → (objects : List Object) × IsAscending objects × ((uri : List ℕ) → content_at objects uri ≡ set_after editions uri)
-
-abbrev pub ArePublished : Type 0
-ArePublished = (premises : Premises) (editions : List Edition) (edition : Edition) (objects : List Object)
-    → AreSteps premises (editions ++ edition ∷ [])
-    → AreTree (names_of (configs_at premises.lists edition.cut))
-    → All (λ row. IsName row.name) (names_of (configs_at premises.lists edition.cut))
-    → IsAscending objects
-    → ((uri : List ℕ) → content_at objects uri ≡ set_after (editions ++ edition ∷ []) uri)
-    → IsPublished premises edition (set_after (editions ++ edition ∷ []))
-
-pub record SoundLaws : Type 0 where
-  pub apart : Apart
-  pub named : Named
-  pub set : LeaveASet
-  pub published : ArePublished
+use Rattle.krill_top.proofs.Vouching.{front_of}
 
 -- ---- the front of a list in turn
 
@@ -68,7 +39,7 @@ front_steps premises front rest steps place edition there =
 
 -- ---- the names at a cut
 
-module _ (laws : SoundLaws) where
+module _ (laws : RunLaws) where
   both_at : (list : List Command) → Taken 0 list → All IsRecordable list → AreTree (fold_of 0 list).names × All (λ row. IsName row.name) (fold_of 0 list).names
   both_at list taken held = (laws.apart list taken, laws.named list (recursion_from_All IsRecordable list held))
 
@@ -108,16 +79,13 @@ module _ (laws : SoundLaws) where
 
 -- ---- cuts
 
-with_doubt : (premises : Premises) (editions : List Edition) (doubt : Option Edition) → AreSteps premises editions → IfSome doubt (λ edition. AreSteps premises (editions ++ edition ∷ [])) → AreSteps premises (and_doubt editions doubt)
-with_doubt premises editions None steps next = steps
-with_doubt premises editions (Some edition) steps next = next
-
 take_no_more : (vouched : Vouched) (state : InstanceState) (list : List Edition) → AreSteps (premises_of vouched state) list → All (TakesNoMore state.desk_states) list
 take_no_more vouched state list steps k d within desk =
     let step = steps k (get_or list k d) (slice_get-get_or list k d within) in
     subst (λ (commands : List Command). cut_at (get_or list k d).cut desk ≤ length commands) (list_at state.desk_states desk) (step.1.cut.held desk)
 
-pub cuts_held : (vouched : Vouched) (state : InstanceState) → AreSteps (premises_of vouched state) state.editions → IfSome state.in_doubt (λ edition. AreSteps (premises_of vouched state) (state.editions ++ edition ∷ []))
-    → All (TakesNoMore state.desk_states) (and_doubt state.editions state.in_doubt)
-cuts_held vouched state steps next =
-    take_no_more vouched state (and_doubt state.editions state.in_doubt) (with_doubt (premises_of vouched state) state.editions state.in_doubt steps next)
+-- those that were found, behind which others follow
+pub found_within : (vouched : Vouched) (state : InstanceState) → AreSteps (premises_of vouched state) state.editions → (found made : List Edition) → state.editions ≡ found ++ made
+    → All (TakesNoMore state.desk_states) found
+found_within vouched state steps found made grows =
+    front_of (TakesNoMore state.desk_states) found made (subst (λ (l : List Edition). All (TakesNoMore state.desk_states) l) grows (take_no_more vouched state state.editions steps))

@@ -30,7 +30,7 @@ use Rattle.krill_top.specs.DeskStates.{DeskStates, most_desks, names_in}
 use Rattle.krill_top.specs.InstanceState.{InstanceState, OutletState, outlet_state, is_exported_at, is_exported, repository_in}
 use Rattle.krill_top.specs.DesksInStates.{AreIn}
 use Rattle.krill_top.specs.Exports.{Exports, Repeats}
-use Rattle.krill_top.specs.PressDisk.{Given, opened_state, AreAsked, IsStopCause, IsOutletLeft, IsStopped, StaysCoherent}
+use Rattle.krill_top.specs.PressDisk.{Given, opened_state, AreAsked, IsStopCause, IsOutletLeft, IsLoadedAndStopped, StaysCoherent}
 use Rattle.krill_top.specs.Statuses.{first_export_fault}
 use Rattle.krill_top.specs.Run.{Opens, given_with, signers_needed, IsBehind, IsClosedAgain}
 use Rattle.krill_top.specs.inner.Instances.{InstanceValue, IsInState, Arrives, Moves, HasInDoubt, stored_in}
@@ -66,7 +66,7 @@ module _ {D G O : Type 0} (disk_of : DiskGhosts D) (state_of : G → SignerState
 module _ {D : Type 0} (disk_of : DiskGhosts D) (given : Given) (old : D) (press : StoredValue D) (told : Summary) (opened : IsOpenedPress disk_of given old press told) where
   pub stopped_by : (fault : OpenFault) (journal : JournalView D) (signers : List SignerState) (outlet : OutletState) → IsStopCause given opened.loaded signers outlet fault
       → IsOutletLeft given opened.loaded opened.editions outlet fault → StaysCoherent opened.loaded opened.editions given.outlet outlet → HasEditions disk_of (loaded_store opened.loaded) opened.editions journal → IsSafe disk_of journal
-      → disk_of.fault_count press.journal.disk ≤ disk_of.fault_count journal.disk → IsStopped disk_of given fault old journal.disk signers outlet
+      → disk_of.fault_count press.journal.disk ≤ disk_of.fault_count journal.disk → IsLoadedAndStopped disk_of given fault old journal.disk signers outlet
   stopped_by fault journal signers outlet cause outlet_left coherent has safe later = record {
     loaded = opened.loaded;
     editions = opened.editions;
@@ -81,7 +81,7 @@ module _ {D : Type 0} (disk_of : DiskGhosts D) (given : Given) (old : D) (press 
   }
 
   -- memory was wanting for the instance
-  pub unmade : (signers : List SignerState) → IsSafe disk_of press.journal → IsStopped disk_of given Memory old press.journal.disk signers given.outlet
+  pub unmade : (signers : List SignerState) → IsSafe disk_of press.journal → IsLoadedAndStopped disk_of given Memory old press.journal.disk signers given.outlet
   unmade signers safe = stopped_by Memory press.journal signers given.outlet tt (inl refl) (λ was. was) (has_editions disk_of given old press told opened) safe (omega arith)
 
 -- ---- what an instance is made of
@@ -105,8 +105,8 @@ module _ {D G O : Type 0} (disk_of : DiskGhosts D) (state_of : G → SignerState
       let here : outlet_state outlet_of back.outlet ≡ given.outlet = ap (outlet_state outlet_of) (same_outlet ∙ sym ready.ends_of.outlet_is) in
       inr (inr (record {
         there = omega (arith, there, ready.counted);
-        stopped = subst (λ (d : D). IsStopped disk_of given Memory ends.press d (map state_of back.signers.items) (outlet_state outlet_of back.outlet)) (sym same_press)
-            (subst (λ (o : OutletState). IsStopped disk_of given Memory ends.press press.journal.disk (map state_of back.signers.items) o) (sym here)
+        stopped = subst (λ (d : D). IsLoadedAndStopped disk_of given Memory ends.press d (map state_of back.signers.items) (outlet_state outlet_of back.outlet)) (sym same_press)
+            (subst (λ (o : OutletState). IsLoadedAndStopped disk_of given Memory ends.press press.journal.disk (map state_of back.signers.items) o) (sym here)
             (unmade disk_of given ends.press press told (ready.opened found all) (map state_of back.signers.items) safe));
       }))
 
@@ -238,15 +238,15 @@ module _ {D G O : Type 0} (disk_of : DiskGhosts D) (state_of : G → SignerState
         } in
         let coherent : StaysCoherent opened.loaded opened.editions (given found).outlet after.outlet = λ is.
         subst (λ (s : InstanceState). IfSome after.outlet.files (IsCoherent (repository_in s) s.editions)) same (arrives.coherent is) in
-        let stopped : IsStopped disk_of (given found) (first_export_fault fault) ends.press new.journal.disk (map state_of back.signers.items) after.outlet =
+        let stopped : IsLoadedAndStopped disk_of (given found) (first_export_fault fault) ends.press new.journal.disk (map state_of back.signers.items) after.outlet =
         stopped_by disk_of (given found) ends.press (stored_in instance) told opened (first_export_fault fault) new.journal (map state_of back.signers.items) after.outlet
         (stop_cause fault found all arrives (map state_of back.signers.items))
         (exported_left fault (given found) opened.loaded opened.editions after arrives.step.1.exports) coherent has safe arrives.press.later in
         let there : outlet_state outlet_of back.outlet ≡ after.outlet = ap (outlet_state outlet_of) outlet ∙ arrives.stands.outlet in
         inr (inr (record {
           there = needed found all;
-          stopped = subst (λ (d : D). IsStopped disk_of (given found) (first_export_fault fault) ends.press d (map state_of back.signers.items) (outlet_state outlet_of back.outlet)) (sym press)
-              (subst (λ (o : OutletState). IsStopped disk_of (given found) (first_export_fault fault) ends.press new.journal.disk (map state_of back.signers.items) o) (sym there) stopped);
+          stopped = subst (λ (d : D). IsLoadedAndStopped disk_of (given found) (first_export_fault fault) ends.press d (map state_of back.signers.items) (outlet_state outlet_of back.outlet)) (sym press)
+              (subst (λ (o : OutletState). IsLoadedAndStopped disk_of (given found) (first_export_fault fault) ends.press new.journal.disk (map state_of back.signers.items) o) (sym there) stopped);
         }))
 
     -- no signer was asked

@@ -15,7 +15,7 @@ use Rattle.krill_top.specs.declared.faults.RunFault.TheVariants as faults
 use Rattle.krill_top.specs.declared.generated.Wanted.{Wanted}
 use Rattle.krill_top.specs.Generated.{IsCommandOf, generated, changed}
 use Rattle.krill_top.specs.InstanceState.{TimedInstanceState, at_clock}
-use Rattle.krill_top.specs.Keeps.{keeps_of_command, keeps_of_publication}
+use Rattle.krill_top.specs.Keeps.{keeps_of_command_outcome, keeps_of_publication_outcome}
 use Rattle.krill_top.specs.Outcomes.{fault_outcome}
 use Rattle.krill_top.specs.Outcomes.Outcome.{Accepted}
 use Rattle.krill_top.specs.Publishing.{Outcome as Publication, ComesTo}
@@ -112,7 +112,7 @@ module _ {D O : Type 0} (disk_of : DiskGhosts D) (outlet_of : OutletGhosts O) wh
       (λ before after comes. record { count = count; comes = comes; same_clock = same; same_kept = same_kept })
 
   pub given_refused : (T : Type 0) (name : List ℕ) (command : Command) (text reply : List ℕ) (fault : CommandFault D) (wanting : Bool) (old new : TimedInstance D O) → new.clock ≡ old.clock
-      → new.kept ≡ keeps_of_command (fault_outcome fault) old.kept → reply ≡ text ++ 10 ∷ [] → IsFaultText name fault text wanting
+      → new.kept ≡ keeps_of_command_outcome (fault_outcome fault) old.kept → reply ≡ text ++ 10 ∷ [] → IsFaultText name fault text wanting
       → Moves disk_of outlet_of (λ b a. CommandedIn name command (fault_outcome fault) b a) old.instance new.instance
       → MovesTimed disk_of outlet_of (λ b a. Gives {T = T} name command reply (Err (wanting_fault wanting)) b a) old new
   given_refused T name command text reply fault wanting old new same keeps is told moves =
@@ -151,7 +151,7 @@ module _ {D O : Type 0} (disk_of : DiskGhosts D) (outlet_of : OutletGhosts O) wh
   publishes_so reply (Err fault) before after is = inr is
 
   pub published_so : (reply : List ℕ) (clock : ℕ) (outcome : Publication) (result : Result PublishedNumbers (Option RunFault)) (old new : TimedInstance D O) → IsReading old.clock clock new.clock
-      → new.kept ≡ keeps_of_publication outcome old.kept → IsPublishedOrTold outcome result [] reply → Moves disk_of outlet_of (λ b a. ComesTo clock outcome b a) old.instance new.instance
+      → new.kept ≡ keeps_of_publication_outcome outcome old.kept → IsPublishedOrTold outcome result [] reply → Moves disk_of outlet_of (λ b a. ComesTo clock outcome b a) old.instance new.instance
       → MovesTimed disk_of outlet_of (λ b a. PublishesOrNot reply result b a) old new
   published_so reply clock outcome result old new read keeps told moves =
       moves_at disk_of outlet_of (λ b a. ComesTo clock outcome b a) (λ b a. PublishesOrNot reply result b a) old new moves

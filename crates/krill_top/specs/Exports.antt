@@ -55,14 +55,14 @@ stopped_of (OutletFault rose) = ByFault rose
 stopped_of Memory = ByMemory
 
 -- A fault's counts are those of the outlet, and rose.
-abbrev pub IsStopped : ℕ → ℕ → Stopped → Type 0
-IsStopped before after (ByFault rose) = (rose ≡ (before, after)) × HasRisen before after
-IsStopped before after ByMemory = Unit {0}
+abbrev pub IsStoppedBetween : ℕ → ℕ → Stopped → Type 0
+IsStoppedBetween before after (ByFault rose) = (rose ≡ (before, after)) × HasRisen before after
+IsStoppedBetween before after ByMemory = Unit {0}
 
 -- The export was stopped by this: by a fault only where the outlet's count of faults rose.
 pub record ExportStops (stopped : Stopped) (before after : InstanceState) : Type 0 where
   pub exports : Exports before after
-  pub cause : IsStopped before.outlet.faults after.outlet.faults stopped
+  pub cause : IsStoppedBetween before.outlet.faults after.outlet.faults stopped
   pub ended : after.exported ≡ Failed
 
 -- The one, or the other.

@@ -1,6 +1,7 @@
 -- A run as a part of a history: what it did goes on behind whichever legal history may have left what it
 -- found.
 use Rattle.std.specs.Prelude.{◌≡◌, ◌≢◌, ℕ, ◌≤◌, List, [], ◌∷◌, ◌++◌, Option, None, Some, map, slice_get}
+use Rattle.disk_api.specs.declared.disk.Disk.{Ghosts as DiskGhosts}
 use Rattle.authority_book.specs.declared.commands.Command.{Command}
 use Rattle.signer_api.specs.State.{Signed}
 use Rattle.signer_ring.specs.Calls.{Call}
@@ -56,8 +57,8 @@ desk_doubt desk_states number = doubt_of (slice_get desk_states number)
 abbrev pub HasRoomFor : Bases → List Edition → Type 0
 HasRoomFor site editions = editions ≢ [] → press_bytes_for site editions ≤ press_limit
 
--- Where the press's disk doesn't tell what it holds: its journal has room for the editions, and for the
--- one in doubt.
-abbrev pub HasPressRoom : InstanceState → Type 0
-HasPressRoom ended =
-    ended.records ≡ None → HasRoomFor ended.site (and_doubt ended.editions ended.in_doubt)
+-- Where the press's disk doesn't tell on return what it holds, and its records aren't known: its journal
+-- has room for the editions, and for the one in doubt.
+abbrev pub HasPressRoom : {D : Type 0} → DiskGhosts D → D → InstanceState → Type 0
+HasPressRoom disk_of press ended = disk_of.content press ≡ None → ended.records ≡ None
+    → HasRoomFor ended.site (and_doubt ended.editions ended.in_doubt)

@@ -12,10 +12,10 @@ use Rattle.krill_top.specs.Publishing.Unmade.{ByPress, Shut, JournalFull, DiskFa
 use Rattle.krill_top.specs.Publishing.Outcome.{Published, Unexported, Repeated, Refused}
 
 -- Of a command: the word of the desk's disk that failed, with the desk's number.
-abbrev pub keeps_of_command : Outcome → KeptValue → KeptValue
-keeps_of_command (DeskShut rise) kept = record kept { desk = Some rise }
-keeps_of_command (DeskFault rise) kept = record kept { desk = Some rise }
-keeps_of_command other kept = kept
+abbrev pub keeps_of_command_outcome : Outcome → KeptValue → KeptValue
+keeps_of_command_outcome (DeskShut rise) kept = record kept { desk = Some rise }
+keeps_of_command_outcome (DeskFault rise) kept = record kept { desk = Some rise }
+keeps_of_command_outcome other kept = kept
 
 -- Of a publication that the press refused: what met it.
 abbrev pub keeps_of_press : PressFault → KeptValue → KeptValue
@@ -28,20 +28,20 @@ keeps_of_press press.Memory kept = kept
 
 -- Of one that makes no edition: that, or the word of the press's disk that failed, or what met it where
 -- the journal has no room.
-abbrev pub keeps_of_unmade : Unmade → KeptValue → KeptValue
-keeps_of_unmade (ByPress fault) kept = keeps_of_press fault kept
-keeps_of_unmade (Shut rose) kept = record kept { press = Some rose }
-keeps_of_unmade (JournalFull held needed met) kept = record kept { journal_full = Some met }
-keeps_of_unmade (DiskFault rose) kept = record kept { press = Some rose }
+abbrev pub keeps_of_no_edition : Unmade → KeptValue → KeptValue
+keeps_of_no_edition (ByPress fault) kept = keeps_of_press fault kept
+keeps_of_no_edition (Shut rose) kept = record kept { press = Some rose }
+keeps_of_no_edition (JournalFull held needed met) kept = record kept { journal_full = Some met }
+keeps_of_no_edition (DiskFault rose) kept = record kept { press = Some rose }
 
 -- Of an export that was stopped: the word of the outlet that failed.
-abbrev pub keeps_of_export : Stopped → KeptValue → KeptValue
-keeps_of_export (ByFault rose) kept = record kept { outlet = Some rose }
-keeps_of_export ByMemory kept = kept
+abbrev pub keeps_of_stopped_export : Stopped → KeptValue → KeptValue
+keeps_of_stopped_export (ByFault rose) kept = record kept { outlet = Some rose }
+keeps_of_stopped_export ByMemory kept = kept
 
 -- Of a publication.
-abbrev pub keeps_of_publication : Publication → KeptValue → KeptValue
-keeps_of_publication (Published published) kept = kept
-keeps_of_publication (Unexported serial stopped) kept = keeps_of_export stopped kept
-keeps_of_publication (Repeated unmade) kept = keeps_of_unmade unmade kept
-keeps_of_publication (Refused serial unmade) kept = keeps_of_unmade unmade kept
+abbrev pub keeps_of_publication_outcome : Publication → KeptValue → KeptValue
+keeps_of_publication_outcome (Published published) kept = kept
+keeps_of_publication_outcome (Unexported serial stopped) kept = keeps_of_stopped_export stopped kept
+keeps_of_publication_outcome (Repeated unmade) kept = keeps_of_no_edition unmade kept
+keeps_of_publication_outcome (Refused serial unmade) kept = keeps_of_no_edition unmade kept

@@ -7,7 +7,6 @@ pub mod Publishing
 pub mod Keeps
 pub mod Reads
 pub mod Sheets
-pub mod LongLines
 pub mod Replies
 pub mod DesksInStates
 pub mod Sessions

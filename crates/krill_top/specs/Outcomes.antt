@@ -1,5 +1,6 @@
 -- What comes of a command that is given to the authority of a name.
-use Rattle.std.specs.Prelude.{◌≡◌, ℕ, ◌+◌, ◌<◌, ◌≤◌, List, [], ◌∷◌, ◌++◌, length, map, Option, None, Some, Result, Ok, Err}
+use Rattle.std.specs.Prelude.{◌≡◌, ℕ, ◌+◌, ◌<◌, ◌≤◌, List, [], ◌∷◌, ◌++◌, length, map, Option}
+use Rattle.std.specs.Prelude.{None, Some, Result, Ok, Err}
 use Rattle.authority_book.specs.declared.commands.Command.{Command}
 use Rattle.authority_book.specs.declared.refusals.Refusal.{Refusal}
 use Rattle.authority_book.specs.Verdict.{verdict_of}
@@ -41,7 +42,8 @@ pub record CanBeAccepted (number : ℕ) (desk : DeskState) (command : Command) (
   pub fits : held_in desk + needed_for command ≤ journal_limit
 
 -- The command stands at the end of its desk's, and its place there is counted from 1.
-pub record IsAccepted (number : ℕ) (command : Command) (signers count : ℕ) (was is : DeskState) : Type 0 where
+pub record IsAccepted (number : ℕ) (command : Command) (signers count : ℕ) (was is : DeskState)
+    : Type 0 where
   pub place : CanBeAccepted number was command signers
   pub grown : is ≡ record { commands = was.commands ++ command ∷ []; doubt = None }
   pub counted : count ≡ length is.commands
@@ -51,12 +53,14 @@ pub record IsShut (number : ℕ) (rise : DeskRise) (was is : DeskState) : Type 0
   pub shut : ¬ (was.doubt ≡ None)
   pub same : is ≡ was
 
-pub record IsRefused (number : ℕ) (command : Command) (signers : ℕ) (refusal : Refusal) (was is : DeskState) : Type 0 where
+pub record IsRefused (number : ℕ) (command : Command) (signers : ℕ) (refusal : Refusal)
+    (was is : DeskState) : Type 0 where
   pub is_open : was.doubt ≡ None
   pub verdict : verdict_of (fold_of number was.commands) command (Some signers) ≡ Err refusal
   pub same : is ≡ was
 
-pub record IsFull (number : ℕ) (command : Command) (signers held needed : ℕ) (was is : DeskState) : Type 0 where
+pub record IsFull (number : ℕ) (command : Command) (signers held needed : ℕ) (was is : DeskState)
+    : Type 0 where
   pub may_come : MayCome number was command signers
   pub held_is : held ≡ held_in was
   pub needed_is : needed ≡ needed_for command
@@ -64,30 +68,36 @@ pub record IsFull (number : ℕ) (command : Command) (signers held needed : ℕ)
   pub same : is ≡ was
 
 -- The disk failed while the command's record was stored. It may stand there, and no more are stored.
-pub record IsInDoubt (number : ℕ) (command : Command) (signers : ℕ) (rise : DeskRise) (was is : DeskState) : Type 0 where
+pub record IsInDoubt (number : ℕ) (command : Command) (signers : ℕ) (rise : DeskRise)
+    (was is : DeskState) : Type 0 where
   pub place : CanBeAccepted number was command signers
   pub desk : desk_of rise ≡ number
   pub doubted : is ≡ record { commands = was.commands; doubt = Some command }
 
 -- Memory was wanting, before anything was stored.
-pub record IsWithoutMemory (number : ℕ) (command : Command) (signers : ℕ) (was is : DeskState) : Type 0 where
+pub record IsWithoutMemory (number : ℕ) (command : Command) (signers : ℕ) (was is : DeskState)
+    : Type 0 where
   pub place : CanBeAccepted number was command signers
   pub same : is ≡ was
 
 -- What the desk of that number makes of a command.
 abbrev pub Does : ℕ → Command → ℕ → Outcome → DeskState → DeskState → Type 0
-Does number command signers (Accepted count) was is = IsAccepted number command signers count was is
+Does number command signers (Accepted count) was is =
+    IsAccepted number command signers count was is
 Does number command signers NoSuchAuthority was is = ⊥
 Does number command signers (Shut rise) was is = IsShut number rise was is
-Does number command signers (Verdict refusal) was is = IsRefused number command signers refusal was is
-Does number command signers (JournalFull held needed) was is = IsFull number command signers held needed was is
+Does number command signers (Verdict refusal) was is =
+    IsRefused number command signers refusal was is
+Does number command signers (JournalFull held needed) was is =
+    IsFull number command signers held needed was is
 Does number command signers (DiskFault rise) was is = IsInDoubt number command signers rise was is
 Does number command signers Memory was is = IsWithoutMemory number command signers was is
 
 -- That no authority has the name, or what the desk of that number makes of the command. No other desk
 -- changes.
 abbrev pub CommandedAt : Option ℕ → Command → ℕ → Outcome → DeskStates → DeskStates → Type 0
-CommandedAt None command signers outcome before after = (outcome ≡ NoSuchAuthority) × (after ≡ before)
+CommandedAt None command signers outcome before after =
+    (outcome ≡ NoSuchAuthority) × (after ≡ before)
 CommandedAt (Some number) command signers outcome before after =
     ChangesOne number (Does number command signers outcome) before after
 

@@ -51,13 +51,15 @@ AreBegun session begun (first ∷ rest) =
 -- The press's disk went through the run: it held the editions with which the press begins, and holds
 -- these and those that were published, with the one in doubt or without it. So does each image that a
 -- crash may leave, and all can be opened again. One is in doubt only where the disk failed in this run.
--- Where the disk told what it held the run knows the records, and these are those of the editions.
+-- Where the disk told what it held the run knows the records, and these are those of the editions; where
+-- it tells that in the end, it knows them then.
 pub record IsPressServed {D : Type 0} (disk_of : DiskGhosts D) (session : List ℕ) (old new : D)
     (begun ended : InstanceState) : Type 0 where
   pub whole : IfSome (disk_of.content old) (λ file. damaged_at press_limit file ≡ None)
   pub found : IfSome (disk_of.content old) (λ file. AreBegun session begun (recovered file))
   pub known : IfSome (disk_of.content old) (λ _. IsSome begun.records)
   pub records : IfSome begun.records (AreRecords (store_in begun) begun.editions)
+  pub told : IfSome (disk_of.content new) (λ _. IsSome ended.records)
   pub is_open : begun.in_doubt ≡ None
   pub left : IfSome (disk_of.content new) (HoldsIn ended)
   pub images : (image : List ℕ) → disk_of.may_leave new image
@@ -225,8 +227,9 @@ IsOutletLeft given loaded editions outlet Memory = IsExportedOrNot given loaded 
 IsOutletLeft given loaded editions outlet other = outlet ≡ given.outlet
 
 -- What was loaded of the disk stands there, and so it does in each image that a crash may leave.
-pub record IsStopped {D : Type 0} (disk_of : DiskGhosts D) (given : Given) (fault : OpenFault)
-    (old new : D) (signers : List SignerState) (outlet : OutletState) : Type 0 where
+pub record IsLoadedAndStopped {D : Type 0} (disk_of : DiskGhosts D) (given : Given)
+    (fault : OpenFault) (old new : D) (signers : List SignerState) (outlet : OutletState)
+    : Type 0 where
   pub loaded : LoadedValue D
   pub editions : List Edition
   pub left : IsLeftAs editions loaded

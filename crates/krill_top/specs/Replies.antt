@@ -1,5 +1,6 @@
 -- What a session is answered, line by line, over the desks and what is published of them.
-use Rattle.std.specs.Prelude.{◌≡◌, ◌⊎◌, ℕ, ◌≤◌, ◌||◌, ◌==◌, Bool, true, false, List, [], ◌∷◌, ◌++◌, length, IsTrue, Result, Ok, Err, Vec, nat_le, if◌then◌else◌}
+use Rattle.std.specs.Prelude.{◌≡◌, ◌⊎◌, ℕ, ◌≤◌, ◌||◌, ◌==◌, Bool, true, false, List, [], ◌∷◌, ◌++◌}
+use Rattle.std.specs.Prelude.{length, IsTrue, Result, Ok, Err, Vec, nat_le, if◌then◌else◌}
 use Rattle.std.specs.declared.alloc.Global.{Global}
 use Rattle.std.specs.List.{list_all}
 use Rattle.authority_book.specs.declared.commands.Command.{Command}
@@ -13,7 +14,8 @@ use Rattle.json_api.specs.declared.reply.PublishedReply.{PublishedReply}
 use Rattle.json_api.specs.Refused.{refused_spelling, verdict_spelling, fault_spelling}
 use Rattle.line_loop.specs.declared.TheConstants.{LINE_LIMIT}
 use Rattle.json_api.specs.Line.{ReadsLine}
-use Rattle.json_api.specs.Reply.{accepted_spelling, published_spelling, serial_spelling, reached_spelling}
+use Rattle.json_api.specs.Reply.{accepted_spelling, published_spelling, serial_spelling}
+use Rattle.json_api.specs.Reply.{reached_spelling}
 use Rattle.editions.specs.Edition.{state_after}
 use Rattle.editions.specs.declared.published_state.PublishedNumbers.{PublishedNumbers}
 use Rattle.press_core.specs.declared.fault.PressFault.TheVariants as press
@@ -23,15 +25,18 @@ use Rattle.krill_top.specs.DeskStates.{press_device}
 use Rattle.krill_top.specs.declared.command_fault.CommandFault.{CommandFault}
 use Rattle.krill_top.specs.declared.command_fault.CommandFault.TheVariants as faults
 use Rattle.krill_top.specs.Outcomes.{Outcome, Commanded, fault_outcome}
-use Rattle.krill_top.specs.Outcomes.Outcome.{Accepted, NoSuchAuthority, Shut as DeskShut, Verdict, JournalFull as DeskFull, DiskFault as DeskFault, Memory as DeskMemory}
-use Rattle.krill_top.specs.Keeps.{keeps_of_command, keeps_of_publication}
+use Rattle.krill_top.specs.Outcomes.Outcome.{Accepted, NoSuchAuthority, Shut as DeskShut, Verdict}
+use Rattle.krill_top.specs.Outcomes.Outcome.{JournalFull as DeskFull, DiskFault as DeskFault}
+use Rattle.krill_top.specs.Outcomes.Outcome.{Memory as DeskMemory}
+use Rattle.krill_top.specs.Keeps.{keeps_of_command_outcome, keeps_of_publication_outcome}
 use Rattle.krill_top.specs.Exports.{Stopped}
 use Rattle.krill_top.specs.Exports.Stopped.{ByFault, ByMemory}
 use Rattle.krill_top.specs.Reads.{list_reply, history_reply}
 use Rattle.krill_top.specs.Sheets.{IsShowText, IsRoasText}
 use Rattle.krill_top.specs.Publishing.{Outcome as Publication, Unmade, ComesTo, has_changed}
 use Rattle.krill_top.specs.Publishing.Unmade.{ByPress, Shut, JournalFull, DiskFault}
-use Rattle.krill_top.specs.Publishing.Outcome.{Published as Exported, Unexported, Repeated, Refused as NotMade}
+use Rattle.krill_top.specs.Publishing.Outcome.{Published as Exported, Unexported, Repeated}
+use Rattle.krill_top.specs.Publishing.Outcome.{Refused as NotMade}
 
 -- Space, tab and carriage return.
 abbrev pub is_blank_byte : ℕ → Bool
@@ -83,7 +88,7 @@ pub record CommandText (name : List ℕ) (command : Command) (before : TimedInst
   pub outcome : Outcome
   pub comes : CommandedIn name command outcome before.state after.state
   pub same_clock : after.clock ≡ before.clock
-  pub keeps : after.kept ≡ keeps_of_command outcome before.kept
+  pub keeps : after.kept ≡ keeps_of_command_outcome outcome before.kept
   pub text_is : text ≡ outcome_text name outcome
   pub changed_is : changed ≡ is_change outcome
 
@@ -130,7 +135,7 @@ pub record PublishText (before : TimedInstanceState) (text : List ℕ)
   pub read : IsReading before.clock clock after.clock
   pub outcome : Publication
   pub comes : ComesTo clock outcome before.state after.state
-  pub keeps : after.kept ≡ keeps_of_publication outcome before.kept
+  pub keeps : after.kept ≡ keeps_of_publication_outcome outcome before.kept
   pub text_is : text ≡ publish_text outcome
   pub changed_is : changed ≡ has_changed outcome
 
@@ -151,7 +156,8 @@ await_text asked state = awaited_text asked (state_after state.editions).serial
 -- What a line says gets this text.
 abbrev pub SaidText : Line → TimedInstanceState → List ℕ → Bool → TimedInstanceState
     → Type 0
-SaidText (line.Command name command) before text changed after = CommandText name command before text changed after
+SaidText (line.Command name command) before text changed after =
+    CommandText name command before text changed after
 SaidText line.Publish before text changed after = PublishText before text changed after
 SaidText line.Serial before text changed after = IsTold
     (serial_text before.state) before text changed after
@@ -170,7 +176,8 @@ SaidText (line.History name) before text changed after = IsTold
 abbrev pub ReadText : Result Line LineFault → TimedInstanceState → List ℕ → Bool
     → TimedInstanceState → Type 0
 ReadText (Ok said) before text changed after = SaidText said before text changed after
-ReadText (Err fault) before text changed after = IsTold (fault_spelling fault) before text changed after
+ReadText (Err fault) before text changed after =
+    IsTold (fault_spelling fault) before text changed after
 
 -- The text where memory was wanting.
 abbrev pub memory_text : List ℕ
@@ -183,7 +190,8 @@ bad_line_text = refused_spelling refused.BadLine
 -- The one, or that memory was wanting.
 abbrev pub IsToldOr : (TimedInstanceState → List ℕ → Bool → TimedInstanceState → Type 0)
     → TimedInstanceState → List ℕ → Bool → TimedInstanceState → Type 0
-IsToldOr P before text changed after = P before text changed after ⊎ IsTold memory_text before text changed after
+IsToldOr P before text changed after =
+    P before text changed after ⊎ IsTold memory_text before text changed after
 
 -- The text of a verdict, or that there was no memory for it, and whether it is that.
 abbrev pub IsVerdictText : Refusal → List ℕ → Bool → Type 0
@@ -226,4 +234,5 @@ pub record IsAnswer (line : List ℕ) (before : TimedInstanceState)
 abbrev pub IsReply : TimedInstanceState → List ℕ → List ℕ → Bool → TimedInstanceState
     → Type 0
 IsReply before line reply changed after =
-    (IsBlank line × IsTold [] before reply changed after) ⊎ IsAnswer line before reply changed after
+    (IsBlank line × IsTold [] before reply changed after)
+    ⊎ IsAnswer line before reply changed after

@@ -1,5 +1,7 @@
 -- What a whole run leaves.
-use Rattle.std.specs.Prelude.{◌≡◌, ◌≢◌, ◌⊎◌, ℕ, ◌≤◌, ◌<◌, ◌+◌, ◌==◌, ◌||◌, nat_lt, max, Bool, true, not, if◌then◌else◌, Result, Ok, String, Vec, List, [], ◌∷◌, ◌++◌, Option, None, Some, IfSome, All, length, map, slice_get, ⊤}
+use Rattle.std.specs.Prelude.{◌≡◌, ◌≢◌, ◌⊎◌, ℕ, ◌≤◌, ◌<◌, ◌+◌, ◌==◌, ◌||◌, nat_lt, max, Bool, true}
+use Rattle.std.specs.Prelude.{not, if◌then◌else◌, Result, Ok, String, Vec, List, [], ◌∷◌, ◌++◌}
+use Rattle.std.specs.Prelude.{Option, None, Some, IfSome, All, length, map, slice_get, ⊤}
 use Rattle.std.specs.Option.{option_map}
 use Rattle.gate_journal.specs.Format.{opened}
 use Rattle.host_calls.specs.Rise.{HasRisen}
@@ -29,7 +31,8 @@ use Rattle.key_ids.specs.Base.{IsBase, rsync_scheme, https_scheme}
 use Rattle.key_ids.specs.declared.site.SiteFault.TheVariants as site
 use Rattle.std.specs.declared.alloc.Global.{Global}
 use Rattle.krill_top.specs.Summaries.{summary_line, summary_of, no_edition}
-use Rattle.krill_top.specs.PressDisk.{Given, IsPressServed, AreAsked, IsNotLoaded, IsStopped}
+use Rattle.krill_top.specs.PressDisk.{Given, IsPressServed, AreAsked, IsNotLoaded}
+use Rattle.krill_top.specs.PressDisk.{IsLoadedAndStopped}
 use Rattle.key_ids.specs.Uris.{Bases}
 use Rattle.signer_ring.specs.Ring.{AllTell, Vouched as VouchedBy}
 use Rattle.entitle.specs.Owed.{AreOwed}
@@ -44,9 +47,12 @@ use Rattle.press_core.specs.Loading.{anchor_of}
 use Rattle.session_lines.specs.Keeping.{KeptValue, nothing_kept}
 use Rattle.session_lines.specs.declared.running.SessionEnds.{SessionEnds}
 use Rattle.krill_top.specs.declared.running.RunEnd.{RunEnd}
-use Rattle.krill_top.specs.DeskStates.{DeskStates, DeskState, most_desks, most_sessions, names_in, commands_at}
-use Rattle.krill_top.specs.InstanceState.{InstanceState, OutletState, at_clock, outlet_state, lists_of, premises_of, IsJustOpened}
-use Rattle.krill_top.specs.InstanceState.{is_exported, AreVouchedIn, VouchForCalls, IsCoherentIn, ShowsLastIn}
+use Rattle.krill_top.specs.DeskStates.{DeskStates, DeskState, most_desks, most_sessions, names_in}
+use Rattle.krill_top.specs.DeskStates.{commands_at}
+use Rattle.krill_top.specs.InstanceState.{InstanceState, OutletState, at_clock, outlet_state}
+use Rattle.krill_top.specs.InstanceState.{lists_of, premises_of, IsJustOpened}
+use Rattle.krill_top.specs.InstanceState.{is_exported, AreVouchedIn, VouchForCalls, IsCoherentIn}
+use Rattle.krill_top.specs.InstanceState.{ShowsLastIn}
 use Rattle.histories.specs.Events.{History}
 use Rattle.histories.specs.Work.{GoesOnAs}
 use Rattle.krill_top.specs.Histories.{HasPressRoom, MayFind, and_doubt, signatures, work_of}
@@ -136,7 +142,8 @@ IsNext number desk command =
 -- begins, and holds these and the accepted ones, in order, with the one in doubt or without it. So does
 -- each image that a crash may leave, and all can be opened again. A command is in doubt only where the
 -- disk failed in this run.
-pub record IsKept {D : Type 0} (disk_of : DiskGhosts D) (number : ℕ) (old new : D) (begun ended : DeskState) : Type 0 where
+pub record IsKept {D : Type 0} (disk_of : DiskGhosts D) (number : ℕ) (old new : D)
+    (begun ended : DeskState) : Type 0 where
   pub found : RecoveredTo (disk_of.content old) number begun.commands
   pub is_open : begun.doubt ≡ None
   pub accepted : List Command
@@ -144,37 +151,46 @@ pub record IsKept {D : Type 0} (disk_of : DiskGhosts D) (number : ℕ) (old new 
   pub recorded : Records number (map spelling ended.commands) ended.commands
   pub next : IfSome ended.doubt (IsNext number ended)
   pub left : IsSafe disk_of ended.commands ended.doubt new
-  pub cause : ¬ (ended.doubt ≡ None) → RoseWithin (disk_of.fault_count old) (disk_of.fault_count new)
+  pub cause : ¬ (ended.doubt ≡ None)
+      → RoseWithin (disk_of.fault_count old) (disk_of.fault_count new)
   pub later : disk_of.fault_count old ≤ disk_of.fault_count new
 
 -- And a known disk's bytes are those that opening made of it, with the accepted commands' records.
-pub record IsServed {D : Type 0} (disk_of : DiskGhosts D) (number : ℕ) (old new : D) (begun ended : DeskState) : Type 0 where
+pub record IsServed {D : Type 0} (disk_of : DiskGhosts D) (number : ℕ) (old new : D)
+    (begun ended : DeskState) : Type 0 where
   pub kept : IsKept disk_of number old new begun ended
   pub bytes : ended.doubt ≡ None → disk_of.content new
-      ≡ option_map (all_stored (map spelling begun.commands) (map spelling kept.accepted)) (option_map opened (disk_of.content old))
+      ≡ option_map (all_stored (map spelling begun.commands) (map spelling kept.accepted))
+      (option_map opened (disk_of.content old))
 
 -- So of a number's disk, if there is one.
-abbrev pub IsServedAt : {D : Type 0} → DiskGhosts D → ℕ → Option D → Option D → Option DeskState → Option DeskState → Type 0
+abbrev pub IsServedAt : {D : Type 0} → DiskGhosts D → ℕ → Option D → Option D → Option DeskState
+    → Option DeskState → Type 0
 IsServedAt disk_of number None None None None = ⊤
-IsServedAt disk_of number (Some old) (Some new) (Some begun) (Some ended) = IsServed disk_of number old new begun ended
+IsServedAt disk_of number (Some old) (Some new) (Some begun) (Some ended) =
+    IsServed disk_of number old new begun ended
 IsServedAt disk_of number old new begun ended = ⊥
 
 -- So of each disk.
 abbrev pub AreServed : {D : Type 0} → DiskGhosts D → List D → List D → DeskStates → DeskStates
     → Type 0
 AreServed disk_of old new begun ended = (number : ℕ)
-    → IsServedAt disk_of number (slice_get old number) (slice_get new number) (slice_get begun number) (slice_get ended number)
+    → IsServedAt disk_of number (slice_get old number) (slice_get new number)
+    (slice_get begun number) (slice_get ended number)
 
 -- The same without the bytes.
-abbrev pub IsKeptAt : {D : Type 0} → DiskGhosts D → ℕ → Option D → Option D → Option DeskState → Option DeskState → Type 0
+abbrev pub IsKeptAt : {D : Type 0} → DiskGhosts D → ℕ → Option D → Option D → Option DeskState
+    → Option DeskState → Type 0
 IsKeptAt disk_of number None None None None = ⊤
-IsKeptAt disk_of number (Some old) (Some new) (Some begun) (Some ended) = IsKept disk_of number old new begun ended
+IsKeptAt disk_of number (Some old) (Some new) (Some begun) (Some ended) =
+    IsKept disk_of number old new begun ended
 IsKeptAt disk_of number old new begun ended = ⊥
 
 abbrev pub AreKept : {D : Type 0} → DiskGhosts D → List D → List D → DeskStates → DeskStates
     → Type 0
 AreKept disk_of old new begun ended = (number : ℕ)
-    → IsKeptAt disk_of number (slice_get old number) (slice_get new number) (slice_get begun number) (slice_get ended number)
+    → IsKeptAt disk_of number (slice_get old number) (slice_get new number)
+    (slice_get begun number) (slice_get ended number)
 
 -- ---- signers
 
@@ -220,7 +236,7 @@ pub record IsLoadedInVain {D : Type 0} (disk_of : DiskGhosts D) (given : Given)
     (fault : OpenFault) (old new : D) (signers : List SignerState) (outlet : OutletState)
     : Type 0 where
   pub there : signers_needed (names_in given.found) ≤ length given.signers
-  pub stopped : IsStopped disk_of given fault old new signers outlet
+  pub stopped : IsLoadedAndStopped disk_of given fault old new signers outlet
 
 abbrev pub IsBehind : {D : Type 0} → DiskGhosts D → Given → OpenFault → D → D
     → List SignerState → OutletState → Type 0
@@ -237,7 +253,8 @@ pub record IsClosedAgain {D G O : Type 0} (disk_of : DiskGhosts D) (state_of : G
   pub asked : AreAsked fault (map state_of old.signers.items) (map state_of new.signers.items)
   pub behind : IsBehind disk_of
       (given_with state_of outlet_of site session found old.signers.items old.outlet)
-      fault old.press new.press (map state_of new.signers.items) (outlet_state outlet_of new.outlet)
+      fault old.press new.press (map state_of new.signers.items)
+      (outlet_state outlet_of new.outlet)
 
 -- A desk wasn't opened: nothing else was called.
 pub record IsDeskRefused {D G O : Type 0} (disk_of : DiskGhosts D) (state_of : G → SignerState)
@@ -341,6 +358,25 @@ pub record Leaves {D G S K O C : Type 0} (disk_of : DiskGhosts D) (state_of : G 
   -- as it is where the run ended well
   pub well : run.status ≡ 0 → (ended.editions ≡ []) ⊎ ShowsLastIn ended
 
+-- What a run leaves that opened desks and press and changed nothing of them. It is a part of a history,
+-- too: behind each legal one that may have left what was found, it is a reopening and no more.
+pub record LeavesFound {D G S K O C : Type 0} (disk_of : DiskGhosts D) (state_of : G → SignerState)
+    (outlet_of : OutletGhosts O) (random : List ℕ) (ends : Ends D G O)
+    (opened begun : InstanceState) (run : RunEnd D G S K O C) : Type 0 where
+  pub disks : AreServed disk_of ends.desks.items run.ends.desks.items
+      begun.desk_states begun.desk_states
+  pub press : IsPressServed disk_of (session_of random) ends.press run.ends.press begun begun
+  pub signers_ended : map state_of run.ends.signers.items ≡ begun.signers
+  pub outlet_ended : outlet_state outlet_of run.ends.outlet ≡ begun.outlet
+  pub coherent : IsCoherentIn opened → IsCoherentIn begun
+  pub shown : (begun.editions ≡ []) ⊎ ShowsLastIn begun
+  pub goes_on : (history : History) → MayFind history begun
+      → GoesOnAs begun.site history (signatures begun.calls) (work_of begun begun)
+  -- and whatever a crash on return leaves is what a reopening behind that may find
+  pub crash : (images : ℕ → List ℕ) (image : List ℕ)
+      → MayBeLeft disk_of run.ends.desks.items run.ends.press images image
+      → IsReopened begun begun images image
+
 -- A run that opened all, served its session over it, exported the last edition again where it wasn't
 -- exported, and hands all back. The session's clock was read for its publications alone. A fault of the
 -- source or the sink comes only where it failed in this run.
@@ -364,22 +400,28 @@ pub record ServesOne {D G S K O C : Type 0} (disk_of : DiskGhosts D) (state_of :
       (at_clock (clock_of.readings before.clock) nothing_kept begun)
       (at_clock (clock_of.readings after.clock) run.kept served)
   pub repeats : Repeats closing served ended
-  pub disks : AreServed disk_of ends.desks.items run.ends.desks.items begun.desk_states ended.desk_states
+  pub disks : AreServed disk_of ends.desks.items run.ends.desks.items
+      begun.desk_states ended.desk_states
   pub leaves : Leaves disk_of state_of outlet_of random ends opened begun ended run
   pub published : (vouched : Vouched) → AreVouchedIn vouched ended
       → AreFoundSound (premises_of vouched ended) begun.editions leaves.grown.0
-  -- of those that were found, too, and of the one in doubt
-  pub cuts : (vouched : Vouched) → AreVouchedIn vouched ended
-      → All (TakesNoMore ended.desk_states) (and_doubt ended.editions ended.in_doubt)
+  -- whatever is vouched, also of the one in doubt
+  pub cuts : All (TakesNoMore ended.desk_states) (and_doubt leaves.grown.0 ended.in_doubt)
+  -- and of those that were found, where they are steps
+  pub found_cuts : (vouched : Vouched) → AreVouchedIn vouched ended
+      → All (TakesNoMore ended.desk_states) begun.editions
   -- and what the run did, and its signers signed, is a part of a legal history
-  pub goes_on : HasPressRoom ended → (history : History) → MayFind history begun
+  pub goes_on : HasPressRoom disk_of run.ends.press ended
+      → (history : History) → MayFind history begun
       → GoesOnAs begun.site history (signatures ended.calls) (work_of begun ended)
   -- and whatever a crash on return leaves is what a reopening behind that may find
   pub crash : (images : ℕ → List ℕ) (image : List ℕ)
       → MayBeLeft disk_of run.ends.desks.items run.ends.press images image
       → IsReopened begun ended images image
-  pub source_fault : end ≡ SourceFault → HasRisen (source_of.fault_count before.source) (source_of.fault_count after.source)
-  pub sink_fault : end ≡ SinkFault → HasRisen (sink_of.fault_count before.sink) (sink_of.fault_count after.sink)
+  pub source_fault : end ≡ SourceFault
+      → HasRisen (source_of.fault_count before.source) (source_of.fault_count after.source)
+  pub sink_fault : end ≡ SinkFault
+      → HasRisen (sink_of.fault_count before.sink) (sink_of.fault_count after.sink)
   pub source_later : source_of.fault_count before.source ≤ source_of.fault_count after.source
   pub sink_later : sink_of.fault_count before.sink ≤ sink_of.fault_count after.sink
 
@@ -401,12 +443,7 @@ pub record TellsOne {D G S K O C : Type 0} (disk_of : DiskGhosts D) (state_of : 
   pub same_clock : after.clock ≡ before.clock
   pub opens : Opens disk_of state_of outlet_of site ends opened begun summary
   pub tells : Tells sink_of (summary_line summary) run.fault before.sink after.sink
-  pub disks : AreServed disk_of ends.desks.items run.ends.desks.items begun.desk_states begun.desk_states
-  pub press : IsPressServed disk_of (session_of random) ends.press run.ends.press begun begun
-  pub signers_ended : map state_of run.ends.signers.items ≡ begun.signers
-  pub outlet_ended : outlet_state outlet_of run.ends.outlet ≡ begun.outlet
-  pub coherent : IsCoherentIn opened → IsCoherentIn begun
-  pub shown : (begun.editions ≡ []) ⊎ ShowsLastIn begun
+  pub leaves : LeavesFound disk_of state_of outlet_of random ends opened begun run
 
 -- ---- a run of a workload
 
@@ -433,12 +470,7 @@ pub record FindsHeld {D G S K O C : Type 0} (disk_of : DiskGhosts D) (state_of :
   pub status : run.status ≡ 3
   pub fault : run.fault ≡ Some (faults.NotEmpty desk held)
   pub opens : Opens disk_of state_of outlet_of site ends opened begun summary
-  pub disks : AreServed disk_of ends.desks.items run.ends.desks.items begun.desk_states begun.desk_states
-  pub press : IsPressServed disk_of (session_of random) ends.press run.ends.press begun begun
-  pub signers_ended : map state_of run.ends.signers.items ≡ begun.signers
-  pub outlet_ended : outlet_state outlet_of run.ends.outlet ≡ begun.outlet
-  pub coherent : IsCoherentIn opened → IsCoherentIn begun
-  pub shown : (begun.editions ≡ []) ⊎ ShowsLastIn begun
+  pub leaves : LeavesFound disk_of state_of outlet_of random ends opened begun run
 
 -- A run that opened all, found that no desk holds a command, gave the generated commands, published
 -- these and told of that, up to the first of these steps that was refused or failed, and hands all back. No
@@ -461,15 +493,19 @@ pub record WorksOne {D G S K O C : Type 0} (disk_of : DiskGhosts D) (state_of : 
   pub opens : Opens disk_of state_of outlet_of site ends opened begun summary
   pub works : Works sink_of authorities result
       (worked_by clock_of before nothing_kept begun) (worked_by clock_of after run.kept ended)
-  pub disks : AreServed disk_of ends.desks.items run.ends.desks.items begun.desk_states ended.desk_states
+  pub disks : AreServed disk_of ends.desks.items run.ends.desks.items
+      begun.desk_states ended.desk_states
   pub leaves : Leaves disk_of state_of outlet_of random ends opened begun ended run
   pub published : (vouched : Vouched) → AreVouchedIn vouched ended
       → AreFoundSound (premises_of vouched ended) begun.editions leaves.grown.0
-  -- of those that were found, too, and of the one in doubt
-  pub cuts : (vouched : Vouched) → AreVouchedIn vouched ended
-      → All (TakesNoMore ended.desk_states) (and_doubt ended.editions ended.in_doubt)
+  -- whatever is vouched, also of the one in doubt
+  pub cuts : All (TakesNoMore ended.desk_states) (and_doubt leaves.grown.0 ended.in_doubt)
+  -- and of those that were found, where they are steps
+  pub found_cuts : (vouched : Vouched) → AreVouchedIn vouched ended
+      → All (TakesNoMore ended.desk_states) begun.editions
   -- and what the run did, and its signers signed, is a part of a legal history
-  pub goes_on : HasPressRoom ended → (history : History) → MayFind history begun
+  pub goes_on : HasPressRoom disk_of run.ends.press ended
+      → (history : History) → MayFind history begun
       → GoesOnAs begun.site history (signatures ended.calls) (work_of begun ended)
   -- and whatever a crash on return leaves is what a reopening behind that may find
   pub crash : (images : ℕ → List ℕ) (image : List ℕ)

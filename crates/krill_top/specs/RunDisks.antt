@@ -1,5 +1,6 @@
 -- The disks of a run's desks, as they were handed in and as they are handed back.
-use Rattle.std.specs.Prelude.{◌≡◌, ◌⊎◌, ℕ, ◌≤◌, suc, Option, None, Some, List, [], ◌∷◌, ◌++◌, length, map, IfSome, ⊤}
+use Rattle.std.specs.Prelude.{◌≡◌, ◌⊎◌, ℕ, ◌≤◌, suc, Option, None, Some, List, [], ◌∷◌, ◌++◌}
+use Rattle.std.specs.Prelude.{length, map, IfSome, ⊤}
 use Rattle.std.specs.Option.{option_map}
 use Rattle.host_calls.specs.Rise.{HasRisen}
 use Rattle.disk_api.specs.Content.{BothKnown}
@@ -11,17 +12,23 @@ use Rattle.desk_core.specs.View.{journal_limit}
 use Rattle.desk_core.specs.Commands.{Records, IsFirstBad}
 use Rattle.desk_core.specs.Images.{RecoversTo, RecoversToKnown}
 use Rattle.krill_top.specs.declared.faults.OpenFault.{OpenFault}
-use Rattle.krill_top.specs.declared.faults.OpenFault.TheVariants.{Damaged, BadRecord, DiskFault, Memory}
+use Rattle.krill_top.specs.declared.faults.OpenFault.TheVariants.{Damaged, BadRecord, DiskFault}
+use Rattle.krill_top.specs.declared.faults.OpenFault.TheVariants.{Memory}
 
 -- The disk, if it is known, recovers to the records of these commands of the desk.
 abbrev pub RecoveredTo : Option (List ℕ) → ℕ → List Command → Type 0
 RecoveredTo content number commands =
-    IfSome content (λ bytes. (damaged_at journal_limit bytes ≡ None) × Records number (recovered bytes) commands)
+    IfSome content (λ bytes.
+    (damaged_at journal_limit bytes ≡ None) × Records number (recovered bytes) commands)
 
 -- The disk recovers to these commands, and perhaps the one in doubt, and so does each image.
-pub record IsSafe {D : Type 0} (disk_of : DiskGhosts D) (commands : List Command) (doubt : Option Command) (disk : D) : Type 0 where
-  pub known : IfSome (disk_of.content disk) (RecoversTo (map spelling commands) (option_map spelling doubt))
-  pub images : (c : List ℕ) → disk_of.may_leave disk c → RecoversToKnown (disk_of.content disk) (map spelling commands) (option_map spelling doubt) c
+pub record IsSafe {D : Type 0} (disk_of : DiskGhosts D) (commands : List Command)
+    (doubt : Option Command) (disk : D) : Type 0 where
+  pub known : IfSome (disk_of.content disk)
+      (RecoversTo (map spelling commands) (option_map spelling doubt))
+  pub images : (c : List ℕ) → disk_of.may_leave disk c
+      → RecoversToKnown (disk_of.content disk) (map spelling commands)
+      (option_map spelling doubt) c
 
 -- A desk that got no command: its disk holds what it held, and its bytes are those that opening made of
 -- them.
@@ -47,22 +54,27 @@ IsCause disk_of (Damaged device at) number old new = (device ≡ number)
     × (disk_of.content new ≡ disk_of.content old)
     × IfSome (disk_of.content old) (λ bytes. damaged_at journal_limit bytes ≡ Some at)
 IsCause disk_of (BadRecord device at) number old new = (device ≡ number)
-    × IfSome (disk_of.content old) (λ bytes. (damaged_at journal_limit bytes ≡ None) × IsFirstBad number (recovered bytes) at)
-IsCause disk_of (DiskFault device) number old new = (device ≡ number) × HasRisen (disk_of.fault_count old) (disk_of.fault_count new)
+    × IfSome (disk_of.content old) (λ bytes.
+    (damaged_at journal_limit bytes ≡ None) × IsFirstBad number (recovered bytes) at)
+IsCause disk_of (DiskFault device) number old new =
+    (device ≡ number) × HasRisen (disk_of.fault_count old) (disk_of.fault_count new)
 IsCause disk_of Memory number old new = ⊤
 IsCause disk_of other number old new = ⊥
 
 -- A disk that wasn't opened recovers to the records that it recovered to, a longer file is as it was, and
 -- what a crash may leave recovers to them too, if it isn't what a crash might have left before.
 pub record RecoversAsBefore {D : Type 0} (disk_of : DiskGhosts D) (old new : D) : Type 0 where
-  pub records : option_map recovered (disk_of.content new) ≡ option_map recovered (disk_of.content old)
+  pub records : option_map recovered (disk_of.content new)
+      ≡ option_map recovered (disk_of.content old)
   pub bytes : BothKnown IsUnopened (disk_of.content old) (disk_of.content new)
-  pub images : (c : List ℕ) → disk_of.may_leave new c → disk_of.may_leave old c ⊎ IfSome (disk_of.content old) (λ bytes. RecoversTo (recovered bytes) None c)
+  pub images : (c : List ℕ) → disk_of.may_leave new c → disk_of.may_leave old c
+      ⊎ IfSome (disk_of.content old) (λ bytes. RecoversTo (recovered bytes) None c)
   pub later : disk_of.fault_count old ≤ disk_of.fault_count new
 
 -- The desks before one were opened and closed again, that one wasn't opened, and those behind it are
 -- untouched.
-pub record StopsAt {D : Type 0} (disk_of : DiskGhosts D) (fault : OpenFault) (olds news : List D) : Type 0 where
+pub record StopsAt {D : Type 0} (disk_of : DiskGhosts D) (fault : OpenFault) (olds news : List D)
+    : Type 0 where
   pub before : List D
   pub old : D
   pub rest : List D

@@ -41,13 +41,10 @@ use Rattle.krill_top.specs.Exports.{stop_of}
 use Rattle.histories.specs.Events.{History}
 use Rattle.histories.specs.Work.{GoesOnAs}
 use Rattle.krill_top.specs.Histories.{MayFind, HasPressRoom, and_doubt, signatures, work_of}
-use Rattle.krill_top.specs.InstanceState.{InstanceState, lists_of, outlet_state, premises_of, AreVouchedIn}
-use Rattle.krill_top.specs.InstanceState.{is_exported, IsCoherentIn, ShowsLastIn}
-use Rattle.krill_top.specs.PressDisk.{IsPressServed}
-use Rattle.krill_top.specs.Session.{session_of}
+use Rattle.krill_top.specs.InstanceState.{InstanceState, is_exported, lists_of, premises_of, AreVouchedIn}
 use Rattle.krill_top.specs.Crashes.{MayBeLeft, IsReopened}
 use Rattle.krill_top.specs.SoundEditions.{AreFoundSound, TakesNoMore}
-use Rattle.krill_top.specs.Run.{AreKept, AreServed, Leaves, Opens}
+use Rattle.krill_top.specs.Run.{AreKept, Leaves, LeavesFound, Opens}
 use Rattle.krill_top.specs.Statuses.{fault_of, export_fault, graver, run_status}
 
 -- ---- what the sessions know
@@ -156,14 +153,14 @@ pub record IsNoneServed {D O S K C : Type 0} (left : List PassValue)
 -- ---- what stands in the end
 
 -- The last export failed: by a fault only where the outlet's count of faults rose in this run.
-pub record IsUnexported (stopped : OutletStop) (begun ended : InstanceState) : Type 0 where
+pub record IsLeftUnexported (stopped : OutletStop) (begun ended : InstanceState) : Type 0 where
   pub failed : ended.exported ≡ Failed
   pub cause : stopped ≡ stop.Fault → RoseWithin begun.outlet.faults ended.outlet.faults
 
 -- The last edition is exported in the end: where it wasn't, it was exported again. Or it couldn't be.
 abbrev pub Closes : {O : Type 0} → Result Bool (ExportFault O) → InstanceState → InstanceState → Type 0
 Closes (Ok told) begun ended = is_exported ended ≡ true
-Closes (Err fault) begun ended = IsUnexported (stop_of fault) begun ended
+Closes (Err fault) begun ended = IsLeftUnexported (stop_of fault) begun ended
 
 -- A run that opened desks and press, served its sessions over them at the same time, exported the last
 -- edition again where it wasn't exported, and hands all back. What each session was answered is of what
@@ -204,7 +201,8 @@ pub record ServesAll {D G S K O C : Type 0} (disk_of : DiskGhosts D) (state_of :
       → All (TakesNoMore ended.desk_states) begun.editions
   pub published : (vouched : Vouched) → AreVouchedIn vouched ended
       → AreFoundSound (premises_of vouched ended) begun.editions leaves.grown.0
-  pub goes_on : HasPressRoom ended → (history : History) → MayFind history begun
+  pub goes_on : HasPressRoom disk_of run.ends.press ended
+      → (history : History) → MayFind history begun
       → GoesOnAs begun.site history (signatures ended.calls) (work_of begun ended)
   -- and whatever a crash on return leaves is what a reopening behind that may find
   pub crash : (images : ℕ → List ℕ) (image : List ℕ)
@@ -224,12 +222,7 @@ pub record ServesNone {D G S K O C : Type 0} (disk_of : DiskGhosts D) (state_of 
   pub status : run.status ≡ 6
   pub fault : run.fault ≡ Some faults.Memory
   pub opens : Opens disk_of state_of outlet_of site ends opened begun summary
-  pub disks : AreServed disk_of ends.desks.items run.ends.desks.items begun.desk_states begun.desk_states
-  pub press : IsPressServed disk_of (session_of random) ends.press run.ends.press begun begun
-  pub signers_ended : map state_of run.ends.signers.items ≡ begun.signers
-  pub outlet_ended : outlet_state outlet_of run.ends.outlet ≡ begun.outlet
-  pub coherent : IsCoherentIn opened → IsCoherentIn begun
-  pub shown : (begun.editions ≡ []) ⊎ ShowsLastIn begun
+  pub leaves : LeavesFound disk_of state_of outlet_of random ends opened begun run
 
 -- What is done with several sessions.
 abbrev pub ServesMany : {D G S K O C : Type 0} → DiskGhosts D → (G → SignerState) → OutletGhosts O

@@ -9,7 +9,7 @@ use Rattle.krill_top.specs.declared.faults.RunFault.TheVariants as faults
 use Rattle.krill_top.specs.declared.generated.Wanted.{Wanted}
 use Rattle.krill_top.specs.Generated.{IsCommandOf, generated, changed}
 use Rattle.krill_top.specs.InstanceState.{TimedInstanceState}
-use Rattle.krill_top.specs.Keeps.{keeps_of_command, keeps_of_publication}
+use Rattle.krill_top.specs.Keeps.{keeps_of_command_outcome, keeps_of_publication_outcome}
 use Rattle.krill_top.specs.Outcomes.{Outcome}
 use Rattle.krill_top.specs.Outcomes.Outcome.{Accepted, Verdict, Memory}
 use Rattle.krill_top.specs.Publishing.{Outcome as Publication, ComesTo}
@@ -56,7 +56,7 @@ pub record IsRefused (name : List ℕ) (command : Command) (reply : List ℕ)
   pub outcome : Outcome
   pub comes : CommandedIn name command outcome before.state after.state
   pub same_clock : after.clock ≡ before.clock
-  pub keeps : after.kept ≡ keeps_of_command outcome before.kept
+  pub keeps : after.kept ≡ keeps_of_command_outcome outcome before.kept
   pub told : IsRefusalOf name outcome reply fault
 
 -- It was given, and was accepted or not.
@@ -125,7 +125,7 @@ pub record PublishesAt (outcome : Publication) (before after : TimedInstanceStat
   pub clock : ℕ
   pub read : IsReading before.clock clock after.clock
   pub comes : ComesTo clock outcome before.state after.state
-  pub keeps : after.kept ≡ keeps_of_publication outcome before.kept
+  pub keeps : after.kept ≡ keeps_of_publication_outcome outcome before.kept
 
 -- What was published is exported, or a reply says why not, and that is a fault or not.
 abbrev pub IsPublishedOrTold : Publication → Result PublishedNumbers (Option RunFault)

@@ -1,5 +1,6 @@
 -- Scaffolding: words that only private contracts, invariants and proofs need.
 pub mod Room
+pub mod RunLaws
 pub mod Instances
 pub mod Handlers
 pub mod Opened

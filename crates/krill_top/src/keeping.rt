@@ -1,7 +1,7 @@
 //! What is kept of refusals where a session has the instance to itself.
 
 ghost use Rattle.std.specs.Prelude.{◌≡◌};
-ghost use Rattle.krill_top.specs.Keeps.{keeps_of_command, keeps_of_publication, keeps_of_unmade};
+ghost use Rattle.krill_top.specs.Keeps.{keeps_of_command_outcome, keeps_of_publication_outcome, keeps_of_no_edition};
 ghost use Rattle.krill_top.specs.Outcomes.{fault_outcome};
 ghost use Rattle.krill_top.specs.Publishing.{outcome_of, unmade_of};
 
@@ -16,7 +16,7 @@ use session_lines::Kept;
 
 /// Keeps what the refusal of a command has.
 pub(crate) fn keep_command<D: Disk, O: Outlet>(kept: &mut Kept<D, O>, fault: CommandFault<D>)
-    ensures { kept.new ≡ keeps_of_command (fault_outcome fault) kept.old }
+    ensures { kept.new ≡ keeps_of_command_outcome (fault_outcome fault) kept.old }
 {
     match fault {
         CommandFault::Shut { rose } => kept.keep_desk(DeskFault::Shut { rose }),
@@ -33,7 +33,7 @@ pub(crate) fn keep_publication<D: Disk, O: Outlet>(
     kept: &mut Kept<D, O>,
     publication: Publication<D, O>,
 )
-    ensures { kept.new ≡ keeps_of_publication (outcome_of publication) kept.old }
+    ensures { kept.new ≡ keeps_of_publication_outcome (outcome_of publication) kept.old }
 {
     match publication {
         Publication::Published { .. } => {}
@@ -46,7 +46,7 @@ pub(crate) fn keep_publication<D: Disk, O: Outlet>(
 
 // Keeps why no edition is made.
 fn keep_unmade<D: Disk, O: Outlet>(kept: &mut Kept<D, O>, fault: PublishFault<D>)
-    ensures { kept.new ≡ keeps_of_unmade (unmade_of fault) kept.old }
+    ensures { kept.new ≡ keeps_of_no_edition (unmade_of fault) kept.old }
 {
     match fault {
         PublishFault::Unprepared { fault } => kept.keep_unmade(Unmade::Unprepared { fault }),

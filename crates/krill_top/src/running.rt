@@ -25,6 +25,7 @@ use crate::ends::Ends;
 use crate::faults::{OpenFault, RunFault};
 use crate::fronts::{put_in_front, take_first};
 use crate::handler::Handler;
+use crate::laws::laws_of_runs;
 use crate::serving::Session;
 use crate::session_id::session_of;
 use crate::sharing::serve_many;
@@ -33,18 +34,11 @@ use crate::starting::{NotStarted, SIGNERS_WRONG, Started, start, stop};
 use crate::summary::Summary;
 use crate::words::{Asked, Doing, read_words};
 use crate::working::{ended_by, work};
-use cmd_codec::listed_names_are_names;
-use desk_core::commands_are_determined;
 use disk_api::Disk;
-use editions::{
-    accepted_names_are_apart, editions_are_published, editions_leave_a_set, steps_stay_steps,
-};
-use histories::{headline, legal_histories_go_on, what_a_press_holds, what_was_done_goes_on};
 use key_ids::Site;
 use line_loop::{Clock, SessionEnd, Sink, Source};
 use manager::MOST_SESSIONS;
 use outlet_api::{ExportFault, Outlet};
-use press_core::{edition_records_go_on, more_editions_stay_shown, records_tell_one_store};
 use session_lines::{Kept, SessionEnds};
 use signer_api::Signer;
 use std::alloc::Global;
@@ -129,19 +123,7 @@ fn serve_one<R: Threads + Sync, D: Disk, G: Signer + Send, S: Source, K: Sink, O
         → IsStarted D.Disk G.state O.Outlet bases (session_of random) ends started → sessions.items ≡ before ∷ []
         → ServesOne D.Disk G.state O.Outlet S.Source K.Sink C.Clock bases random ends before result }
 {
-    more_editions_stay_shown();
-    edition_records_go_on();
-    headline();
-    legal_histories_go_on();
-    what_was_done_goes_on();
-    what_a_press_holds();
-    steps_stay_steps();
-    accepted_names_are_apart();
-    listed_names_are_names();
-    editions_leave_a_set();
-    editions_are_published();
-    commands_are_determined();
-    records_tell_one_store();
+    laws_of_runs();
     let Started {
         instance,
         summary,
@@ -185,7 +167,7 @@ fn tell_one<D: Disk, G: Signer, S: Source, K: Sink, O: Outlet, C: Clock>(
         → IsStarted D.Disk G.state O.Outlet bases (session_of random) ends started → sessions.items ≡ before ∷ []
         → TellsOne D.Disk G.state O.Outlet K.Sink bases random ends before result }
 {
-    edition_records_go_on();
+    laws_of_runs();
     let mut sessions = sessions;
     let SessionEnds {
         source,
@@ -247,7 +229,7 @@ fn refuse_held<D: Disk, G: Signer, S: Source, K: Sink, O: Outlet, C: Clock>(
         → IsStarted D.Disk G.state O.Outlet bases (session_of random) ends started → sessions.items ≡ before ∷ []
         → FindsHeld D.Disk G.state O.Outlet bases random ends before result }
 {
-    edition_records_go_on();
+    laws_of_runs();
     let (desk, held) = found;
     let fault = RunFault::NotEmpty { desk, held };
     run_end(Some(fault), stop(started), sessions, Kept::new())
@@ -269,19 +251,7 @@ fn work_over<R: Threads + Sync, D: Disk, G: Signer + Send, S: Source, K: Sink, O
         → IsStarted D.Disk G.state O.Outlet bases (session_of random) ends started → sessions.items ≡ before ∷ []
         → WorksOne D.Disk G.state O.Outlet K.Sink C.Clock authorities bases random ends before result }
 {
-    more_editions_stay_shown();
-    edition_records_go_on();
-    headline();
-    legal_histories_go_on();
-    what_was_done_goes_on();
-    what_a_press_holds();
-    steps_stay_steps();
-    accepted_names_are_apart();
-    listed_names_are_names();
-    editions_leave_a_set();
-    editions_are_published();
-    commands_are_determined();
-    records_tell_one_store();
+    laws_of_runs();
     let Started {
         instance,
         summary,

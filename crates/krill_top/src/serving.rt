@@ -1,10 +1,11 @@
 //! A session: its lines, answered over the instance.
 
-ghost use Rattle.std.specs.Prelude.{◌≡◌, ◌≤◌, ℕ, List, ◌++◌, IfOk, OnErr};
+ghost use Rattle.std.specs.Prelude.{◌≡◌, ◌≤◌, ℕ, List, [], ◌++◌, IfOk, OnErr};
 ghost use Rattle.host_calls.specs.Rise.{HasRisen};
 ghost use Rattle.krill_top.specs.inner.Handlers.{timed};
 ghost use Rattle.krill_top.specs.inner.Instances.{MayReply};
 ghost use Rattle.krill_top.specs.Sessions.{Served};
+ghost use Rattle.session_lines.specs.LongLines.{IsLongAlone};
 
 use crate::handler::Handler;
 use disk_api::Disk;
@@ -21,7 +22,8 @@ impl Session {
     /// Answers the session's lines, each once and in order, until the session ends. The handler has its
     /// clock.
     ///
-    /// Before it waits for more input it has given the replies to all lines that have come.
+    /// Before it waits for more input it has given the replies to all lines that have come, and before it answers a
+    /// line that takes long, those to the lines before that.
     pub fn serve<
         R: Threads + Sync,
         D: Disk,
@@ -49,6 +51,7 @@ impl Session {
         let answer = |handler: &mut Handler<D, G, O, C>, alloc: Global, line: &[u8], out: &mut Vec<
             u8,
         >| -> Result<bool, AllocError>
+            requires none_waits { IsLongAlone line.now → out.old.items ≡ [] }
             ensures ok { IfOk result (λ changed. (reply : List ℕ)
                 × MayReply D.Disk O.Outlet (timed C.Clock handler.old) line.now reply changed (timed C.Clock handler.new)
                 × (out.new.items ≡ out.old.items ++ reply)) }

@@ -18,24 +18,20 @@ ghost use Rattle.krill_top.specs.inner.Started.{IsResumedIn, IsStarted};
 use crate::ends::Ends;
 use crate::faults::RunFault;
 use crate::instance::InstanceParts;
+use crate::laws::laws_of_runs;
 use crate::opening::{Opened, close_desks};
 use crate::running::{RunEnd, export_fault, fault_of, run_end};
 use crate::sinks::graver;
 use crate::starting::Started;
-use desk_core::{Desk, commands_are_determined};
+use desk_core::Desk;
 use disk_api::Disk;
-use editions::steps_stay_steps;
-use histories::{headline, legal_histories_go_on, what_a_press_holds, what_was_done_goes_on};
 use line_loop::{Clock, SessionEnd, Sink, Source};
 use manager::{
     ClosedStore, ReadyStore, StoreParts, UnreadyStore, UnstartedStore, make_store_ready,
     ready_stores_can_start,
 };
 use outlet_api::Outlet;
-use press_core::{
-    edition_records_go_on, more_commands_stand, more_commands_stay_published,
-    more_editions_stay_shown, records_tell_one_store,
-};
+use press_core::{more_commands_stand, more_commands_stay_published};
 use session_lines::{
     Kept, ServedStore, SessionEnds, SessionOutcome, serve_store, sessions_make_what_is_accepted,
 };
@@ -69,19 +65,11 @@ pub(crate) fn serve_many<
         → IsStarted D.Disk G.state O.Outlet bases (session_of random) ends started
         → ServesMany D.Disk G.state O.Outlet S.Source K.Sink C.Clock bases random ends sessions.items result }
 {
-    commands_are_determined();
+    laws_of_runs();
     more_commands_stand();
     more_commands_stay_published();
-    more_editions_stay_shown();
-    edition_records_go_on();
     ready_stores_can_start::<D, O>();
     sessions_make_what_is_accepted::<D, O, S, K>();
-    headline();
-    legal_histories_go_on();
-    what_was_done_goes_on();
-    what_a_press_holds();
-    steps_stay_steps();
-    records_tell_one_store();
     let Started {
         instance,
         disks,

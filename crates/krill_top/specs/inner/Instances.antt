@@ -27,6 +27,8 @@ use Rattle.press_core.specs.Files.{HasFilesOf}
 use Rattle.press_core.specs.Exports.{ShowsEdition, ShowsLast}
 use Rattle.krill_top.specs.DesksInStates.{AreIn, DesksGoOn, RoseWithin}
 use Rattle.krill_top.specs.Replies.{IsReply, IsText}
+use Rattle.krill_top.specs.Histories.{and_doubt}
+use Rattle.krill_top.specs.SoundEditions.{TakesNoMore}
 use Rattle.krill_top.specs.inner.Room.{KeepsRoom, KeepsBytes}
 
 -- The desks by their numbers, the press and its journal, what readers are shown of the last edition, how
@@ -67,6 +69,13 @@ pub record IsJournalOf {D : Type 0} (press : StoredValue D) (state : InstanceSta
   pub room : KeepsRoom state
   pub bytes : KeepsBytes state
 
+-- Behind the editions that were found these stand; none of them takes in more commands of a desk than it
+-- has, nor does the one in doubt.
+pub record KeepsCuts (state : InstanceState) : Type 0 where
+  pub made : List Edition
+  pub grows : state.editions ≡ state.found.editions ++ made
+  pub within : All (TakesNoMore state.desk_states) (and_doubt made state.in_doubt)
+
 -- The instance is in this state: its desks are in their states, its press has what the editions
 -- left, with their files, and stands for them whatever is vouched, if their signatures are and the
 -- editions that were found are steps; its journal has the editions; the signers of all names and keys are
@@ -86,6 +95,7 @@ pub record IsInState {D O : Type 0} (outlet_of : OutletGhosts O) (instance : Ins
   pub site : instance.press.site ≡ state.site
   pub session : instance.press.rrdp.session ≡ state.session
   pub journal : IsJournalOf (stored_in instance) state
+  pub cuts : KeepsCuts state
   pub exported : instance.press.last_export ≡ state.exported
   pub outlet : outlet_state outlet_of instance.outlet ≡ state.outlet
   pub shows : ShowsLast (ShowsEdition state.session state.site) state.editions state.exported

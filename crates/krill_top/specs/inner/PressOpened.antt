@@ -20,7 +20,7 @@ use Rattle.press_core.specs.declared.resume.ResumeFault.TheVariants as resume
 use Rattle.krill_top.specs.DeskStates.{DeskStates}
 use Rattle.krill_top.specs.InstanceState.{lists_of}
 use Rattle.krill_top.specs.DesksInStates.{AreIn}
-use Rattle.krill_top.specs.PressDisk.{Given, IsPast, IsNotLoaded, IsStopped}
+use Rattle.krill_top.specs.PressDisk.{Given, IsPast, IsNotLoaded, IsLoadedAndStopped}
 use Rattle.krill_top.specs.inner.Summing.{summed}
 use Rattle.krill_top.specs.declared.faults.OpenFault.TheVariants.{CutPast, Refused, Unreached, OriginsDiffer, RowMismatch, SignerFault, Memory}
 use Rattle.krill_top.specs.Summaries.{no_edition, summary_of}
@@ -86,7 +86,7 @@ pub record IsOpenedPress {D : Type 0} (disk_of : DiskGhosts D) (given : Given) (
 abbrev pub IsUnopened : {D : Type 0} → DiskGhosts D → Given → OpenFault → D → D
     → List SignerState → Type 0
 IsUnopened disk_of given fault old new signers = IsNotLoaded disk_of given fault old new
-    ⊎ IsStopped disk_of given fault old new signers given.outlet
+    ⊎ IsLoadedAndStopped disk_of given fault old new signers given.outlet
 
 -- Each desk has as many commands as the cut counts.
 abbrev pub IsWithin : {D : Type 0} → List (View D) → List ℕ → Type 0

@@ -1,5 +1,5 @@
 -- That the journals have room for what they hold and for what is in doubt.
-use Rattle.std.specs.Prelude.{◌≡◌, ◌<◌, ◌≤◌, ℕ, List, [], ◌∷◌, ◌++◌, IfSome, All}
+use Rattle.std.specs.Prelude.{◌≡◌, ◌<◌, ◌≤◌, ℕ, List, [], ◌∷◌, ◌++◌, None, IfSome, All}
 use Rattle.authority_book.specs.declared.commands.Command.{Command}
 use Rattle.editions.specs.Edition.{Edition}
 use Rattle.histories.specs.Legal.{IsOfBytes, bytes_for, most_bytes, press_bytes_for}
@@ -23,6 +23,11 @@ pub record HasRoom (ended : InstanceState) : Type 0 where
       ≤ most_bytes
   pub press : HasRoomFor ended.site (and_doubt ended.editions ended.in_doubt)
   pub bytes : All IsEditionOfBytes (and_doubt ended.editions ended.in_doubt)
+
+-- Where the press's records aren't known, its journal has room for the editions, and for the one in doubt.
+abbrev pub HasRoomUnknown : InstanceState → Type 0
+HasRoomUnknown ended =
+    ended.records ≡ None → HasRoomFor ended.site (and_doubt ended.editions ended.in_doubt)
 
 -- Where the press's journal had room for the editions that were found, it has room for those that stand
 -- and for the one in doubt, if its disk tells.

@@ -8,7 +8,7 @@ use Rattle.press_core.specs.Loading.{IsLoadOf, IsSameStore}
 use Rattle.press_core.specs.JournalRecords.{store_for}
 use Rattle.press_core.specs.Resuming.{IsAudited}
 use Rattle.krill_top.specs.declared.faults.OpenFault.{OpenFault}
-use Rattle.krill_top.specs.PressDisk.{AreAsked, IsStopCause, IsStopped}
+use Rattle.krill_top.specs.PressDisk.{AreAsked, IsStopCause, IsLoadedAndStopped}
 use Rattle.krill_top.specs.inner.PressOpened.{AreGiven, IsBehindLoaded}
 use Rattle.krill_top.proofs.Answering.{if_ok_so, if_err_both, if_err_three}
 use Rattle.krill_top.proofs.PressFound.{loaded_by, records_known, records_read}
@@ -73,7 +73,7 @@ returns-in-Ok-audit_loaded-clause-refused g c =
     let records = records_known (IsSameStore (store_for c.args.session c.args.site.now)) c.args.site.now c.args.session both.0 loaded content (g.D.Disk.content loaded.journal.disk) was.same was.safe.told both.2 in
     if_err_three c.go_on.result _ _ _ _ c.go_on.ensures.refused c.go_on.ensures.ring c.go_on.ensures.disk (λ e so kept same given is.
     let given_now : AreGiven c.args.desks.now c.audit_loaded.new.ring given = record { found = is.are.found; signers_are = is.are.signers_are ∙ sym seen.same } in
-    inr (subst (λ (d : D). IsStopped g.D.Disk given e.fault c.args.disk d e.ring given.outlet) (sym same)
+    inr (subst (λ (d : D). IsLoadedAndStopped g.D.Disk given e.fault c.args.disk d e.ring given.outlet) (sym same)
     (stopped_loaded g.D.Disk given e.fault c.args.disk loaded both.0 e.ring both.1 was.order
     (subst (λ (s : Bases). IfSome content (λ file. IsLoadOf s given.session file both.0 loaded)) (sym is.site_is)
     (subst (λ (id : List ℕ). IfSome content (λ file. IsLoadOf c.args.site.now id file both.0 loaded)) (sym is.session_is) both.2))
@@ -95,7 +95,7 @@ returns-in-Err-audit_loaded-clause-refused g c given is =
     let content = g.D.Disk.content c.args.disk in
     let both = loaded_by c.args.site.now c.args.session loaded content was.found was.left in
     let records = records_known (IsSameStore (store_for c.args.session c.args.site.now)) c.args.site.now c.args.session both.0 loaded content (g.D.Disk.content loaded.journal.disk) was.same was.safe.told both.2 in
-    inr (subst (λ (d : D). IsStopped g.D.Disk given c.in-Err-audit_loaded.fault c.args.disk d c.audit_loaded.new.ring given.outlet) (sym c.close-disk.ensures.disk)
+    inr (subst (λ (d : D). IsLoadedAndStopped g.D.Disk given c.in-Err-audit_loaded.fault c.args.disk d c.audit_loaded.new.ring given.outlet) (sym c.close-disk.ensures.disk)
     (stopped_loaded g.D.Disk given c.in-Err-audit_loaded.fault c.args.disk loaded both.0 c.audit_loaded.new.ring both.1 was.order
     (subst (λ (s : Bases). IfSome content (λ file. IsLoadOf s given.session file both.0 loaded)) (sym is.site_is)
     (subst (λ (id : List ℕ). IfSome content (λ file. IsLoadOf c.args.site.now id file both.0 loaded)) (sym is.session_is) both.2))

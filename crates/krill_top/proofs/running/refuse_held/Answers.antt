@@ -7,7 +7,7 @@ use Rattle.krill_top.proofs.running.refuse_held.Goals as goal
 pub returns : goal.returns
 returns g c bases random ends before started one =
     let D : Type 0 = g.row.D.Denot in
-    finds_held g.D.Disk g.G.Signer.state g.O.Outlet g.S.Source g.K.Sink g.C.Clock c.edition_records_go_on.ensures bases random ends before c.args.found.0 c.args.found.1 c.run_end.result c.args.started started c.requires.held
+    finds_held g.D.Disk g.G.Signer.state g.O.Outlet g.S.Source g.K.Sink g.C.Clock c.laws_of_runs.ensures bases random ends before c.args.found.0 c.args.found.1 c.run_end.result c.args.started started c.requires.held
     (record {
       handed_back = record {
         desks = subst (λ (e : Ends D g.row.G.Denot g.row.O.Denot). AreClosed g.D.Disk c.args.started.instance.desks e.desks.items) (sym c.run_end.ensures.ends) c.stop.ensures.desks;

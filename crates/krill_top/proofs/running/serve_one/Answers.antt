@@ -1,4 +1,4 @@
-use Rattle.std.proofs.Common.{◌≡◌, [], ◌∷◌, List, map, sym, ◌∙◌, ap, subst}
+use Rattle.std.proofs.Common.{◌≡◌, ◌∷◌, List, map, sym, ◌∙◌, ap, subst}
 use Rattle.std.specs.Prelude.{Option}
 use Rattle.krill_top.specs.declared.faults.RunFault.{RunFault}
 use Rattle.krill_top.specs.declared.ends.Ends.{Ends}
@@ -10,16 +10,9 @@ use Rattle.krill_top.specs.inner.Opened.{AreClosed}
 use Rattle.krill_top.specs.inner.Instances.{InstanceValue, TimedInstance}
 use Rattle.krill_top.specs.inner.Handlers.{timed}
 use Rattle.krill_top.specs.Run.{ServesOne, streams_of}
-use Rattle.krill_top.proofs.Room.{RoomLaws}
-use Rattle.krill_top.proofs.RunHistories.{HistoryLaws}
-use Rattle.krill_top.proofs.SoundRuns.{SoundLaws}
-use Rattle.krill_top.proofs.Crashes.{CrashLaws}
+use Rattle.krill_top.proofs.Lists.{only_one}
 use Rattle.krill_top.proofs.Served.{serves}
 use Rattle.krill_top.proofs.running.serve_one.Goals as goal
-
--- the first of one element, and nothing behind it
-only_one : {A : Type 0} (x y : A) (rest : List A) → y ∷ [] ≡ x ∷ rest → (x ≡ y) × (rest ≡ [])
-only_one x y rest e = (cc, cc)
 
 pub returns : goal.returns
 returns g c bases random ends before started one =
@@ -29,17 +22,6 @@ returns g c bases random ends before started one =
     let taken = only_one first before c.take_first-source.new.list.items (sym one ∙ c.take_first-source.ensures.items) in
     let after : Session = record { source = c.serve-ended.new.source; sink = c.serve-ended.new.sink; clock = c.into_parts-instance.result.1 } in
     let run = c.run_end.result in
-    let sound : SoundLaws = record { apart = c.accepted_names_are_apart.ensures; named = c.listed_names_are_names.ensures; set = c.editions_leave_a_set.ensures; published = c.editions_are_published.ensures } in
-    let crashes : CrashLaws = record { commands = c.commands_are_determined.ensures; editions = c.records_tell_one_store.ensures.one } in
-    let histories : HistoryLaws = record { work = c.what_was_done_goes_on.ensures; reopen = c.legal_histories_go_on.ensures.reopenings; steps = c.headline.ensures.steps; stay = c.steps_stay_steps.ensures.all } in
-    let room : RoomLaws = record {
-      reopen = c.legal_histories_go_on.ensures.reopenings;
-      limits = c.headline.ensures.limits;
-      press_limits = c.headline.ensures.press_limits;
-      bytes = c.what_a_press_holds.ensures.bytes;
-      takes = c.what_a_press_holds.ensures.records;
-      records = c.edition_records_go_on.ensures;
-    } in
     let served : InstanceValue D g.row.O.Denot = c.into_parts-instance.result.0 in
     let closed : InstanceValue D g.row.O.Denot = c.repeat_export-closing.new.self in
     let same_kept : c.serve-ended.new.handler.kept ≡ run.kept = sym (c.run_end.ensures.kept ∙ c.into_parts-instance.ensures.kept) in
@@ -53,7 +35,7 @@ returns g c bases random ends before started one =
     let fault : c.graver-fault.result ≡ end_fault c.serve-ended.result c.repeat_export-closing.result =
     c.graver-fault.ensures ∙ ap (λ (s : Option RunFault). graver s c.export_fault.result) c.fault_of.ensures ∙ ap (graver _) c.export_fault.ensures in
     subst (λ (b : Session). ServesOne g.D.Disk g.G.Signer.state g.O.Outlet g.S.Source g.K.Sink g.C.Clock bases random ends b run) taken.0
-    (serves g.D.Disk g.G.Signer.state g.O.Outlet g.S.Source g.K.Sink g.C.Clock c.more_editions_stay_shown.ensures.newest c.edition_records_go_on.ensures sound crashes histories room bases random ends first after c.serve-ended.result c.repeat_export-closing.result
+    (serves g.D.Disk g.G.Signer.state g.O.Outlet g.S.Source g.K.Sink g.C.Clock c.laws_of_runs.ensures bases random ends first after c.serve-ended.result c.repeat_export-closing.result
     run c.args.started served closed started session c.repeat_export-closing.ensures.moves
     (record {
       desks = subst (λ (e : Ends D g.row.G.Denot g.row.O.Denot). AreClosed g.D.Disk closed.desks e.desks.items) (sym c.run_end.ensures.ends) c.stop.ensures.desks;

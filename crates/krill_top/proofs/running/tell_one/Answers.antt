@@ -1,4 +1,4 @@
-use Rattle.std.proofs.Common.{◌≡◌, [], ◌∷◌, List, map, sym, refl, ◌∙◌, ap, subst}
+use Rattle.std.proofs.Common.{◌∷◌, List, map, sym, refl, ◌∙◌, ap, subst}
 use Rattle.std.specs.Prelude.{Option}
 use Rattle.krill_top.specs.declared.faults.RunFault.{RunFault}
 use Rattle.krill_top.specs.declared.ends.Ends.{Ends}
@@ -8,12 +8,9 @@ use Rattle.krill_top.specs.Summaries.{summary_line}
 use Rattle.krill_top.specs.inner.Opened.{AreClosed}
 use Rattle.krill_top.specs.Run.{TellsOne}
 use Rattle.krill_top.specs.Telling.{Tells}
+use Rattle.krill_top.proofs.Lists.{only_one}
 use Rattle.krill_top.proofs.Served.{tells_one}
 use Rattle.krill_top.proofs.running.tell_one.Goals as goal
-
--- the first of one element, and nothing behind it
-only_one : {A : Type 0} (x y : A) (rest : List A) → y ∷ [] ≡ x ∷ rest → (x ≡ y) × (rest ≡ [])
-only_one x y rest e = (cc, cc)
 
 pub returns : goal.returns
 returns g c bases random ends before started one =
@@ -24,7 +21,7 @@ returns g c bases random ends before started one =
     let after : Session = record { source = first.source; sink = c.tell-fault.new.sink; clock = first.clock } in
     let run = c.run_end.result in
     subst (λ (b : Session). TellsOne g.D.Disk g.G.Signer.state g.O.Outlet g.K.Sink bases random ends b run) taken.0
-    (tells_one g.D.Disk g.G.Signer.state g.O.Outlet g.S.Source g.K.Sink g.C.Clock c.edition_records_go_on.ensures bases random ends first after run c.args.started started
+    (tells_one g.D.Disk g.G.Signer.state g.O.Outlet g.S.Source g.K.Sink g.C.Clock c.laws_of_runs.ensures bases random ends first after run c.args.started started
     (record {
       desks = subst (λ (e : Ends D g.row.G.Denot g.row.O.Denot). AreClosed g.D.Disk c.args.started.instance.desks e.desks.items) (sym c.run_end.ensures.ends) c.stop.ensures.desks;
       press = ap (λ (e : Ends D g.row.G.Denot g.row.O.Denot). e.press) c.run_end.ensures.ends ∙ c.stop.ensures.press;

@@ -1,4 +1,4 @@
-use Rattle.std.proofs.Common.{◌≡◌, [], ◌∷◌, List, map, sym, refl, ◌∙◌, ap, subst}
+use Rattle.std.proofs.Common.{◌≡◌, ◌∷◌, List, map, sym, refl, ◌∙◌, ap, subst}
 use Rattle.krill_top.specs.declared.ends.Ends.{Ends}
 use Rattle.session_lines.specs.Keeping.{nothing_kept}
 use Rattle.session_lines.specs.declared.running.SessionEnds.{SessionEnds}
@@ -8,16 +8,9 @@ use Rattle.krill_top.specs.inner.Opened.{AreClosed}
 use Rattle.krill_top.specs.inner.Instances.{InstanceValue, TimedInstance, MovesTimed}
 use Rattle.krill_top.specs.inner.Handlers.{timed, worked}
 use Rattle.krill_top.specs.Run.{WorksOne}
-use Rattle.krill_top.proofs.Room.{RoomLaws}
-use Rattle.krill_top.proofs.RunHistories.{HistoryLaws}
-use Rattle.krill_top.proofs.SoundRuns.{SoundLaws}
-use Rattle.krill_top.proofs.Crashes.{CrashLaws}
+use Rattle.krill_top.proofs.Lists.{only_one}
 use Rattle.krill_top.proofs.Served.{works_one}
 use Rattle.krill_top.proofs.running.work_over.Goals as goal
-
--- the first of one element, and nothing behind it
-only_one : {A : Type 0} (x y : A) (rest : List A) → y ∷ [] ≡ x ∷ rest → (x ≡ y) × (rest ≡ [])
-only_one x y rest e = (cc, cc)
 
 pub returns : goal.returns
 returns g c bases random ends before started one =
@@ -27,17 +20,6 @@ returns g c bases random ends before started one =
     let taken = only_one first before c.take_first-source.new.list.items (sym one ∙ c.take_first-source.ensures.items) in
     let after : Session = record { source = first.source; sink = c.work-worked.new.sink; clock = c.into_parts-instance.result.1 } in
     let run = c.run_end.result in
-    let sound : SoundLaws = record { apart = c.accepted_names_are_apart.ensures; named = c.listed_names_are_names.ensures; set = c.editions_leave_a_set.ensures; published = c.editions_are_published.ensures } in
-    let crashes : CrashLaws = record { commands = c.commands_are_determined.ensures; editions = c.records_tell_one_store.ensures.one } in
-    let histories : HistoryLaws = record { work = c.what_was_done_goes_on.ensures; reopen = c.legal_histories_go_on.ensures.reopenings; steps = c.headline.ensures.steps; stay = c.steps_stay_steps.ensures.all } in
-    let room : RoomLaws = record {
-      reopen = c.legal_histories_go_on.ensures.reopenings;
-      limits = c.headline.ensures.limits;
-      press_limits = c.headline.ensures.press_limits;
-      bytes = c.what_a_press_holds.ensures.bytes;
-      takes = c.what_a_press_holds.ensures.records;
-      records = c.edition_records_go_on.ensures;
-    } in
     let closed : InstanceValue D g.row.O.Denot = c.into_parts-instance.result.0 in
     let worked_so : TimedInstance D g.row.O.Denot → TimedInstance D g.row.O.Denot → Type 0 =
     (λ old new. MovesTimed g.D.Disk g.O.Outlet (λ b a. Works g.K.Sink c.args.authorities c.work-worked.result (worked first.sink b) (worked after.sink a)) old new) in
@@ -50,7 +32,7 @@ returns g c bases random ends before started one =
     subst (λ (t : TimedInstance D g.row.O.Denot). worked_so t (record { instance = closed; clock = g.C.Clock.readings after.clock; kept = run.kept })) begins
     (subst (λ (t : TimedInstance D g.row.O.Denot). worked_so (timed g.C.Clock c.new-handler.result) t) timed_ends c.work-worked.ensures) in
     subst (λ (b : Session). WorksOne g.D.Disk g.G.Signer.state g.O.Outlet g.K.Sink g.C.Clock c.args.authorities bases random ends b run) taken.0
-    (works_one g.D.Disk g.G.Signer.state g.O.Outlet g.S.Source g.K.Sink g.C.Clock c.more_editions_stay_shown.ensures.newest c.edition_records_go_on.ensures sound crashes histories room c.args.authorities bases random ends first after c.work-worked.result
+    (works_one g.D.Disk g.G.Signer.state g.O.Outlet g.S.Source g.K.Sink g.C.Clock c.laws_of_runs.ensures c.args.authorities bases random ends first after c.work-worked.result
     run c.args.started closed started c.requires.none works
     (record {
       handed_back = record {

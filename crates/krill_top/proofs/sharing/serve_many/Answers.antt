@@ -11,9 +11,6 @@ use Rattle.krill_top.specs.inner.Instances.{stored_in}
 use Rattle.krill_top.specs.inner.Opened.{AreClosed}
 use Rattle.krill_top.specs.inner.Shared.{IsServedRun}
 use Rattle.krill_top.proofs.ManyServed.{Laws, named_in}
-use Rattle.krill_top.proofs.Crashes.{CrashLaws}
-use Rattle.krill_top.proofs.Room.{RoomLaws}
-use Rattle.krill_top.proofs.RunHistories.{HistoryLaws}
 use Rattle.krill_top.proofs.Served.{serves_none}
 use Rattle.krill_top.proofs.ServedMany.{desks_of, ready_in, serves_all}
 use Rattle.krill_top.proofs.sharing.serve_many.Goals as goal
@@ -63,35 +60,19 @@ returns-in-Ok g c bases random ends started =
     let outlet : opened.outlet ≡ instance.outlet = is.press.1 ∙ parts.outlet in
     let shown : opened.board.shown ≡ shown_at instance.press.at ∷ [] = is.shown ∙ ap (λ (s : StoredValue D). shown_at s.press.at ∷ []) parts.press in
     let laws : Laws g.D.Disk g.O.Outlet = record {
-      one = c.commands_are_determined.ensures;
+      run = c.laws_of_runs.ensures;
       left = c.more_commands_stand.ensures.left;
       stand = c.more_commands_stand.ensures.stands;
-      newest = c.more_editions_stay_shown.ensures.newest;
       found = c.ready_stores_can_start.ensures.found;
-    } in
-    let history : HistoryLaws = record {
-      work = c.what_was_done_goes_on.ensures;
-      reopen = c.legal_histories_go_on.ensures.reopenings;
-      steps = c.headline.ensures.steps;
-      stay = c.steps_stay_steps.ensures.all;
-    } in
-    let crashes : CrashLaws = record { commands = c.commands_are_determined.ensures; editions = c.records_tell_one_store.ensures.one } in
-    let room : RoomLaws = record {
-      reopen = c.legal_histories_go_on.ensures.reopenings;
-      limits = c.headline.ensures.limits;
-      press_limits = c.headline.ensures.press_limits;
-      bytes = c.what_a_press_holds.ensures.bytes;
-      takes = c.what_a_press_holds.ensures.records;
-      records = c.edition_records_go_on.ensures;
     } in
     elim c.serve_ready.ensures [
       | inl served ↦ inl (
           let here : IsServedRun g.D.Disk g.G.Signer.state g.O.Outlet g.S.Source g.K.Sink g.C.Clock (named_in g.D.Disk g.O.Outlet instance opened.desks.items opened.board) opened.board.shown before run =
           subst (λ (o : O). IsServedRun g.D.Disk g.G.Signer.state g.O.Outlet g.S.Source g.K.Sink g.C.Clock (named_of g.D.Disk g.O.Outlet opened.desks.items (stored_in instance) opened.board o) opened.board.shown before run) outlet
           (subst (λ (s : StoredValue D). IsServedRun g.D.Disk g.G.Signer.state g.O.Outlet g.S.Source g.K.Sink g.C.Clock (named_of g.D.Disk g.O.Outlet opened.desks.items s opened.board opened.outlet) opened.board.shown before run) press served) in
-          serves_all g.D.Disk g.G.Signer.state g.O.Outlet g.S.Source g.K.Sink g.C.Clock laws c.more_commands_stay_published.ensures c.sessions_make_what_is_accepted.ensures history room crashes bases random ends before run c.args.started started
+          serves_all g.D.Disk g.G.Signer.state g.O.Outlet g.S.Source g.K.Sink g.C.Clock laws c.more_commands_stay_published.ensures c.sessions_make_what_is_accepted.ensures bases random ends before run c.args.started started
           opened.desks.items desks opened.board shown here)
-      | inr unserved ↦ inr (serves_none g.D.Disk g.G.Signer.state g.O.Outlet g.S.Source g.K.Sink g.C.Clock c.edition_records_go_on.ensures bases random ends before run c.args.started started
+      | inr unserved ↦ inr (serves_none g.D.Disk g.G.Signer.state g.O.Outlet g.S.Source g.K.Sink g.C.Clock c.laws_of_runs.ensures bases random ends before run c.args.started started
           (record {
             handed_back = record {
               desks = subst (λ (l : List (View D)). AreClosed g.D.Disk l run.ends.desks.items) (desks_of instance.desks opened.desks.items desks) unserved.closed;
@@ -116,7 +97,7 @@ returns-in-Err g c bases random ends started =
     let unserved = c.unserved.ensures in
     let run = c.unserved.result in
     let press = was.1 ∙ parts.press in
-    inr (serves_none g.D.Disk g.G.Signer.state g.O.Outlet g.S.Source g.K.Sink g.C.Clock c.edition_records_go_on.ensures bases random ends c.args.sessions.items run c.args.started started
+    inr (serves_none g.D.Disk g.G.Signer.state g.O.Outlet g.S.Source g.K.Sink g.C.Clock c.laws_of_runs.ensures bases random ends c.args.sessions.items run c.args.started started
     (record {
       handed_back = record {
         desks = subst (λ (l : List (View D)). AreClosed g.D.Disk l run.ends.desks.items) (was.0 ∙ c.into_inner.ensures.desks ∙ parts.desks) unserved.closed;
