@@ -51,8 +51,8 @@ fn is_prefix(v6: bool, address: u128, length: u8) -> bool
 fn ends_in_zeros(address: u128, count: u8) -> bool
     ensures { IsTrue result ↔ (address % 2 ^ count ≡ 0) }
 {
-    match 2u128.checked_pow(u32::from(count)) {
-        Some(block) => address % block == 0,
+    match 1u128.checked_shl(u32::from(count)) {
+        Some(block) => address & (block - 1) == 0,
         None => address == 0,
     }
 }
