@@ -11,3 +11,4 @@ pub mod Commas
 pub mod Once
 pub mod Told
 pub mod Taken
+pub mod PlainBytes
