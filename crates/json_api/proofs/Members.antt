@@ -6,13 +6,15 @@ use Rattle.std.proofs.lemmas.List.{get_or-set_other}
 use Rattle.serde_json.specs.Data.{Data, Members, no_members, put}
 use Rattle.serde_json.specs.Find.{get_member}
 use Rattle.serde_json.proofs.Views.{get_member-put, get_member-put_other}
+use Rattle.json.specs.Token.{Token}
 use Rattle.json_api.specs.declared.fields.Field.{Field}
+use Rattle.json_api.specs.declared.fields.Kind.{Kind}
 use Rattle.json_api.specs.declared.slots.Slot.{Slot}
 use Rattle.json_api.specs.declared.slots.Slot.TheVariants.{Absent}
 use Rattle.json_api.specs.Names.{name_of, place_of, kind_of, fields, field_named}
 use Rattle.json_api.specs.inner.Slots.{slot_at}
 use Rattle.json_api.specs.Line.{Says, Tells}
-use Rattle.json_api.specs.inner.Passes.{IsMember, AreMembers}
+use Rattle.json_api.specs.inner.Passes.{ReadsValue, IsMember, AreMembers, Fills}
 use Rattle.json_api.proofs.Named.{first_named-is, field_named-name_of, same_place}
 
 no_member : (slots : List Slot) → ((f : Field) → slot_at slots f ≡ Absent) → (found : Option Field) → IsMember found None slots
@@ -52,6 +54,16 @@ module _ (ms : Members) (slots : List Slot) (f : Field) (d : Data) (s : Slot) wh
     -- a field's member goes in, and its slot with it
     pub AreMembers-put : AreMembers (put (name_of f) d ms) (set slots (place_of f) s)
     AreMembers-put name = at name (bytes_eq name (name_of f)) refl
+
+pub filled : (f : Field) (of : Kind) (s : Slot) (old new : List Token) (before after : List Slot) → kind_of f ≡ of
+    → ((d : Data) × ReadsValue old d new × Says of d s) → after ≡ set before (place_of f) s → slot_at after f ≡ s → Fills f old new before after
+filled f of s old new before after kind told is here =
+    let says = subst (λ (k : Kind). Says k told.0 s) (sym kind) told.2 in
+    let there = subst (λ (slots : List Slot). slot_at slots f ≡ s) is here in (
+      told.0,
+      told.1,
+      λ ms are. subst (λ (slots : List Slot). AreMembers (put (name_of f) told.0 ms) slots) (sym is) (AreMembers-put ms before f told.0 s there says are),
+    )
 
 -- ---- slots that are left
 

@@ -1,11 +1,16 @@
 -- A pass over a line's tokens, a turn at a time.
-use Rattle.std.proofs.Common.{◌≡◌, ℕ, ◌-◌, ◌≤◌, List, [], ◌∷◌, ◌++◌, length, Option, Some, None, refl, ap, ◌∙◌, arith}
+use Rattle.std.proofs.Common.{◌≡◌, ℕ, ◌-◌, ◌≤◌, List, [], ◌∷◌, ◌++◌, length, Option, Some, None, IsSome, IfSome, refl, sym, ap, subst, ◌∙◌, arith}
 use Rattle.json.specs.Token.{Token}
 use Rattle.json.specs.Json.{parse_map, after_end_array, read_key, items, members, value}
 use Rattle.json.proofs.Grammar.{value_is, value-begin_array, value-begin_object, read_key-shorter}
 use Rattle.json.specs.Lex.{tokens}
 use Rattle.serde_json.specs.Data.{Data, string, array, object, Items, no_items, item, Members, no_members, put}
 use Rattle.serde_json.specs.Read.{of_json, of_items, of_members, converted, read}
+use Rattle.std.specs.Prelude.{option_and_then}
+use Rattle.serde_json.specs.Find.{as_str}
+use Rattle.names.specs.Name.{IsName}
+use Rattle.json_api.specs.declared.fields.Row.{Row}
+use Rattle.json_api.specs.Table.{row_named}
 use Rattle.json_api.proofs.Turns.{converted-array, converted-object, item_read, items_over, member_read, members_over, none_before, whole_read}
 use Rattle.origins.specs.declared.Origin.{Origin}
 use Rattle.origins.specs.Origin.{SpellsOrigin}
@@ -24,6 +29,19 @@ string_read depth old new t e = ap (converted of_json) (ap (value depth) e ∙ v
 
 pub text_read : (old new : List Token) (t : List ℕ) → old ≡ Token.string t ∷ new → ReadsValue old (string t) new
 text_read old new t e = string_read 126 old new t e
+
+-- a text that is a row's command
+pub row_read : (old new : List Token) (t : List ℕ) (found : Option Row) → old ≡ Token.string t ∷ new → found ≡ row_named t
+    → IfSome found (λ row. (d : Data) × ReadsValue old d new × (option_and_then row_named (as_str d) ≡ Some row))
+row_read old new t None e is = tt
+row_read old new t (Some row) e is = (string t, text_read old new t e, sym is)
+
+-- a text that is a name
+pub name_read : (old new : List Token) (t : List ℕ) (found : Option (List ℕ)) → old ≡ Token.string t ∷ new → (IsSome found → IsName t)
+    → IfSome found (λ name. name ≡ t) → IfSome found (λ name. (d : Data) × ReadsValue old d new × ((as_str d ≡ Some name) × IsName name))
+name_read old new t None e good is = tt
+name_read old new t (Some name) e good is =
+    (string t, text_read old new t e, (ap (λ (n : List ℕ). Some n) (sym is), subst IsName (sym is) (good refl)))
 
 pub list_read : (old mid new : List Token) (ds : Items) → old ≡ Token.begin_array ∷ mid → ReadsItems mid ds new → ReadsValue old (array ds) new
 list_read old mid new ds e h =

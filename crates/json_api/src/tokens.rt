@@ -8,7 +8,7 @@ ghost use Rattle.origins.specs.Origin.{SpellsOrigin};
 ghost use Rattle.json_api.specs.Line.{Says, AreOriginTexts};
 ghost use Rattle.json_api.specs.inner.Slots.{slot_at};
 ghost use Rattle.json_api.specs.Names.{kind_of};
-ghost use Rattle.json_api.specs.inner.Passes.{ReadsValue, ReadsItems, ReadsMembers, AreMembers};
+ghost use Rattle.json_api.specs.inner.Passes.{ReadsValue, ReadsItems, ReadsMembers, AreMembers, Fills};
 
 use crate::fields::{Field, Kind, Row};
 use crate::plain::PlainReader;
@@ -73,63 +73,92 @@ fn read_member(
     let Some(field) = Field::named(name) else {
         return Ok(false);
     };
-    let Some(slot) = take_slot(alloc, reader, field.kind())? else {
-        return Ok(false);
-    };
-    slots.set(field, slot);
-    Ok(true)
+    fill(alloc, reader, field, slots)
 }
 
-// What the next value says, where it is a text or a list in its grammar.
-fn take_slot(
+// Whether the next value is a text or a list in the field's grammar. Its slot is filled then.
+fn fill(
     alloc: Global,
     reader: &mut PlainReader<'_>,
-    kind: Kind,
-) -> Result<Option<Slot>, AllocError>
-    ensures good { IfOk result (λ found. IfSome found
-        (λ slot. (d : Data) × ReadsValue reader.old d reader.new × Says kind d slot)) }
+    field: Field,
+    slots: &mut Slots,
+) -> Result<bool, AllocError>
+    ensures good { IfOk result (λ good. IsTrue good
+        → Fills field reader.old reader.new slots.old slots.new) }
     ensures shorter { length reader.new ≤ length reader.old }
 {
-    match kind {
-        Kind::Row => Ok(take_row(reader)),
-        Kind::Name => Ok(take_name(reader)),
-        Kind::Origins => take_origins(alloc, reader),
-        Kind::Number | Kind::Serial | Kind::Looks | Kind::Resources => Ok(None),
+    match field.kind() {
+        Kind::Row => Ok(fill_row(reader, field, slots)),
+        Kind::Name => Ok(fill_name(reader, field, slots)),
+        Kind::Origins => fill_origins(alloc, reader, field, slots),
+        Kind::Number | Kind::Serial | Kind::Looks | Kind::Resources => Ok(false),
     }
 }
 
-fn take_row(reader: &mut PlainReader<'_>) -> Option<Slot>
-    ensures good { IfSome result
-        (λ slot. (d : Data) × ReadsValue reader.old d reader.new × Says Kind.Row d slot) }
+// Whether the next value is a row's command. Its slot is filled then.
+fn fill_row(reader: &mut PlainReader<'_>, field: Field, slots: &mut Slots) -> bool
+    requires kind { kind_of field ≡ Kind.Row }
+    ensures good { IsTrue result → Fills field reader.old reader.new slots.old slots.new }
     ensures shorter { length reader.new ≤ length reader.old }
 {
-    let text = reader.next_text()?;
-    let row = Row::named(text)?;
-    Some(Slot::Row(row))
+    let Some(row) = take_row(reader) else {
+        return false;
+    };
+    slots.set(field, Slot::Row(row));
+    true
 }
 
-fn take_name(reader: &mut PlainReader<'_>) -> Option<Slot>
-    ensures good { IfSome result
-        (λ slot. (d : Data) × ReadsValue reader.old d reader.new × Says Kind.Name d slot) }
+// Whether the next value is a name. Its slot is filled then.
+fn fill_name(reader: &mut PlainReader<'_>, field: Field, slots: &mut Slots) -> bool
+    requires kind { kind_of field ≡ Kind.Name }
+    ensures good { IsTrue result → Fills field reader.old reader.new slots.old slots.new }
     ensures shorter { length reader.new ≤ length reader.old }
 {
-    let text = reader.next_text()?;
-    let name = Name::read(text)?;
-    Some(Slot::Name(name))
+    let Some(name) = take_name(reader) else {
+        return false;
+    };
+    slots.set(field, Slot::Name(name));
+    true
 }
 
-fn take_origins(alloc: Global, reader: &mut PlainReader<'_>) -> Result<Option<Slot>, AllocError>
-    ensures good { IfOk result (λ found. IfSome found
-        (λ slot. (d : Data) × ReadsValue reader.old d reader.new × Says Kind.Origins d slot)) }
+// Whether the next value is a list of origins. Its slot is filled then.
+fn fill_origins(
+    alloc: Global,
+    reader: &mut PlainReader<'_>,
+    field: Field,
+    slots: &mut Slots,
+) -> Result<bool, AllocError>
+    requires kind { kind_of field ≡ Kind.Origins }
+    ensures good { IfOk result (λ good. IsTrue good
+        → Fills field reader.old reader.new slots.old slots.new) }
     ensures shorter { length reader.new ≤ length reader.old }
 {
     if !reader.begins_list() {
-        return Ok(None);
+        return Ok(false);
     }
     let Some(origins) = take_items(alloc, reader)? else {
-        return Ok(None);
+        return Ok(false);
     };
-    Ok(Some(Slot::Origins(OriginList::new(alloc, origins)?)))
+    slots.set(field, Slot::Origins(OriginList::new(alloc, origins)?));
+    Ok(true)
+}
+
+fn take_row(reader: &mut PlainReader<'_>) -> Option<Row>
+    ensures good { IfSome result
+        (λ row. (d : Data) × ReadsValue reader.old d reader.new × Says Kind.Row d (Slot.Row row)) }
+    ensures shorter { length reader.new ≤ length reader.old }
+{
+    let text = reader.next_text()?;
+    Row::named(text)
+}
+
+fn take_name(reader: &mut PlainReader<'_>) -> Option<Name>
+    ensures good { IfSome result
+        (λ name. (d : Data) × ReadsValue reader.old d reader.new × Says Kind.Name d (Slot.Name name)) }
+    ensures shorter { length reader.new ≤ length reader.old }
+{
+    let text = reader.next_text()?;
+    Name::read(text)
 }
 
 fn take_items(

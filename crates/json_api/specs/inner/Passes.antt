@@ -2,12 +2,12 @@
 use Rattle.std.specs.Prelude.{◌≡◌, ℕ, List, Option, Some, None, length}
 use Rattle.json.specs.Token.{Token}
 use Rattle.json.specs.Json.{items, members, value}
-use Rattle.serde_json.specs.Data.{Data, Items, Members, no_members}
+use Rattle.serde_json.specs.Data.{Data, Items, Members, no_members, put}
 use Rattle.serde_json.specs.Find.{get_member}
 use Rattle.serde_json.specs.Read.{of_json, of_items, of_members, converted}
 use Rattle.json_api.specs.declared.fields.Field.{Field}
 use Rattle.json_api.specs.declared.slots.Slot.{Slot}
-use Rattle.json_api.specs.Names.{kind_of, field_named}
+use Rattle.json_api.specs.Names.{name_of, kind_of, field_named}
 use Rattle.json_api.specs.inner.Slots.{slot_at}
 use Rattle.json_api.specs.Line.{Tells}
 
@@ -31,3 +31,9 @@ IsMember (Some f) found slots = Tells (kind_of f) found (slot_at slots f)
 -- these are the slots of the members, all of which are fields
 abbrev pub AreMembers : Members → List Slot → Type 0
 AreMembers ms slots = (name : List ℕ) → IsMember (field_named name) (get_member name ms) slots
+
+-- of the tokens, the first are the field's value, and its slot is filled with it
+abbrev pub Fills : Field → List Token → List Token → List Slot → List Slot → Type 0
+Fills f old new before after =
+    (d : Data) × ReadsValue old d new
+    × ((ms : Members) → AreMembers ms before → AreMembers (put (name_of f) d ms) after)
