@@ -1,5 +1,5 @@
 -- Fields are known by their names and by their places.
-use Rattle.std.proofs.Common.{◌≡◌, ℕ, ◌<◌, List, [], ◌∷◌, Bool, true, false, Option, Some, bytes_eq, get_or, refl, sym, ap, ◌∙◌, arith, if◌then◌else◌}
+use Rattle.std.proofs.Common.{◌≡◌, ◌≢◌, ℕ, ◌<◌, List, [], ◌∷◌, length, Bool, true, false, Option, Some, bytes_eq, get_or, refl, sym, ap, ◌∙◌, arith, if◌then◌else◌}
 use Rattle.std.proofs.lemmas.Slice.Eq.{bytes_eq-Decides}
 use Rattle.json_api.specs.declared.fields.Field.{Field}
 use Rattle.json_api.specs.declared.fields.Field.TheVariants.{Add, Ca, Child, Command, Looks, Parent, Remove, Resources, Serial, Signer}
@@ -59,3 +59,11 @@ same_field f g e = sym (field_at-place f f) ∙ ap (λ (i : ℕ). get_or fields 
 
 pub same_place : (f g : Field) → place_of f ≡ place_of g → name_of f ≡ name_of g
 same_place f g e = ap name_of (same_field f g e)
+
+unlike : (a b : List ℕ) (same : Bool) → bytes_eq a b ≡ same → length a ≢ length b → same ≡ false
+unlike a b true is long = absurd (long (ap length ((bytes_eq-Decides a b).0 is)))
+unlike a b false is long = refl
+
+-- texts of two lengths aren't the same
+pub unlike_long : (a b : List ℕ) → length a ≢ length b → bytes_eq a b ≡ false
+unlike_long a b long = unlike a b (bytes_eq a b) refl long

@@ -1,6 +1,7 @@
 //! The members that lines have, and the rows of the table of lines (RFC 8259 section 4).
 
 ghost use Rattle.std.specs.Prelude.{◌≡◌};
+ghost use Rattle.std.specs.Str.{bytes_eq};
 ghost use Rattle.json_api.specs.Names.{name_of, place_of, kind_of, field_named};
 ghost use Rattle.json_api.specs.Table.{row_named, command_of};
 
@@ -74,6 +75,14 @@ pub(crate) const FIELDS: [Field; 10] = [
     Field::Signer,
 ];
 
+// Whether the text is that word. One of another length is told without a look at its bytes.
+#[tactic(auto, using(crate::proofs::Named::unlike_long))]
+fn is(text: &str, word: &str) -> bool
+    ensures { result ≡ bytes_eq text.now word.now }
+{
+    text.len() == word.len() && text == word
+}
+
 impl Field {
     /// The member's name.
     pub(crate) fn name(self) -> &'static str
@@ -99,16 +108,16 @@ impl Field {
     {
         match name {
             // What stands in most lines comes first.
-            "command" => Some(Field::Command),
-            "ca" => Some(Field::Ca),
-            "add" => Some(Field::Add),
-            "remove" => Some(Field::Remove),
-            "child" => Some(Field::Child),
-            "looks" => Some(Field::Looks),
-            "parent" => Some(Field::Parent),
-            "resources" => Some(Field::Resources),
-            "serial" => Some(Field::Serial),
-            "signer" => Some(Field::Signer),
+            _ if is(name, "command") => Some(Field::Command),
+            _ if is(name, "ca") => Some(Field::Ca),
+            _ if is(name, "add") => Some(Field::Add),
+            _ if is(name, "remove") => Some(Field::Remove),
+            _ if is(name, "child") => Some(Field::Child),
+            _ if is(name, "looks") => Some(Field::Looks),
+            _ if is(name, "parent") => Some(Field::Parent),
+            _ if is(name, "resources") => Some(Field::Resources),
+            _ if is(name, "serial") => Some(Field::Serial),
+            _ if is(name, "signer") => Some(Field::Signer),
             _ => None,
         }
     }
@@ -152,24 +161,24 @@ impl Row {
     {
         match text {
             // What most lines say comes first.
-            "roas update" => Some(Row::RoasUpdate),
-            "add" => Some(Row::Add),
-            "delete" => Some(Row::Delete),
-            "parents add" => Some(Row::ParentsAdd),
-            "children add" => Some(Row::ChildrenAdd),
-            "children update" => Some(Row::ChildrenUpdate),
-            "children remove" => Some(Row::ChildrenRemove),
-            "children suspend" => Some(Row::ChildrenSuspend),
-            "children unsuspend" => Some(Row::ChildrenUnsuspend),
-            "keyroll init" => Some(Row::KeyrollInit),
-            "keyroll activate" => Some(Row::KeyrollActivate),
-            "publish" => Some(Row::Publish),
-            "serial" => Some(Row::Serial),
-            "await" => Some(Row::Await),
-            "list" => Some(Row::List),
-            "show" => Some(Row::Show),
-            "roas list" => Some(Row::RoasList),
-            "history commands" => Some(Row::HistoryCommands),
+            _ if is(text, "roas update") => Some(Row::RoasUpdate),
+            _ if is(text, "add") => Some(Row::Add),
+            _ if is(text, "delete") => Some(Row::Delete),
+            _ if is(text, "parents add") => Some(Row::ParentsAdd),
+            _ if is(text, "children add") => Some(Row::ChildrenAdd),
+            _ if is(text, "children update") => Some(Row::ChildrenUpdate),
+            _ if is(text, "children remove") => Some(Row::ChildrenRemove),
+            _ if is(text, "children suspend") => Some(Row::ChildrenSuspend),
+            _ if is(text, "children unsuspend") => Some(Row::ChildrenUnsuspend),
+            _ if is(text, "keyroll init") => Some(Row::KeyrollInit),
+            _ if is(text, "keyroll activate") => Some(Row::KeyrollActivate),
+            _ if is(text, "publish") => Some(Row::Publish),
+            _ if is(text, "serial") => Some(Row::Serial),
+            _ if is(text, "await") => Some(Row::Await),
+            _ if is(text, "list") => Some(Row::List),
+            _ if is(text, "show") => Some(Row::Show),
+            _ if is(text, "roas list") => Some(Row::RoasList),
+            _ if is(text, "history commands") => Some(Row::HistoryCommands),
             _ => None,
         }
     }
