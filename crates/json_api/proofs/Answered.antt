@@ -1,6 +1,8 @@
 -- What a line comes to, by its slots.
-use Rattle.std.proofs.Common.{◌≡◌, ℕ, List, Option, Some, None, Ok, Err, true, refl, sym, ap, subst, ◌∙◌}
-use Rattle.std.specs.Prelude.{Result}
+use Rattle.std.proofs.Common.{◌≡◌, ◌≢◌, ◌≤◌, ℕ, List, length, Bool, true, false, true≢false, Option, Some, None, Ok, Err, IsUtf8, inl, inr, refl, sym, ap, subst, ◌∙◌}
+use Rattle.std.specs.Prelude.{Result, OnOk, is_ok}
+use Rattle.serde_json.specs.Read.{read}
+use Rattle.line_loop.specs.declared.TheConstants.{LINE_LIMIT}
 use Rattle.serde_json.specs.Data.{Data, null, boolean, number, string, array, object, Members}
 use Rattle.serde_json.specs.Find.{get, get_member, as_object}
 use Rattle.json_api.specs.declared.fields.Field.{Field}
@@ -8,15 +10,15 @@ use Rattle.json_api.specs.declared.fields.Field.TheVariants.{Command}
 use Rattle.json_api.specs.declared.fields.Row.{Row}
 use Rattle.json_api.specs.declared.line.Line.{Line}
 use Rattle.json_api.specs.declared.line.LineFault.{LineFault}
-use Rattle.json_api.specs.declared.line.LineFault.TheVariants.{BadLine, UnknownCommand}
+use Rattle.json_api.specs.declared.line.LineFault.TheVariants.{BadLine, UnknownCommand, Memory}
 use Rattle.json_api.specs.declared.slots.Slot.{Slot}
 use Rattle.json_api.specs.declared.slots.Slot.TheVariants.{Absent}
 use Rattle.json_api.specs.Names.{name_of, kind_of}
 use Rattle.json_api.specs.Rows.{Slots, as_row}
 use Rattle.json_api.specs.Table.{fields_of, line_at, first_other, only, of_row, of_members}
 use Rattle.json_api.specs.inner.Slots.{slot_at, left_of, are_taken, first_left}
-use Rattle.json_api.specs.Line.{Tells, AreSlots, ReadsValue}
-use Rattle.json_api.specs.inner.Passes.{IsMember, AreMembers}
+use Rattle.json_api.specs.Line.{Tells, AreSlots, IsDocument, ReadsValue, ReadsLine}
+use Rattle.json_api.specs.inner.Passes.{IsMember, AreMembers, ReadsText}
 use Rattle.json_api.proofs.Named.{field_named-name_of}
 use Rattle.json_api.proofs.Others.{none_other, first_left-other}
 
@@ -43,6 +45,30 @@ row_refuses ms slots of fault are row says = record {
   says = ap (λ (r : Result Line LineFault). only r (first_other of ms)) says
       ∙ ap (λ (r : Option Row). of_row r (slot_at slots) ms) (sym row);
 }
+
+pub on_ok : (result : Result Line LineFault) (P : Type 0) → P → OnOk result P
+on_ok (Ok meant) P p = p
+on_ok (Err fault) P p = tt
+
+pub on_fault : (result : Result Line LineFault) (P : Type 0) → is_ok result ≡ false → OnOk result P
+on_fault (Ok meant) P h = absurd (true≢false h)
+on_fault (Err fault) P h = tt
+
+-- what such a row comes to, where nothing is left of a line
+pub row_tells : (text : List ℕ) (ms : Members) (slots left : List Slot) (of : Row) (result : Result Line LineFault) → read text ≡ Some (object ms) → AreMembers ms slots
+    → as_row (slot_at slots Command) ≡ Some of → result ≡ line_at of (slot_at slots) → OnOk result (left ≡ left_of (fields_of of) slots)
+    → OnOk result (are_taken left ≡ true) → ReadsText text result
+row_tells text ms slots left of (Ok meant) is are row says rest taken =
+    inl (object ms, is, row_answers ms slots of meant are row (ap are_taken (sym rest) ∙ taken) says)
+row_tells text ms slots left of (Err fault) is are row says rest taken = inl (object ms, is, row_refuses ms slots of fault are row says)
+
+other_text : (bytes : List ℕ) (value : Data) → read bytes ≡ None → read bytes ≡ Some value → ⊥
+other_text bytes value none some = let e : None ≡ Some value = sym none ∙ some in absurd (cc)
+
+-- a line is what its text is
+pub line_read : (bytes : List ℕ) (result : Result Line LineFault) → length bytes ≤ LINE_LIMIT → IsUtf8 bytes → ReadsText bytes result → ReadsLine bytes result
+line_read bytes result short utf8 (inl told) = inl (told.0, (record { short = short; utf8 = utf8; text = told.1 }, told.2))
+line_read bytes result short utf8 (inr told) = inr ((λ value is. other_text bytes value told.0 is.text), told.1)
 
 -- which other member is named doesn't matter to a fault
 fault_first : (found : Result Line LineFault) (a b : Option (List ℕ)) → ((meant : Line) → found ≡ Ok meant → a ≡ b) → only found a ≡ only found b

@@ -7,11 +7,13 @@ ghost use Rattle.serde_json.specs.Read.{read};
 ghost use Rattle.serde_json.specs.View.{view};
 ghost use Rattle.json_api.specs.Names.{name_of};
 ghost use Rattle.json_api.specs.inner.Slots.{slot_at};
+ghost use Rattle.json_api.specs.inner.Passes.{AreMembers, ReadsText};
+ghost use Rattle.json_api.specs.Rows.{as_row};
 ghost use Rattle.json_api.specs.Table.{only};
 ghost use Rattle.json_api.specs.Line.{ReadsLine, ReadsValue};
 ghost use Rattle.json_api.specs.declared.line.LineFault.TheVariants.{Memory};
 
-use crate::fields::Field;
+use crate::fields::{Field, Row};
 use crate::slots::{Slot, Slots};
 use crate::tokens::read_slots;
 use crate::values::{first_left, slots_of};
@@ -156,6 +158,7 @@ impl LineReader {
     /// Reads a line, without its line feed: one JSON object as `serde_json` reads it, with the
     /// members that the table has for its `command`. Of equal members the last counts. A fault is
     /// told in this order: `BadLine`, `UnknownCommand`, `BadField`; `Memory` may come at any time.
+    #[tactic(auto, using(crate::proofs::Answered::line_read))]
     pub fn read(&mut self, alloc: Global, line: &[u8]) -> Result<Line, LineFault>
         ensures { result ≢ Err Memory → ReadsLine line.now result }
     {
@@ -166,11 +169,7 @@ impl LineReader {
             return Err(LineFault::BadLine);
         };
         self.slots.clear();
-        if let Some(line) = read_plain(alloc, text, &mut self.slots)? {
-            return Ok(line);
-        }
-        let value = read_value(alloc, text)?;
-        line_in(alloc, &value)
+        line_of_text(alloc, text, &mut self.slots)
     }
 }
 
@@ -181,27 +180,41 @@ pub fn read_line(alloc: Global, line: &[u8]) -> Result<Line, LineFault>
     LineReader::new(alloc).read(alloc, line)
 }
 
-// The line that the text is, or its fault, where its tokens tell it. It is `None` for any other text,
-// and for some that are lines.
-fn read_plain(alloc: Global, text: &str, slots: &mut Slots) -> Result<Option<Line>, LineFault>
+// The line that the text is, or its fault: by its tokens where they tell it, and else by its value.
+fn line_of_text(alloc: Global, text: &str, slots: &mut Slots) -> Result<Line, LineFault>
     requires absent { (f : Field) → slot_at slots.old f ≡ Slot.Absent }
-    ensures { MatchResult result
-        (λ found. IfSome found (λ line. (value : Data)
-        × (read text.now ≡ Some value) × ReadsValue value (Ok line)))
-        (λ fault. fault ≢ Memory → (value : Data)
-        × (read text.now ≡ Some value) × ReadsValue value (Err fault)) }
+    ensures { result ≢ Err Memory → ReadsText text.now result }
+{
+    let Some(row) = plain_row(alloc, text, slots)? else {
+        return any_line(alloc, text);
+    };
+    let found = row.line(alloc, slots);
+    if found.is_ok() && !slots.are_taken() {
+        return any_line(alloc, text);
+    }
+    found
+}
+
+// The row that the text names, where its tokens tell its slots. It is `None` for any other text, and for
+// some that are lines.
+fn plain_row(alloc: Global, text: &str, slots: &mut Slots) -> Result<Option<Row>, AllocError>
+    requires absent { (f : Field) → slot_at slots.old f ≡ Slot.Absent }
+    ensures { IfOk result (λ found. IfSome found (λ row. (ms : Members)
+        × (read text.now ≡ Some (object ms)) × AreMembers ms slots.new
+        × (as_row (slot_at slots.new Field.Command) ≡ Some row))) }
 {
     if !read_slots(alloc, text, slots)? {
         return Ok(None);
     }
-    let Some(row) = slots.row() else {
-        return Ok(None);
-    };
-    let line = row.line(alloc, slots)?;
-    if !slots.are_taken() {
-        return Ok(None);
-    }
-    Ok(Some(line))
+    Ok(slots.row())
+}
+
+// The line that any text is, or its fault, by its value.
+fn any_line(alloc: Global, text: &str) -> Result<Line, LineFault>
+    ensures { result ≢ Err Memory → ReadsText text.now result }
+{
+    let value = read_value(alloc, text)?;
+    line_in(alloc, &value)
 }
 
 // The JSON value that the text is.

@@ -1,15 +1,19 @@
 -- What a pass over a line's tokens has read, for private clauses.
-use Rattle.std.specs.Prelude.{◌≡◌, ℕ, List, Option, Some, None, length}
+use Rattle.std.specs.Prelude.{◌≡◌, ◌⊎◌, ℕ, List, Option, Some, None, Result, Err, length}
 use Rattle.json.specs.Token.{Token}
 use Rattle.json.specs.Json.{items, members, value}
 use Rattle.serde_json.specs.Data.{Data, Items, Members, no_members, put}
 use Rattle.serde_json.specs.Find.{get_member}
-use Rattle.serde_json.specs.Read.{of_json, of_items, of_members, converted}
+use Rattle.serde_json.specs.Read.{of_json, of_items, of_members, converted, read}
 use Rattle.json_api.specs.declared.fields.Field.{Field}
 use Rattle.json_api.specs.declared.slots.Slot.{Slot}
 use Rattle.json_api.specs.Names.{name_of, kind_of, field_named}
 use Rattle.json_api.specs.inner.Slots.{slot_at}
+use Rattle.json_api.specs.declared.line.Line.{Line}
+use Rattle.json_api.specs.declared.line.LineFault.{LineFault}
+use Rattle.json_api.specs.declared.line.LineFault.TheVariants.{BadLine}
 use Rattle.json_api.specs.Line.{Tells}
+use Rattle.json_api.specs.Line as line
 
 -- of the tokens, the first are a member's value
 abbrev pub ReadsValue : List Token → Data → List Token → Type 0
@@ -37,3 +41,8 @@ abbrev pub Fills : Field → List Token → List Token → List Slot → List Sl
 Fills f old new before after =
     (d : Data) × ReadsValue old d new
     × ((ms : Members) → AreMembers ms before → AreMembers (put (name_of f) d ms) after)
+
+-- What a text of few enough bytes is read as: where it is a JSON text, what the table says of its value.
+abbrev pub ReadsText : List ℕ → Result Line LineFault → Type 0
+ReadsText text result =
+    ((value : Data) × (read text ≡ Some value) × line.ReadsValue value result) ⊎ ((read text ≡ None) × (result ≡ Err BadLine))
