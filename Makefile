@@ -14,7 +14,7 @@ run:
 	@sh examples/run-first-session
 
 build:
-	@echo "Proving and building krillc (ten to twenty minutes on four processors where nothing is kept) ..."
+	@echo "Proving and building krillc (an hour or more on four processors where nothing is kept) ..."
 	cd crates/krillc && rt run -- --version </dev/null
 	@echo "Proved. The program is $(CURDIR)/crates/krillc/out/krillc; 'krillc --help' says how it is run."
 
