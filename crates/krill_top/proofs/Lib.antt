@@ -7,6 +7,7 @@ pub mod Moving
 pub mod Commanding
 pub mod Lists
 pub mod Cuts
+pub mod FoundCuts
 pub mod Since
 pub mod Named
 pub mod Pressed

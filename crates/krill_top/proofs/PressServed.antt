@@ -1,7 +1,7 @@
 -- The press's disk over a run, from what opening found to what closing leaves.
 use Rattle.std.proofs.Common.{◌≡◌, ℕ, List, [], ◌∷◌, ◌++◌, refl, sym, subst, arith, inl, inr}
 use Rattle.std.proofs.lemmas.Bool.{false≢true}
-use Rattle.std.specs.Prelude.{Option, None, Some, IfSome, IsSome}
+use Rattle.std.specs.Prelude.{Option, None, Some, All, IfSome, IsSome}
 use Rattle.disk_api.specs.declared.disk.Disk.{Ghosts as DiskGhosts}
 use Rattle.gate_journal.specs.View.{RecoversTo, RecoversToInDoubt, IsSafe as IsSafeJournal}
 use Rattle.authority_book.specs.declared.commands.Command.{Command}
@@ -13,6 +13,7 @@ use Rattle.press_core.specs.Stands.{IsLeftBy}
 use Rattle.krill_top.specs.InstanceState.{InstanceState, lists_of, store_in}
 use Rattle.krill_top.specs.Histories.{HasPressRoom}
 use Rattle.krill_top.specs.PressDisk.{Holds, HoldsIn, IsPressServed}
+use Rattle.krill_top.specs.SoundEditions.{TakesNoMore}
 use Rattle.krill_top.specs.inner.Instances.{InstanceValue, IsDoubtOf, HasInDoubt, IsInState, PressGoesOn}
 use Rattle.krill_top.specs.inner.Room.{HasRoomUnknown}
 use Rattle.krill_top.specs.inner.Started.{IsPressFound}
@@ -52,14 +53,16 @@ module _ {D O : Type 0} (disk_of : DiskGhosts D) (outlet_of : OutletGhosts O) wh
       (subst (λ (n : ℕ). RecoversToInDoubt n instance.journal.records instance.journal.doubt file) stands.journal.limit recovers))
 
   pub press_served : RecordsLaw → (session : List ℕ) (old mid back : D) (closed : InstanceValue D O) (begun ended : InstanceState) → IsPressFound disk_of session old mid begun
+      → IfSome begun.records (λ _. All (TakesNoMore begun.desk_states) begun.editions)
       → PressGoesOn disk_of mid closed.journal.disk begun ended → IsInState outlet_of closed ended → IsSafeJournal disk_of closed.journal → back ≡ closed.journal.disk
       → IsPressServed disk_of session old back begun ended
-  press_served law session old mid back closed begun ended first goes stands safe same =
+  press_served law session old mid back closed begun ended first cuts goes stands safe same =
       subst (λ (d : D). IsPressServed disk_of session old d begun ended) (sym same) (record {
         whole = first.whole;
         found = first.found;
         known = first.known;
         records = first.records;
+        cuts = cuts;
         told = subst (λ (r : Option (List (List ℕ))). IfSome (disk_of.content closed.journal.disk) (λ _. IsSome r)) stands.journal.records safe.known;
         is_open = first.is_open;
         left = some_both (disk_of.content closed.journal.disk) _ _ (HoldsIn ended) safe.known safe.bytes

@@ -1,5 +1,5 @@
 -- A run over all desks, from what opening found, what the session did, and what closing leaves.
-use Rattle.std.proofs.Common.{◌≡◌, ℕ, zero, suc, ◌+◌, ◌≤◌, List, [], ◌∷◌, ◌++◌, map, refl, sym, ◌∙◌, ap, subst, arith}
+use Rattle.std.proofs.Common.{◌≡◌, ℕ, zero, suc, ◌+◌, ◌≤◌, List, [], ◌∷◌, ◌++◌, map, refl, sym, ◌∙◌, ap, subst, arith, append-nil}
 use Rattle.std.specs.Prelude.{Bool, true, not, Option, None, Some, Result, Ok, IfSome, slice_get, ⊤}
 use Rattle.std.specs.Option.{option_map}
 use Rattle.std.proofs.lemmas.Option.{IfSome_then}
@@ -23,7 +23,7 @@ use Rattle.krill_top.specs.declared.starting.Started.{Started}
 use Rattle.key_ids.specs.Uris.{Bases}
 use Rattle.editions.specs.Edition.{Edition}
 use Rattle.gate_journal.specs.View.{IsSafe as IsSafeJournal}
-use Rattle.krill_top.specs.InstanceState.{InstanceState, at_clock, lists_of, outlet_state, is_exported}
+use Rattle.krill_top.specs.InstanceState.{InstanceState, at_clock, lists_of, outlet_state, store_in, is_exported}
 use Rattle.krill_top.specs.declared.faults.RunFault.{RunFault}
 use Rattle.krill_top.specs.declared.faults.RunFault.TheVariants as run_faults
 use Rattle.krill_top.specs.inner.Started.{IsStarted, IsStartedIn}
@@ -55,6 +55,7 @@ use Rattle.krill_top.proofs.Lists.{lists_long}
 use Rattle.krill_top.proofs.RoomServed.{room_served}
 use Rattle.krill_top.proofs.RunHistories.{run_served, goes_on}
 use Rattle.krill_top.proofs.Cuts.{made_behind}
+use Rattle.krill_top.proofs.FoundCuts.{cuts_found}
 use Rattle.krill_top.proofs.SoundRuns.{found_sound, found_within}
 use Rattle.krill_top.proofs.Crashes.{all_kept, reopened}
 use Rattle.krill_top.proofs.Unchanged.{found_goes_on, found_reopened}
@@ -256,7 +257,8 @@ module _ {D G S K O C : Type 0} (disk_of : DiskGhosts D) (state_of : G → Signe
       let begun : InstanceState = at.begun in
       let ended : InstanceState = done.after in
       record {
-        press = press_served disk_of outlet_of records (session_of random) ends.press instance.journal.disk run.ends.press closed begun ended at.press done.press done.stands is.safe is.press;
+        press = press_served disk_of outlet_of records (session_of random) ends.press instance.journal.disk run.ends.press closed begun ended at.press
+            (cuts_found (store_in begun) begun instance.press.at at.stands.left at.press.records) done.press done.stands is.safe is.press;
         same_site = done.same_site;
         same_session = done.same_session;
         same_found = done.same_found;
@@ -281,7 +283,7 @@ module _ {D G S K O C : Type 0} (disk_of : DiskGhosts D) (state_of : G → Signe
       let begun : InstanceState = at.begun in
       let first = found_first at.opened begun at.opens.just.lists at.opens.just.editions (repeats_same {O = O} (Ok (not (is_exported at.opened))) at.opened begun at.opens.exported) in
       let press = press_served disk_of outlet_of laws.records (session_of random) ends.press instance.journal.disk run.ends.press instance begun begun at.press
-      (press_kept disk_of instance.journal.disk begun begun refl) at.stands is.safe is.press in
+      (cuts_found (store_in begun) begun instance.press.at at.stands.left at.press.records) (press_kept disk_of instance.journal.disk begun begun refl) at.stands is.safe is.press in
       record {
         disks = disks;
         press = press;
@@ -289,6 +291,7 @@ module _ {D G S K O C : Type 0} (disk_of : DiskGhosts D) (state_of : G → Signe
         outlet_ended = ap (outlet_state outlet_of) is.outlet ∙ at.stands.outlet;
         coherent = at.coherent;
         shown = started_shown outlet_of instance at.opened begun at.stands at.opens.just.exported at.opens.exported;
+        found_cuts = λ vouched all. found_within vouched begun (at.stands.stands vouched all).steps begun.editions [] (sym (append-nil begun.editions));
         goes_on = found_goes_on disk_of outlet_of laws ends.desks.items run.ends.desks.items (session_of random) ends.press run.ends.press instance begun at.stands disks press first.0 first.1;
         crash = found_reopened disk_of outlet_of laws ends.desks.items run.ends.desks.items (session_of random) ends.press run.ends.press instance begun at.stands disks press;
       }

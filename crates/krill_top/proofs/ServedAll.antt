@@ -41,7 +41,7 @@ use Rattle.session_lines.specs.declared.running.SessionOutcome.{SessionOutcome}
 use Rattle.krill_top.specs.declared.faults.RunFault.TheVariants as run_faults
 use Rattle.krill_top.specs.DeskStates.{DeskState, most_desks, commands_at, commands_of}
 use Rattle.krill_top.specs.DesksInStates.{InAt}
-use Rattle.krill_top.specs.InstanceState.{InstanceState, lists_of}
+use Rattle.krill_top.specs.InstanceState.{InstanceState, lists_of, store_in}
 use Rattle.krill_top.specs.SharedRuns.{records_at, KnowsFound, IsSharedList, Shares, AreServedIn, AreAllServed, IsNoneServed, gravest_from}
 use Rattle.krill_top.specs.inner.Instances.{InstanceValue, IsInState}
 use Rattle.krill_top.specs.inner.Shared.{worst_of}
@@ -66,6 +66,7 @@ use Rattle.press_core.specs.JournalRecords.{press_limit}
 use Rattle.krill_top.specs.SoundEditions.{AreFoundSound, TakesNoMore}
 use Rattle.krill_top.specs.inner.Opened.{AreOpened, AreClosed}
 use Rattle.krill_top.specs.inner.Started.{IsPressFound}
+use Rattle.krill_top.proofs.FoundCuts.{cuts_found}
 use Rattle.krill_top.proofs.KeptDesks.{record_at, records_or, begins_at, kept_at}
 use Rattle.krill_top.proofs.Lists.{as_many, list_at, lists_long, more_long}
 use Rattle.krill_top.proofs.OutOfLocks.{ComesOut}
@@ -299,6 +300,7 @@ module _ {D O : Type 0} (disk_of : DiskGhosts D) (outlet_of : OutletGhosts O) (l
         found = at.found;
         known = at.known;
         records = at.records;
+        cuts = cuts_found (store_in begun) begun instance.press.at stands.left at.records;
         told = subst (λ (d : D). IfSome (disk_of.content d) (λ _. IsSome are.locked.press.journal.records)) (sym here) are.closed.known;
         is_open = at.is_open;
         left = subst (λ (d : D). IfSome (disk_of.content d) (HoldsIn last)) (sym here)

@@ -29,6 +29,7 @@ use Rattle.krill_top.specs.declared.faults.OpenFault.TheVariants.{WrongCount, Da
 use Rattle.krill_top.specs.DeskStates.{DeskStates, commands_at, press_device}
 use Rattle.krill_top.specs.DesksInStates.{RoseWithin}
 use Rattle.krill_top.specs.InstanceState.{InstanceState, OutletState, lists_of, store_in}
+use Rattle.krill_top.specs.SoundEditions.{TakesNoMore}
 use Rattle.krill_top.specs.Exports.{Exports}
 
 -- ---- a run
@@ -51,14 +52,16 @@ AreBegun session begun (first ∷ rest) =
 -- The press's disk went through the run: it held the editions with which the press begins, and holds
 -- these and those that were published, with the one in doubt or without it. So does each image that a
 -- crash may leave, and all can be opened again. One is in doubt only where the disk failed in this run.
--- Where the disk told what it held the run knows the records, and these are those of the editions; where
--- it tells that in the end, it knows them then.
+-- Where the disk told what it held the run knows the records, and these are those of the editions; then
+-- none of these takes in more commands of a desk than were found, whatever signatures are worth. Where
+-- the disk tells in the end what it holds, the run knows the records then.
 pub record IsPressServed {D : Type 0} (disk_of : DiskGhosts D) (session : List ℕ) (old new : D)
     (begun ended : InstanceState) : Type 0 where
   pub whole : IfSome (disk_of.content old) (λ file. damaged_at press_limit file ≡ None)
   pub found : IfSome (disk_of.content old) (λ file. AreBegun session begun (recovered file))
   pub known : IfSome (disk_of.content old) (λ _. IsSome begun.records)
   pub records : IfSome begun.records (AreRecords (store_in begun) begun.editions)
+  pub cuts : IfSome begun.records (λ _. All (TakesNoMore begun.desk_states) begun.editions)
   pub told : IfSome (disk_of.content new) (λ _. IsSome ended.records)
   pub is_open : begun.in_doubt ≡ None
   pub left : IfSome (disk_of.content new) (HoldsIn ended)

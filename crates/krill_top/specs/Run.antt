@@ -370,6 +370,10 @@ pub record LeavesFound {D G S K O C : Type 0} (disk_of : DiskGhosts D) (state_of
   pub outlet_ended : outlet_state outlet_of run.ends.outlet ≡ begun.outlet
   pub coherent : IsCoherentIn opened → IsCoherentIn begun
   pub shown : (begun.editions ≡ []) ⊎ ShowsLastIn begun
+  -- no edition takes in more than the desks hold, where those that were found are steps (where the
+  -- press's disk tells what it holds, `press.cuts` says so without that)
+  pub found_cuts : (vouched : Vouched) → AreVouchedIn vouched begun
+      → All (TakesNoMore begun.desk_states) begun.editions
   pub goes_on : (history : History) → MayFind history begun
       → GoesOnAs begun.site history (signatures begun.calls) (work_of begun begun)
   -- and whatever a crash on return leaves is what a reopening behind that may find
