@@ -1,5 +1,5 @@
 -- What a line comes to, by its slots.
-use Rattle.std.proofs.Common.{◌≡◌, ◌≢◌, ◌≤◌, ℕ, List, length, Bool, true, false, true≢false, Option, Some, None, Ok, Err, IsUtf8, inl, inr, refl, sym, ap, subst, ◌∙◌}
+use Rattle.std.proofs.Common.{◌≡◌, ◌≢◌, ◌≤◌, ℕ, List, length, true, false, true≢false, Option, Some, None, Ok, Err, IsUtf8, inl, inr, refl, sym, ap, subst, ◌∙◌}
 use Rattle.std.specs.Prelude.{Result, OnOk, is_ok}
 use Rattle.serde_json.specs.Read.{read}
 use Rattle.line_loop.specs.declared.TheConstants.{LINE_LIMIT}
@@ -10,14 +10,14 @@ use Rattle.json_api.specs.declared.fields.Field.TheVariants.{Command}
 use Rattle.json_api.specs.declared.fields.Row.{Row}
 use Rattle.json_api.specs.declared.line.Line.{Line}
 use Rattle.json_api.specs.declared.line.LineFault.{LineFault}
-use Rattle.json_api.specs.declared.line.LineFault.TheVariants.{BadLine, UnknownCommand, Memory}
+use Rattle.json_api.specs.declared.line.LineFault.TheVariants.{BadLine, UnknownCommand}
 use Rattle.json_api.specs.declared.slots.Slot.{Slot}
 use Rattle.json_api.specs.declared.slots.Slot.TheVariants.{Absent}
 use Rattle.json_api.specs.Names.{name_of, kind_of}
 use Rattle.json_api.specs.Rows.{Slots, as_row}
 use Rattle.json_api.specs.Table.{fields_of, line_at, first_other, only, of_row, of_members}
 use Rattle.json_api.specs.inner.Slots.{slot_at, left_of, are_taken, first_left}
-use Rattle.json_api.specs.Line.{Tells, AreSlots, IsDocument, ReadsValue, ReadsLine}
+use Rattle.json_api.specs.Line.{Tells, AreSlots, ReadsValue, ReadsLine}
 use Rattle.json_api.specs.inner.Passes.{IsMember, AreMembers, ReadsText}
 use Rattle.json_api.proofs.Named.{field_named-name_of}
 use Rattle.json_api.proofs.Others.{none_other, first_left-other}

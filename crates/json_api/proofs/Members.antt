@@ -55,6 +55,7 @@ module _ (ms : Members) (slots : List Slot) (f : Field) (d : Data) (s : Slot) wh
     pub AreMembers-put : AreMembers (put (name_of f) d ms) (set slots (place_of f) s)
     AreMembers-put name = at name (bytes_eq name (name_of f)) refl
 
+-- a slot that is set to what its value says is filled with it
 pub filled : (f : Field) (of : Kind) (s : Slot) (old new : List Token) (before after : List Slot) → kind_of f ≡ of
     → ((d : Data) × ReadsValue old d new × Says of d s) → after ≡ set before (place_of f) s → slot_at after f ≡ s → Fills f old new before after
 filled f of s old new before after kind told is here =

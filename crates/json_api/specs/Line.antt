@@ -88,12 +88,14 @@ pub record IsDocument (bytes : List ℕ) (value : Data) : Type 0 where
   pub utf8 : IsUtf8 bytes
   pub text : read bytes ≡ Some value
 
--- What bytes are read as: where they are a JSON text, what the table says of its value.
+-- What a JSON value is read as: what the table says of its members.
 pub record ReadsValue (value : Data) (result : Result Line LineFault) : Type 0 where
   pub slots : Slots
   pub are : AreSlots value slots
   pub says : result ≡ line_of value slots
 
+-- What bytes are read as: where they are a JSON text, what the table says of its value, and else a bad
+-- line.
 abbrev pub ReadsLine : List ℕ → Result Line LineFault → Type 0
 ReadsLine bytes result =
     ((value : Data) × (IsDocument bytes value × ReadsValue value result))

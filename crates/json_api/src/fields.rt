@@ -75,9 +75,9 @@ pub(crate) const FIELDS: [Field; 10] = [
     Field::Signer,
 ];
 
-// Whether the text is that word. One of another length is told without a look at its bytes.
+// Whether the text is that word. The lengths are compared here, which spares a call for most words.
 #[tactic(auto, using(crate::proofs::Named::unlike_long))]
-fn is(text: &str, word: &str) -> bool
+fn is_word(text: &str, word: &str) -> bool
     ensures { result ≡ bytes_eq text.now word.now }
 {
     text.len() == word.len() && text == word
@@ -108,16 +108,16 @@ impl Field {
     {
         match name {
             // What stands in most lines comes first.
-            _ if is(name, "command") => Some(Field::Command),
-            _ if is(name, "ca") => Some(Field::Ca),
-            _ if is(name, "add") => Some(Field::Add),
-            _ if is(name, "remove") => Some(Field::Remove),
-            _ if is(name, "child") => Some(Field::Child),
-            _ if is(name, "looks") => Some(Field::Looks),
-            _ if is(name, "parent") => Some(Field::Parent),
-            _ if is(name, "resources") => Some(Field::Resources),
-            _ if is(name, "serial") => Some(Field::Serial),
-            _ if is(name, "signer") => Some(Field::Signer),
+            _ if is_word(name, "command") => Some(Field::Command),
+            _ if is_word(name, "ca") => Some(Field::Ca),
+            _ if is_word(name, "add") => Some(Field::Add),
+            _ if is_word(name, "remove") => Some(Field::Remove),
+            _ if is_word(name, "child") => Some(Field::Child),
+            _ if is_word(name, "looks") => Some(Field::Looks),
+            _ if is_word(name, "parent") => Some(Field::Parent),
+            _ if is_word(name, "resources") => Some(Field::Resources),
+            _ if is_word(name, "serial") => Some(Field::Serial),
+            _ if is_word(name, "signer") => Some(Field::Signer),
             _ => None,
         }
     }
@@ -161,24 +161,24 @@ impl Row {
     {
         match text {
             // What most lines say comes first.
-            _ if is(text, "roas update") => Some(Row::RoasUpdate),
-            _ if is(text, "add") => Some(Row::Add),
-            _ if is(text, "delete") => Some(Row::Delete),
-            _ if is(text, "parents add") => Some(Row::ParentsAdd),
-            _ if is(text, "children add") => Some(Row::ChildrenAdd),
-            _ if is(text, "children update") => Some(Row::ChildrenUpdate),
-            _ if is(text, "children remove") => Some(Row::ChildrenRemove),
-            _ if is(text, "children suspend") => Some(Row::ChildrenSuspend),
-            _ if is(text, "children unsuspend") => Some(Row::ChildrenUnsuspend),
-            _ if is(text, "keyroll init") => Some(Row::KeyrollInit),
-            _ if is(text, "keyroll activate") => Some(Row::KeyrollActivate),
-            _ if is(text, "publish") => Some(Row::Publish),
-            _ if is(text, "serial") => Some(Row::Serial),
-            _ if is(text, "await") => Some(Row::Await),
-            _ if is(text, "list") => Some(Row::List),
-            _ if is(text, "show") => Some(Row::Show),
-            _ if is(text, "roas list") => Some(Row::RoasList),
-            _ if is(text, "history commands") => Some(Row::HistoryCommands),
+            _ if is_word(text, "roas update") => Some(Row::RoasUpdate),
+            _ if is_word(text, "add") => Some(Row::Add),
+            _ if is_word(text, "delete") => Some(Row::Delete),
+            _ if is_word(text, "parents add") => Some(Row::ParentsAdd),
+            _ if is_word(text, "children add") => Some(Row::ChildrenAdd),
+            _ if is_word(text, "children update") => Some(Row::ChildrenUpdate),
+            _ if is_word(text, "children remove") => Some(Row::ChildrenRemove),
+            _ if is_word(text, "children suspend") => Some(Row::ChildrenSuspend),
+            _ if is_word(text, "children unsuspend") => Some(Row::ChildrenUnsuspend),
+            _ if is_word(text, "keyroll init") => Some(Row::KeyrollInit),
+            _ if is_word(text, "keyroll activate") => Some(Row::KeyrollActivate),
+            _ if is_word(text, "publish") => Some(Row::Publish),
+            _ if is_word(text, "serial") => Some(Row::Serial),
+            _ if is_word(text, "await") => Some(Row::Await),
+            _ if is_word(text, "list") => Some(Row::List),
+            _ if is_word(text, "show") => Some(Row::Show),
+            _ if is_word(text, "roas list") => Some(Row::RoasList),
+            _ if is_word(text, "history commands") => Some(Row::HistoryCommands),
             _ => None,
         }
     }

@@ -1,8 +1,8 @@
 //! Lines: one JSON object each (RFC 8259 section 4), which gives a command to an authority or asks
 //! for something.
 
-ghost use Rattle.std.specs.Prelude.{◌≡◌, ◌≢◌, ◌⊎◌, ℕ, List, Result, IfOk, IfSome, MatchResult, Some, None, Ok, Err, IsUtf8, string_bytes};
-ghost use Rattle.serde_json.specs.Data.{Data, object, Members};
+ghost use Rattle.std.specs.Prelude.{◌≡◌, ◌≢◌, ℕ, List, Result, IfOk, IfSome, MatchResult, Some, None, Ok, Err};
+ghost use Rattle.serde_json.specs.Data.{object, Members};
 ghost use Rattle.serde_json.specs.Read.{read};
 ghost use Rattle.serde_json.specs.View.{view};
 ghost use Rattle.json_api.specs.Names.{name_of};
@@ -185,19 +185,20 @@ fn line_of_text(alloc: Global, text: &str, slots: &mut Slots) -> Result<Line, Li
     requires absent { (f : Field) → slot_at slots.old f ≡ Slot.Absent }
     ensures { result ≢ Err Memory → ReadsText text.now result }
 {
-    let Some(row) = plain_row(alloc, text, slots)? else {
-        return any_line(alloc, text);
+    let Some(row) = row_by_tokens(alloc, text, slots)? else {
+        return line_by_value(alloc, text);
     };
     let found = row.line(alloc, slots);
     if found.is_ok() && !slots.are_taken() {
-        return any_line(alloc, text);
+        // Which other member comes first is told by the value.
+        return line_by_value(alloc, text);
     }
     found
 }
 
 // The row that the text names, where its tokens tell its slots. It is `None` for any other text, and for
 // some that are lines.
-fn plain_row(alloc: Global, text: &str, slots: &mut Slots) -> Result<Option<Row>, AllocError>
+fn row_by_tokens(alloc: Global, text: &str, slots: &mut Slots) -> Result<Option<Row>, AllocError>
     requires absent { (f : Field) → slot_at slots.old f ≡ Slot.Absent }
     ensures { IfOk result (λ found. IfSome found (λ row. (ms : Members)
         × (read text.now ≡ Some (object ms)) × AreMembers ms slots.new
@@ -210,7 +211,7 @@ fn plain_row(alloc: Global, text: &str, slots: &mut Slots) -> Result<Option<Row>
 }
 
 // The line that any text is, or its fault, by its value.
-fn any_line(alloc: Global, text: &str) -> Result<Line, LineFault>
+fn line_by_value(alloc: Global, text: &str) -> Result<Line, LineFault>
     ensures { result ≢ Err Memory → ReadsText text.now result }
 {
     let value = read_value(alloc, text)?;

@@ -85,6 +85,7 @@ fn is_plain(byte: u8) -> bool
 fn is_blank(byte: u8) -> bool
     ensures { result ≡ is_blank byte }
 {
+    // Most bytes are above a blank, and one comparison tells that.
     byte <= b' ' && matches!(byte, b' ' | b'\t' | b'\r' | b'\n')
 }
 

@@ -18,15 +18,15 @@ use std::alloc::Global;
 const LOOKS: u64 = 1_000_000;
 
 impl Row {
-    /// The line of that row, where no other member is left: a function a row, which takes the row's fields
-    /// out of the slots in their order. The first that can't be taken is the fault.
+    /// The line of that row, where no other member is left. An arm a row: its fields are taken out of the
+    /// slots in their order, and the first that can't be taken is the fault.
     pub(crate) fn line(self, alloc: Global, slots: &mut Slots) -> Result<Line, LineFault>
         ensures line { result ≢ Err Memory → result ≡ line_at self (slot_at slots.old) }
         ensures left { OnOk result (slots.new ≡ left_of (fields_of self) slots.old) }
     {
         match self {
-            Row::Add => add(slots),
-            Row::Delete => simple(slots, Command::Delete),
+            Row::Add => add_authority(slots),
+            Row::Delete => name_alone(slots, Command::Delete),
             Row::ParentsAdd => add_parent(slots),
             Row::ChildrenAdd => add_child(slots),
             Row::ChildrenUpdate => update_child(slots),
@@ -34,8 +34,8 @@ impl Row {
             Row::ChildrenSuspend => suspend_child(slots),
             Row::ChildrenUnsuspend => unsuspend_child(slots),
             Row::RoasUpdate => update_roas(alloc, slots),
-            Row::KeyrollInit => simple(slots, Command::InitRoll),
-            Row::KeyrollActivate => simple(slots, Command::ActivateRoll),
+            Row::KeyrollInit => name_alone(slots, Command::InitRoll),
+            Row::KeyrollActivate => name_alone(slots, Command::ActivateRoll),
             Row::Publish => Ok(Line::Publish),
             Row::Serial => Ok(Line::Serial),
             Row::Await => wait(slots),
@@ -47,7 +47,7 @@ impl Row {
     }
 }
 
-fn add(slots: &mut Slots) -> Result<Line, LineFault>
+fn add_authority(slots: &mut Slots) -> Result<Line, LineFault>
     ensures line { result ≢ Err Memory → result ≡ line_at Row.Add (slot_at slots.old) }
     ensures left { OnOk result (slots.new ≡ left_of (fields_of Row.Add) slots.old) }
 {
@@ -57,7 +57,7 @@ fn add(slots: &mut Slots) -> Result<Line, LineFault>
 }
 
 // A command that says nothing but its authority's name.
-fn simple(slots: &mut Slots, given: Command) -> Result<Line, LineFault>
+fn name_alone(slots: &mut Slots, given: Command) -> Result<Line, LineFault>
     ensures line { result ≢ Err Memory → result
         ≡ made (slot_at slots.old) (required Field.Ca ∷ []) (λ ca. Line.Command ca given) }
     ensures left { OnOk result (slots.new ≡ left_of (Field.Ca ∷ []) slots.old) }

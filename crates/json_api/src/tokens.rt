@@ -2,7 +2,7 @@
 
 ghost use Rattle.std.specs.Prelude.{◌≡◌, ◌≤◌, ◌∷◌, ℕ, List, length, Some, IfOk, IfSome, IsTrue};
 ghost use Rattle.json.specs.Token.{string as string_token};
-ghost use Rattle.serde_json.specs.Data.{Data, string, object, Items, Members, put};
+ghost use Rattle.serde_json.specs.Data.{Data, object, Items, Members, put};
 ghost use Rattle.serde_json.specs.Read.{read};
 ghost use Rattle.origins.specs.Origin.{SpellsOrigin};
 ghost use Rattle.json_api.specs.Line.{Says, AreOriginTexts};
@@ -19,8 +19,8 @@ use names::Name;
 use origins::Origin;
 use std::alloc::{AllocError, Global};
 
-/// Whether the text is a line whose members are all fields, each a text or a list of origins in good
-/// form. Their slots are filled then.
+/// Fills the slots of a line whose members are all fields, each plainly a text or a list of origins in
+/// good form, and says whether the text is such a line.
 pub(crate) fn read_slots(alloc: Global, text: &str, slots: &mut Slots) -> Result<bool, AllocError>
     requires absent { (f : Field) → slot_at slots.old f ≡ Slot.Absent }
     ensures { IfOk result (λ good. IsTrue good
@@ -58,7 +58,8 @@ fn read_members(
     }
 }
 
-// Whether the member of that name is a field in good form.
+// Fills the slot of the field of that name, and says whether there is one and its value is plainly in good
+// form.
 fn read_member(
     alloc: Global,
     reader: &mut PlainReader<'_>,
@@ -76,7 +77,8 @@ fn read_member(
     fill(alloc, reader, field, slots)
 }
 
-// Whether the next value is a text or a list in the field's grammar. Its slot is filled then.
+// Fills the field's slot where the next value is plainly a text or a list in its grammar, and says whether
+// it did.
 fn fill(
     alloc: Global,
     reader: &mut PlainReader<'_>,
@@ -95,7 +97,7 @@ fn fill(
     }
 }
 
-// Whether the next value is a row's command. Its slot is filled then.
+// Fills the field's slot where the next value is plainly a row's command, and says whether it did.
 fn fill_row(reader: &mut PlainReader<'_>, field: Field, slots: &mut Slots) -> bool
     requires kind { kind_of field ≡ Kind.Row }
     ensures good { IsTrue result → Fills field reader.old reader.new slots.old slots.new }
@@ -108,7 +110,7 @@ fn fill_row(reader: &mut PlainReader<'_>, field: Field, slots: &mut Slots) -> bo
     true
 }
 
-// Whether the next value is a name. Its slot is filled then.
+// Fills the field's slot where the next value is plainly a name, and says whether it did.
 fn fill_name(reader: &mut PlainReader<'_>, field: Field, slots: &mut Slots) -> bool
     requires kind { kind_of field ≡ Kind.Name }
     ensures good { IsTrue result → Fills field reader.old reader.new slots.old slots.new }
@@ -121,7 +123,7 @@ fn fill_name(reader: &mut PlainReader<'_>, field: Field, slots: &mut Slots) -> b
     true
 }
 
-// Whether the next value is a list of origins. Its slot is filled then.
+// Fills the field's slot where the next value is plainly a list of origins, and says whether it did.
 fn fill_origins(
     alloc: Global,
     reader: &mut PlainReader<'_>,

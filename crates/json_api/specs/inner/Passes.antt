@@ -6,14 +6,14 @@ use Rattle.serde_json.specs.Data.{Data, Items, Members, no_members, put}
 use Rattle.serde_json.specs.Find.{get_member}
 use Rattle.serde_json.specs.Read.{of_json, of_items, of_members, converted, read}
 use Rattle.json_api.specs.declared.fields.Field.{Field}
-use Rattle.json_api.specs.declared.slots.Slot.{Slot}
-use Rattle.json_api.specs.Names.{name_of, kind_of, field_named}
-use Rattle.json_api.specs.inner.Slots.{slot_at}
 use Rattle.json_api.specs.declared.line.Line.{Line}
 use Rattle.json_api.specs.declared.line.LineFault.{LineFault}
 use Rattle.json_api.specs.declared.line.LineFault.TheVariants.{BadLine}
+use Rattle.json_api.specs.declared.slots.Slot.{Slot}
+use Rattle.json_api.specs.Names.{name_of, kind_of, field_named}
 use Rattle.json_api.specs.Line.{Tells}
 use Rattle.json_api.specs.Line as line
+use Rattle.json_api.specs.inner.Slots.{slot_at}
 
 -- of the tokens, the first are a member's value
 abbrev pub ReadsValue : List Token → Data → List Token → Type 0
@@ -42,7 +42,8 @@ Fills f old new before after =
     (d : Data) × ReadsValue old d new
     × ((ms : Members) → AreMembers ms before → AreMembers (put (name_of f) d ms) after)
 
--- What a text of few enough bytes is read as: where it is a JSON text, what the table says of its value.
+-- What a text of few enough bytes is read as: where it is a JSON text, what the table says of its value,
+-- and else a bad line.
 abbrev pub ReadsText : List ℕ → Result Line LineFault → Type 0
 ReadsText text result =
     ((value : Data) × (read text ≡ Some value) × line.ReadsValue value result) ⊎ ((read text ≡ None) × (result ≡ Err BadLine))

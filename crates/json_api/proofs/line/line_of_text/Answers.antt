@@ -1,4 +1,4 @@
-use Rattle.std.proofs.Common.{◌≡◌, ◌≢◌, List, Option, Some, Err, IfSome, true, sym, subst, ◌∙◌}
+use Rattle.std.proofs.Common.{◌≡◌, Option, Some, IfSome, true, sym, subst, ◌∙◌}
 use Rattle.std.specs.Prelude.{OnOk}
 use Rattle.serde_json.specs.Data.{object, Members}
 use Rattle.serde_json.specs.Read.{read}
@@ -13,7 +13,7 @@ use Rattle.json_api.proofs.line.line_of_text.Goals.{else-is_ok-via-then-is_ok+el
 
 pub returns : goal.returns
 returns c fine =
-    let slots = c.plain_row.new.slots in
+    let slots = c.row_by_tokens.new.slots in
     let row = c.in-Some.row in
     let told = subst (λ (o : Option Row). IfSome o (λ row. (ms : Members) × (read c.args.text.now ≡ Some (object ms)) × AreMembers ms slots
     × (as_row (slot_at slots Command) ≡ Some row))) c.in-Some.is c.in_ok-row.ensures in
