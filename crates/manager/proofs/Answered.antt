@@ -81,7 +81,13 @@ module _ {D O : Type 0} (outlet_of : OutletGhosts O) (named : Named) (press : St
   behind : IsLockedOver outlet_of named is.editions is.lists is.run is.calls (lock press seats board outlet)
   behind = over outlet_of named (lock press seats board outlet) is
 
-  -- the serial that is shown last is that of what stands
+  -- what stands is shown last
+  pub shown_last : (before : List ShownEdition) × (board.shown ≡ before ++ shown_at press.press.at ∷ [])
+  shown_last =
+      let front = front_of_shown named.at is.run in
+      (front.0, behind.shown ∙ (front.1 ∙ ap (λ (s : PublishedStateValue). front.0 ++ shown_at s ∷ []) (sym behind.made.last)))
+
+  -- and its serial is
   pub shown_serial : last_serial board.shown ≡ press.press.at.serial
   shown_serial =
       ap last_serial behind.shown ∙ (last_serial_in named.at is.run ∙ ap (λ (s : PublishedStateValue). s.serial) (sym behind.made.last))
@@ -132,13 +138,11 @@ module _ {D O : Type 0} (outlet_of : OutletGhosts O) (named : Named) (press : St
 
     nothing_shown : (serial : ℕ) → IsNothing (start_of press.press clock groups) serial → IsShownTo serial seats board.shown
     nothing_shown serial nothing =
-        let front = front_of_shown named.at is.run in
-        let last : last_of named.at is.run ≡ press.press.at = sym behind.made.last in
         record {
           edition = shown_at press.press.at;
           is = record {
-            before = front.0;
-            last = behind.shown ∙ (front.1 ∙ ap (λ (s : PublishedStateValue). front.0 ++ shown_at s ∷ []) last);
+            before = shown_last.0;
+            last = shown_last.1;
             cut = λ desk.
                 let less = not_called press.press.at (cut_with press.press.at.cut groups) (moment_behind clock press.press.at.moment)
                 (next_keys (basis_for (start_of press.press clock groups) nothing.sets)) nothing.called.answer desk in

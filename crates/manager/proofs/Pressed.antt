@@ -28,11 +28,12 @@ use Rattle.manager.specs.Gathered.{AreSince}
 use Rattle.manager.specs.Run.{shown_at}
 use Rattle.manager.specs.Locked.{LockedValue, IsLockedOver, IsLocked, all_of}
 use Rattle.manager.specs.Pressing.{IsReady, IsUnready, IsCommitted}
-use Rattle.manager.specs.Answers.{IsBehind, IsFailedBy}
+use Rattle.manager.specs.Answers.{IsBehind, IsNextShown, IsFailedBy}
 use Rattle.manager.specs.Limits.{FitsWith}
 use Rattle.manager.proofs.Holding.{RecordsLaw}
 use Rattle.manager.proofs.Rooms.{fits_behind, fits_then}
 use Rattle.manager.proofs.Over.{over}
+use Rattle.manager.proofs.Answered.{shown_last}
 use Rattle.manager.proofs.Kept.{VouchLaw, CoherentLaw, ShownLaw, lock, locked_asked, Readied, locked_pressed, locked_doubted}
 
 -- the groups are what is behind the cut, whatever the followers have seen
@@ -127,6 +128,21 @@ module _ {D O : Type 0} (outlet_of : OutletGhosts O) (named : Named) (press : St
     pub pressed_shown : (shown : BoardSeat) → shown ≡ record readied { shown = readied.shown ++ shown_at prepared.edition.next ∷ []; ready = None } → shown.shown ≡ board.shown ++ shown_at prepared.edition.next ∷ []
     pressed_shown shown shown_is =
         ap (λ (b : BoardSeat). b.shown) shown_is ∙ ap (λ (b : BoardSeat). b.shown ++ shown_at prepared.edition.next ∷ []) on_board
+
+    pub pressed_next : (told : PublishedNumbers) → told ≡ published_of prepared.edition.next → (shown : BoardSeat)
+        → shown ≡ record readied { shown = readied.shown ++ shown_at prepared.edition.next ∷ []; ready = None } → IsNextShown clock board.shown told shown.shown
+    pressed_next told told_is shown shown_is =
+        let last = shown_last outlet_of named press seats board outlet is in
+        let behind = pressed_behind told told_is in
+        record {
+          before = last.0;
+          standing = shown_at press.press.at;
+          edition = shown_at prepared.edition.next;
+          stood = last.1;
+          last = pressed_shown shown shown_is;
+          serial = behind.serial;
+          moment = behind.moment;
+        }
 
     -- the disk failed
     pub doubted_locked : (disk_of : DiskGhosts D) (rose : ℕ × ℕ) (new : StoredValue D) (still : BoardSeat) → IsCommitFault disk_of rose prepared ready new → new.journal.limit ≡ ready.journal.limit → still ≡ readied

@@ -1,17 +1,15 @@
 -- What a pass is told of a publication.
-use Rattle.std.proofs.Common.{ℕ, ◌+◌, ◌≤◌, List, length, sym, subst, arith, inr}
+use Rattle.std.proofs.Common.{ℕ, ◌≤◌, List, length, arith, inr}
 use Rattle.std.specs.Prelude.{◌⊎◌, Option, None, Some, IfSome, Result, Ok, Err, IfErr}
-use Rattle.std.proofs.Math.Nat.{le-max_left}
 use Rattle.disk_api.specs.declared.disk.Disk.{Ghosts as DiskGhosts}
 use Rattle.commit_word.specs.Seats.{FollowerSeat}
 use Rattle.notice_board.specs.declared.shown.ShownEdition.{ShownEdition}
-use Rattle.editions.specs.PublishedState.{PublishedStateValue}
 use Rattle.editions.specs.declared.gathered.Gathered.{Gathered}
 use Rattle.editions.specs.declared.published_state.PublishedNumbers.{PublishedNumbers}
 use Rattle.press_core.specs.PrepareInput.{start_of}
 use Rattle.press_core.specs.Stored.{StoredValue}
 use Rattle.manager.specs.Lists.{seat_at}
-use Rattle.manager.specs.Answers.{IsShownLast, IsShownTo, IsAnswered, IsBehind, IsNotPublished, IsMetBy, nothing_behind}
+use Rattle.manager.specs.Answers.{IsShownLast, IsShownTo, IsAnswered, IsNotPublished, IsMetBy, nothing_behind}
 use Rattle.manager.specs.Publishing.{IsUngathered, IsMetAt}
 use Rattle.manager.specs.declared.publish_fault.PublishFault.{PublishFault}
 use Rattle.manager.specs.declared.publish_fault.PublishFault.TheVariants as refused
@@ -46,10 +44,6 @@ module _ (known more : List FollowerSeat) (shown : List ShownEdition) (less : (d
   not_published_less (refused.Unmade serial fault) is = (is.0, behind_less (nothing_behind fault) is.1)
   not_published_less (refused.Repeated serial fault) is = (is.0, shown_less serial is.1)
   not_published_less (refused.Unexported serial fault) is = shown_less serial is
-
--- an edition's moment isn't before the clock
-pub not_before : (clock : ℕ) (at : PublishedStateValue) (told : PublishedNumbers) → IsBehind clock at told → clock ≤ told.moment
-not_before clock at told is = subst (λ (n : ℕ). clock ≤ n) (sym is.moment) (le-max_left clock (at.moment + 1))
 
 -- what met the press met the publication
 pub met_at : {T D O : Type 0} (disk_of : DiskGhosts D) (clock : ℕ) (old new : StoredValue D) (gathered : List Gathered) (result : Result T (PublishFault D O))

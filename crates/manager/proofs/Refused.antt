@@ -1,5 +1,5 @@
 -- What is said of a publication that is refused.
-use Rattle.std.proofs.Common.{◌≡◌, ◌≢◌, ℕ, Bool, true, false, not, ◌&&◌, ◌||◌, List, [], ◌∷◌, ◌++◌, refl, sym, ◌∙◌, ap, subst, arith}
+use Rattle.std.proofs.Common.{inl, inr, ◌≡◌, ◌≢◌, ℕ, Bool, true, false, not, ◌&&◌, ◌||◌, List, [], ◌∷◌, ◌++◌, refl, sym, ◌∙◌, ap, subst, arith}
 use Rattle.std.specs.Prelude.{◌==◌, Option, None, Some, IfSome, is_some, Result, Ok, Err, IfErr, OnErr}
 use Rattle.std.proofs.lemmas.Bool.{true≢false, false≢true}
 use Rattle.std.proofs.lemmas.Bool.Decides.{nat_tests}
@@ -17,7 +17,7 @@ use Rattle.manager.specs.declared.publish_fault.Unmade.TheVariants.{Unprepared, 
 use Rattle.manager.specs.declared.publish_fault.PublishFault.{PublishFault}
 use Rattle.manager.specs.declared.publish_fault.PublishFault.TheVariants as refused
 use Rattle.manager.specs.Pressing.{exported_as}
-use Rattle.manager.specs.Answers.{IsShownTo, IsAnswered, IsNotPublished, IsUnexported, IsUnmadeFor, IsMetBy, IsFaultOf, is_of, is_exported, IsExportLeft}
+use Rattle.manager.specs.Answers.{IsShownTo, IsAnswered, IsNextShown, IsStill, IsNotPublished, IsUnexported, IsUnmadeFor, IsMetBy, IsFaultOf, is_of, is_exported, IsExportLeft}
 
 -- ---- the serial that was shown last
 
@@ -88,6 +88,18 @@ unexported_left last at serial (refused.Unexported standing fault) is failed = f
 pub left_failed : {T D O : Type 0} (result : Result T (PublishFault D O)) (last : LastExport) (at serial : ℕ) → IfErr result (IsUnexported serial) → OnErr result (last ≡ Failed) → IfErr result (IsExportLeft last at)
 left_failed (Ok answer) last at serial is failed = tt
 left_failed (Err fault) last at serial is failed = unexported_left last at serial fault is failed
+
+-- ---- what is shown then
+
+pub still_same : {D O : Type 0} (clock : ℕ) (old new : List ShownEdition) (fault : PublishFault D O) → new ≡ old → IsStill clock old new fault
+still_same clock old new (refused.Unmade serial fault) same = same
+still_same clock old new (refused.Repeated serial fault) same = same
+still_same clock old new (refused.Unexported serial fault) same = inl same
+
+pub still_made : {D O : Type 0} (clock : ℕ) (old new : List ShownEdition) (told : PublishedNumbers) (fault : PublishFault D O) → IsUnexported told.serial fault → IsNextShown clock old told new → IsStill clock old new fault
+still_made clock old new told (refused.Unmade serial fault) is next = absurd is
+still_made clock old new told (refused.Repeated serial fault) is next = absurd is
+still_made clock old new told (refused.Unexported serial fault) is next = inr (told, sym is, next)
 
 -- ---- what met it is told on
 

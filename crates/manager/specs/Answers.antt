@@ -1,6 +1,7 @@
 -- What a publication answers.
-use Rattle.std.specs.Prelude.{◌≡◌, ◌≤◌, ◌+◌, ◌==◌, ◌||◌, ℕ, Bool, true, false, List, [], ◌∷◌, ◌++◌}
+use Rattle.std.specs.Prelude.{◌≡◌, ◌⊎◌, ◌≤◌, ◌+◌, ◌==◌, ◌||◌, ℕ, Bool, true, false, List, [], ◌∷◌, ◌++◌}
 use Rattle.std.specs.Prelude.{Option, None, Some, IfSome, Result, Ok, Err, length}
+use mathlib.Core.List.{IsPrefix}
 use Rattle.disk_api.specs.declared.disk.Disk.{Ghosts as DiskGhosts}
 use Rattle.commit_word.specs.Seats.{FollowerSeat}
 use Rattle.gate_journal.specs.View as journal
@@ -51,6 +52,25 @@ pub record IsBehind (clock : ℕ) (at : PublishedStateValue) (told : PublishedNu
   pub serial : told.serial ≡ at.serial + 1
   pub moment : told.moment ≡ moment_behind clock at.moment
 
+-- One edition more is shown, which was made at this clock behind the one that was shown last: it has the
+-- next serial; and the clock's moment, or that just behind the last one.
+pub record IsNextShown (clock : ℕ) (old : List ShownEdition) (told : PublishedNumbers)
+    (new : List ShownEdition) : Type 0 where
+  pub before : List ShownEdition
+  pub standing : ShownEdition
+  pub edition : ShownEdition
+  pub stood : old ≡ before ++ standing ∷ []
+  pub last : new ≡ old ++ edition ∷ []
+  pub serial : told.serial ≡ standing.sheet.serial + 1
+  pub moment : told.moment ≡ moment_behind clock standing.sheet.moment
+
+-- So behind all that was seen before, and perhaps behind editions that weren't.
+pub record IsNewlyShown (clock : ℕ) (seen : List ShownEdition) (told : PublishedNumbers)
+    (new : List ShownEdition) : Type 0 where
+  pub old : List ShownEdition
+  pub grows : IsPrefix seen old
+  pub next : IsNextShown clock old told new
+
 -- ---- why nothing was published
 
 -- The serial behind which there was nothing to publish, where that is why.
@@ -67,6 +87,14 @@ IsNotPublished known shown (refused.Unmade serial fault) = (last_serial shown �
 IsNotPublished known shown (refused.Repeated serial fault) =
     (nothing_behind fault ≡ Some serial) × IsShownTo serial known shown
 IsNotPublished known shown (refused.Unexported serial fault) = IsShownTo serial known shown
+
+-- None more is shown, but where one was made at this clock that couldn't be brought to the outlet.
+abbrev pub IsStill : {D O : Type 0} → ℕ → List ShownEdition → List ShownEdition → PublishFault D O
+    → Type 0
+IsStill clock old new (refused.Unmade serial fault) = new ≡ old
+IsStill clock old new (refused.Repeated serial fault) = new ≡ old
+IsStill clock old new (refused.Unexported serial fault) = (new ≡ old)
+    ⊎ ((told : PublishedNumbers) × (told.serial ≡ serial) × IsNextShown clock old told new)
 
 -- The edition of that serial couldn't be brought to the outlet.
 abbrev pub IsUnexported : {D O : Type 0} → ℕ → PublishFault D O → Type 0

@@ -10,7 +10,7 @@ ghost use Rattle.editions.specs.Edition.{cut_at};
 ghost use Rattle.notice_board.specs.Lists.{last_serial};
 ghost use Rattle.manager.specs.Gathered.{IsSince, AreSince};
 ghost use Rattle.manager.specs.Answers.{IsAnswered, IsShownTo, IsNotPublished, IsUnexported, nothing_behind, is_of, is_exported};
-ghost use Rattle.manager.specs.Answers.{IsBehind, IsUnmadeFor, IsMetBy, IsFaultOf, IsExportLeft, IsRepeated};
+ghost use Rattle.manager.specs.Answers.{IsBehind, IsNextShown, IsStill, IsUnmadeFor, IsMetBy, IsFaultOf, IsExportLeft, IsRepeated};
 ghost use Rattle.press_core.specs.PrepareInput.{start_of};
 ghost use Rattle.manager.specs.Locked.{IsLocked};
 ghost use Rattle.manager.specs.Pressing.{exported_as};
@@ -296,9 +296,9 @@ impl<N: Names, D: Disk, S: Signer, O: Outlet> LockedPress<N, D, S, O> {
 }
 
 impl<N: Names, D: Disk, S: Signer + Send, O: Outlet> LockedPress<N, D, S, O> {
-    /// Makes the next edition of what was gathered of each desk behind the cut, and shows it. It isn't exported
-    /// yet. `now` is in seconds since 1970.
-    pub fn press<R: Threads + Wait + Sync>(
+    // Makes the next edition of what was gathered of each desk behind the cut, and shows it. It isn't exported
+    // yet, so this is nobody else's call.
+    fn press<R: Threads + Wait + Sync>(
         &mut self,
         rt: &R,
         alloc: Global,
@@ -311,6 +311,7 @@ impl<N: Names, D: Disk, S: Signer + Send, O: Outlet> LockedPress<N, D, S, O> {
         ensures outlet { self.new.outlet ≡ self.old.outlet }
         ensures answered { IfOk result (λ told. IsAnswered told self.old.seats self.new.board.shown) }
         ensures behind { IfOk result (IsBehind now self.old.press.press.at) }
+        ensures next { IfOk result (λ told. IsNextShown now self.old.board.shown told self.new.board.shown) }
         ensures some { OnOk result (self.new.press.press.at.serial ≢ 0) }
         ensures same { OnErr result (self.new.board.shown ≡ self.old.board.shown) }
         ensures nothing { IfErr result (λ unmade. IfSome (nothing_behind unmade) (λ serial. IsShownTo serial self.old.seats self.new.board.shown)) }
@@ -354,6 +355,8 @@ impl<N: Names, D: Disk, S: Signer + Send, O: Outlet> LockedPress<N, D, S, O> {
         ensures whole { viewer.new.seen ≡ self.new.board.shown }
         ensures published { IfOk result (λ told. IsAnswered told self.old.seats viewer.new.seen) }
         ensures behind { IfOk result (IsBehind now self.old.press.press.at) }
+        ensures next { IfOk result (λ told. IsNextShown now self.old.board.shown told self.new.board.shown) }
+        ensures still { IfErr result (IsStill now self.old.board.shown self.new.board.shown) }
         ensures exported { OnOk result (self.new.press.press.last_export ≡ Done self.new.press.press.at.serial) }
         ensures refused { IfErr result (IsNotPublished self.old.seats viewer.new.seen) }
         ensures cause { IfErr result (IsMetBy D.Disk (start_of self.old.press.press now gathered.items) self.old.press self.new.press) }
@@ -379,6 +382,8 @@ impl<N: Names, D: Disk, S: Signer + Send, O: Outlet> LockedPress<N, D, S, O> {
         ensures seats { self.new.seats ≡ self.old.seats }
         ensures published { IfOk result (λ told. IsAnswered told self.old.seats self.new.board.shown) }
         ensures behind { IfOk result (IsBehind now self.old.press.press.at) }
+        ensures next { IfOk result (λ told. IsNextShown now self.old.board.shown told self.new.board.shown) }
+        ensures still { IfErr result (IsStill now self.old.board.shown self.new.board.shown) }
         ensures exported { OnOk result (self.new.press.press.last_export ≡ Done self.new.press.press.at.serial) }
         ensures refused { IfErr result (IsNotPublished self.old.seats self.new.board.shown) }
         ensures cause { IfErr result (IsMetBy D.Disk (start_of self.old.press.press now gathered.items) self.old.press self.new.press) }

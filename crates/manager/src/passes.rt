@@ -8,7 +8,7 @@ ghost use Rattle.authority_book.specs.declared.commands.Command.{Command};
 ghost use Rattle.press_core.specs.PrepareInput.{start_of};
 ghost use Rattle.manager.specs.Lists.{AreSeen, seat_at, IsListed};
 ghost use Rattle.manager.specs.Gathered.{AreSince};
-ghost use Rattle.manager.specs.Answers.{IsAnswered, IsBehind, IsNotPublished, IsMetBy};
+ghost use Rattle.manager.specs.Answers.{IsAnswered, IsBehind, IsNextShown, IsStill, IsNotPublished, IsMetBy};
 ghost use Rattle.manager.specs.Passes.{Knows, ComesTo, KnowsMore, unmade, IsSplitOff, IsJoined, AreJoined, AreSeatsOf};
 ghost use Rattle.manager.specs.Commanding.{IsTaken, IsRefusedAt};
 
@@ -128,6 +128,8 @@ impl<N: Names> Pass<N> {
         ensures whole { self.new.shown ≡ press.new.board.shown }
         ensures published { IfOk result (λ told. IsAnswered told press.old.seats self.new.shown) }
         ensures behind { IfOk result (IsBehind now press.old.press.press.at) }
+        ensures next { IfOk result (λ told. IsNextShown now press.old.board.shown told press.new.board.shown) }
+        ensures still { IfErr result (IsStill now press.old.board.shown press.new.board.shown) }
         ensures refused { IfErr result (IsNotPublished press.old.seats self.new.shown) }
         ensures cause { IfErr result (IsMetBy D.Disk (start_of press.old.press.press now gathered.items) press.old.press press.new.press) }
     {

@@ -1,15 +1,17 @@
 //! Desks and press behind their locks, which sessions share.
-ghost use Rattle.std.specs.Prelude.{◌≡◌, ◌⊎◌, ◌≤◌, ◌<◌, List, IfOk, IfErr};
+ghost use Rattle.std.specs.Prelude.{◌≡◌, ◌⊎◌, ◌≤◌, ◌<◌, ℕ, List, IfOk, IfErr};
 ghost use mathlib.Core.List.{IsPrefix};
 ghost use Rattle.commit_word.specs.Seats.{FollowerSeat};
 ghost use Rattle.notice_board.specs.Lists.{last_serial};
+ghost use Rattle.line_loop.specs.Readings.{IsReading};
 ghost use Rattle.manager.specs.Passes.{HasLearned};
-ghost use Rattle.manager.specs.Answers.{IsAnswered, IsBehind, IsNotPublished};
-ghost use Rattle.manager.specs.Publishing.{IsUngathered, IsMetAt};
+ghost use Rattle.manager.specs.Answers.{IsAnswered, IsBehind, IsNextShown, IsNewlyShown, IsStill, IsNotPublished};
+ghost use Rattle.manager.specs.Publishing.{IsUngathered, IsMetAt, IsPublication};
 
 use crate::{LockedDesks, LockedPress, Names, Pass, PublishFault, Unmade};
 use disk_api::Disk;
 use editions::PublishedNumbers;
+use line_loop::Clock;
 use outlet_api::Outlet;
 use press_core::PrepareFault;
 use signer_api::Signer;
@@ -57,24 +59,22 @@ impl<N: Names, D: Disk, S: Signer, O: Outlet> Manager<N, D, S, O> {
 
 impl<N: Names, D: Disk, S: Signer + Send, O: Outlet> Manager<N, D, S, O> {
     /// Publishes all that the desks have accepted, which is no less than the pass has seen, and shows it to the
-    /// pass. `now` is in seconds since 1970.
+    /// pass, at the clock's next reading.
     ///
-    /// The press's lock is held throughout. Each desk's lock is taken while its commands are gathered and given
+    /// The clock is read here, once, so that no edition is made which its caller's clock doesn't tell of. The
+    /// press's lock is held from then on. Each desk's lock is taken while its commands are gathered and given
     /// back before the next: so a command waits for no signature.
-    pub fn publish<R: Threads + Wait + Sync>(
+    pub fn publish<C: Clock, R: Threads + Wait + Sync>(
         &self,
         rt: &R,
         alloc: Global,
         pass: &mut Pass<N>,
-        now: u64,
+        clock: &mut C,
     ) -> Result<PublishedNumbers, PublishFault<D, O>>
-        ensures learned { HasLearned pass.old pass.new }
-        ensures published { IfOk result (λ told. IsAnswered told pass.old.seats pass.new.shown) }
-        ensures later { IfOk result (λ told. last_serial pass.old.shown < told.serial) }
-        ensures moment { IfOk result (λ told. now ≤ told.moment) }
-        ensures refused { IfErr result (IsNotPublished pass.old.seats pass.new.shown) }
-        ensures cause { IfErr result (λ fault. IsUngathered fault ⊎ IsMetAt D.Disk now fault) }
+        ensures { (reading : ℕ) × IsReading (C.readings clock.old) reading (C.readings clock.new)
+            × IsPublication D.Disk reading result pass.old pass.new }
     {
+        let now = clock.now();
         let mut guard = self.press.lock(rt);
         let published = self.publish_held(rt, alloc, &mut *guard, pass, now);
         MutexGuard::unlock(guard);
@@ -94,7 +94,9 @@ impl<N: Names, D: Disk, S: Signer + Send, O: Outlet> Manager<N, D, S, O> {
         ensures whole { pass.new.shown ≡ locked.new.board.shown }
         ensures published { IfOk result (λ told. IsAnswered told pass.old.seats pass.new.shown) }
         ensures later { IfOk result (λ told. last_serial pass.old.shown < told.serial) }
-        ensures moment { IfOk result (λ told. now ≤ told.moment) }
+        ensures next { IfOk result (λ told. IsNextShown now locked.old.board.shown told locked.new.board.shown) }
+        ensures newly { IfOk result (λ told. IsNewlyShown now pass.old.shown told pass.new.shown) }
+        ensures still { IfErr result (IsStill now locked.old.board.shown locked.new.board.shown) }
         ensures refused { IfErr result (IsNotPublished pass.old.seats pass.new.shown) }
         ensures cause { IfErr result (λ fault. IsUngathered fault ⊎ IsMetAt D.Disk now fault) }
     {
@@ -115,6 +117,8 @@ impl<N: Names, D: Disk, S: Signer + Send, O: Outlet> Manager<N, D, S, O> {
         ensures whole { pass.new.shown ≡ press.new.board.shown }
         ensures published { IfOk result (λ told. IsAnswered told pass.old.seats pass.new.shown) }
         ensures behind { IfOk result (IsBehind now press.old.press.press.at) }
+        ensures next { IfOk result (λ told. IsNextShown now press.old.board.shown told press.new.board.shown) }
+        ensures still { IfErr result (IsStill now press.old.board.shown press.new.board.shown) }
         ensures refused { IfErr result (IsNotPublished pass.old.seats pass.new.shown) }
         ensures cause { IfErr result (λ fault. IsUngathered fault ⊎ IsMetAt D.Disk now fault) }
     {

@@ -1,12 +1,11 @@
 -- What a session is answered, line by line.
-use Rattle.std.specs.Prelude.{◌≡◌, ◌⊎◌, ℕ, ◌≤◌, ◌<◌, ◌||◌, ◌==◌, Bool, false, List, [], ◌∷◌, ◌++◌, length, IsTrue}
+use Rattle.std.specs.Prelude.{◌≡◌, ◌⊎◌, ℕ, ◌≤◌, ◌||◌, ◌==◌, Bool, false, List, [], ◌∷◌, ◌++◌, length, IsTrue}
 use Rattle.std.specs.Prelude.{Option, Result, Ok, Err, IfOk, IfErr, Vec}
 use Rattle.std.specs.declared.alloc.Global.{Global}
 use Rattle.std.specs.List.{list_all}
 use Rattle.disk_api.specs.declared.disk.Disk.{Ghosts as DiskGhosts}
 use Rattle.authority_book.specs.declared.commands.Command.{Command}
 use Rattle.commit_word.specs.Seats.{FollowerSeat}
-use Rattle.notice_board.specs.Lists.{last_serial}
 use Rattle.editions.specs.declared.published_state.PublishedNumbers.{PublishedNumbers}
 use Rattle.line_loop.specs.declared.TheConstants.{LINE_LIMIT}
 use Rattle.line_loop.specs.Readings.{IsReading}
@@ -18,8 +17,7 @@ use Rattle.json_api.specs.Refused.{refused_spelling, fault_spelling}
 use Rattle.json_api.specs.Line.{ReadsLine}
 use Rattle.manager.specs.Passes.{PassValue, HasLearned}
 use Rattle.manager.specs.Commanding.{IsAccepted, IsRefused}
-use Rattle.manager.specs.Answers.{IsAnswered, IsNotPublished}
-use Rattle.manager.specs.Publishing.{IsUngathered, IsMetAt}
+use Rattle.manager.specs.Publishing.{IsPublication}
 use Rattle.manager.specs.Awaiting.{IsAwaited}
 use Rattle.manager.specs.declared.awaiting.Awaited.{Awaited}
 use Rattle.manager.specs.declared.locked_desks_answers.CommandFault.{CommandFault}
@@ -88,16 +86,6 @@ pub record IsCommandText (D : Type 0) (name : List ℕ) (command : Command) (sig
   pub changed_is : changed ≡ changes_a_desk outcome
 
 -- ---- a publication
-
--- What a publication at this time comes to.
-pub record IsPublication {D O : Type 0} (disk_of : DiskGhosts D) (clock : ℕ)
-    (outcome : Result PublishedNumbers (PublishFault D O)) (old new : PassValue) : Type 0 where
-  pub learned : HasLearned old new
-  pub published : IfOk outcome (λ told. IsAnswered told old.seats new.shown)
-  pub later : IfOk outcome (λ told. last_serial old.shown < told.serial)
-  pub moment : IfOk outcome (λ told. clock ≤ told.moment)
-  pub unpublished : IfErr outcome (IsNotPublished old.seats new.shown)
-  pub cause : IfErr outcome (λ fault. IsUngathered fault ⊎ IsMetAt disk_of clock fault)
 
 abbrev pub keeps_then : {D O : Type 0} → Result PublishedNumbers (PublishFault D O) → KeptValue
     → KeptValue

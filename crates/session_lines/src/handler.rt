@@ -209,8 +209,7 @@ impl<N: Names, D: Disk, O: Outlet, C: Clock> Handler<N, D, O, C> {
         ensures err { OnErr result ((self.new ≡ self.old) × (out.new.items ≡ out.old.items)) }
     {
         out.reserve(REPLY_ROOM)?;
-        let now = self.clock.now();
-        match manager.publish(rt, alloc, &mut self.pass, now) {
+        match manager.publish(rt, alloc, &mut self.pass, &mut self.clock) {
             Ok(published) => {
                 append_published(out, published);
                 Ok(true)

@@ -8,11 +8,11 @@ use Rattle.press_core.specs.PrepareInput.{start_of}
 use Rattle.press_core.specs.StoredAnswers.{IsPrepareFault, rose_of}
 use Rattle.manager.specs.Locked.{LockedValue}
 use Rattle.manager.specs.Made.{HasMade, HasMadeNone}
-use Rattle.manager.specs.Answers.{IsAnswered, IsShownTo, IsBehind, nothing_behind, IsFailedBy}
+use Rattle.manager.specs.Answers.{IsAnswered, IsShownTo, IsBehind, IsNextShown, nothing_behind, IsFailedBy}
 use Rattle.manager.specs.declared.publish_fault.Unmade.TheVariants.{Unprepared}
 use Rattle.manager.proofs.Answered.{shown_serial, asks_gathered, asks_accepted, asks_live, asks_names, answered, refused_shown}
 use Rattle.manager.proofs.Risen.{press_asked, press_committed, press_doubted}
-use Rattle.manager.proofs.Pressed.{Since, since_inside, unready_locked, pressed_locked, pressed_some, pressed_behind, pressed_shown, doubted_locked, doubted_for, doubted_shown}
+use Rattle.manager.proofs.Pressed.{Since, since_inside, unready_locked, pressed_locked, pressed_some, pressed_behind, pressed_next, pressed_shown, doubted_locked, doubted_for, doubted_shown}
 use Rattle.manager.proofs.locked_press.LockedPress.press.Goals as goal
 
 -- ---- what is asked for
@@ -144,6 +144,14 @@ returns-clause-behind g c =
     let since : Since g.N.Names.named inside.press inside.followers groups = since_inside g.N.Names.named groups _ _ c.self.view_is c.requires in
     subst (λ (l : LockedValue _ _). IsBehind c.args.now l.press.press.at c.in-Ok-commit_shown.told) c.self.view_is
     (pressed_behind g.O.Outlet g.N.Names.named inside.press inside.followers inside.board inside.outlet c.self.invariant.0 c.args.now groups c.vouching_signers_vouch_for_editions.ensures since c.make_ready.new.press c.make_ready.new.board c.in-Ok.prepared c.in-Ok.ensures.ready c.in-Ok.ensures.board c.in-Ok-commit_shown.told c.in-Ok-commit_shown.ensures.committed.told_is)
+
+pub returns-clause-next : goal.returns-clause-next
+returns-clause-next g c =
+    let inside = c.self.inside in
+    let groups = c.args.gathered.items in
+    let since : Since g.N.Names.named inside.press inside.followers groups = since_inside g.N.Names.named groups _ _ c.self.view_is c.requires in
+    subst (λ (l : LockedValue _ _). IsNextShown c.args.now l.board.shown c.in-Ok-commit_shown.told c.commit_shown.new.board.shown) c.self.view_is
+    (pressed_next g.O.Outlet g.N.Names.named inside.press inside.followers inside.board inside.outlet c.self.invariant.0 c.args.now groups c.vouching_signers_vouch_for_editions.ensures since c.make_ready.new.press c.make_ready.new.board c.in-Ok.prepared c.in-Ok.ensures.ready c.in-Ok.ensures.board c.in-Ok-commit_shown.told c.in-Ok-commit_shown.ensures.committed.told_is c.commit_shown.new.board c.in-Ok-commit_shown.ensures.shown)
 
 pub returns-clause-answered : goal.returns-clause-answered
 returns-clause-answered g c =

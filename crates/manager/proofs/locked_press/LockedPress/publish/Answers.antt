@@ -5,7 +5,7 @@ use Rattle.press_core.specs.PrepareInput.{start_of}
 use Rattle.press_core.specs.declared.last_export.LastExport.TheVariants.{Done}
 use Rattle.manager.specs.Locked.{LockedValue}
 use Rattle.manager.specs.Made.{HasMade, MayHaveMade}
-use Rattle.manager.specs.Answers.{IsAnswered, IsNotPublished, IsMetBy, IsExportLeft}
+use Rattle.manager.specs.Answers.{IsAnswered, IsNextShown, IsStill, IsNotPublished, IsMetBy, IsExportLeft}
 use Rattle.manager.proofs.locked_press.LockedPress.publish.Goals as goal
 
 pub returns-clause-seats : goal.returns-clause-seats
@@ -21,6 +21,14 @@ returns-clause-published g c =
 pub returns-clause-refused : goal.returns-clause-refused
 returns-clause-refused g c =
     subst (λ (shown : List ShownEdition). IfErr c.press_and_export-published.result (IsNotPublished c.args.self.now.seats shown)) (sym c.tell.ensures.whole) c.press_and_export-published.ensures.refused
+
+pub returns-clause-next : goal.returns-clause-next
+returns-clause-next g c =
+    subst (λ (l : LockedValue _ _). IfOk c.press_and_export-published.result (λ told. IsNextShown c.args.now c.args.self.now.board.shown told l.board.shown)) (sym c.tell.ensures.same) c.press_and_export-published.ensures.next
+
+pub returns-clause-still : goal.returns-clause-still
+returns-clause-still g c =
+    subst (λ (l : LockedValue _ _). IfErr c.press_and_export-published.result (IsStill c.args.now c.args.self.now.board.shown l.board.shown)) (sym c.tell.ensures.same) c.press_and_export-published.ensures.still
 
 pub returns-clause-exported : goal.returns-clause-exported
 returns-clause-exported g c =

@@ -1,10 +1,11 @@
-use Rattle.std.proofs.Common.{inl, subst}
-use Rattle.std.specs.Prelude.{IfOk}
+use Rattle.std.proofs.Common.{inl, ◌∙◌, ap, subst}
+use Rattle.std.specs.Prelude.{IfOk, IfErr}
 use Rattle.std.proofs.lemmas.Result.{IfOk-weaker, IfErr-weaker}
 use Rattle.manager.specs.Locked.{LockedValue}
-use Rattle.manager.specs.Answers.{IsAnswered, IsBehind, IsNotPublished}
+use Rattle.manager.specs.Answers.{IsAnswered, IsBehind, IsNextShown, IsStill, IsNotPublished}
 use Rattle.manager.proofs.Knowing.{learned_rest, learned_look}
 use Rattle.manager.proofs.Gathering.{seen_less}
+use Rattle.manager.proofs.Refused.{still_same}
 use Rattle.manager.proofs.Publishing.{answered_less, not_published_less, met_at}
 use Rattle.manager.proofs.shared.Manager.gather_and_publish.Goals as goal
 
@@ -21,6 +22,11 @@ returns-in-Err-clause-refused g c = c.ungathered.ensures.refused c.args.pass.now
 
 pub returns-in-Err-clause-cause : goal.returns-in-Err-clause-cause
 returns-in-Err-clause-cause g c = inl c.ungathered.ensures.cause
+
+pub returns-in-Err-clause-still : goal.returns-in-Err-clause-still
+returns-in-Err-clause-still g c =
+    still_same c.args.now c.args.press.now.board.shown c.ungathered.new.press.board.shown c.ungathered.result
+    (ap (λ (l : LockedValue _ _). l.board.shown) c.ungathered.ensures.same ∙ ap (λ (l : LockedValue _ _). l.board.shown) c.gather.ensures.press)
 
 -- ---- all was gathered
 
@@ -42,6 +48,14 @@ returns-clause-published g c =
 pub returns-clause-behind : goal.returns-clause-behind
 returns-clause-behind g c =
     subst (λ (l : LockedValue _ _). IfOk c.publish.result (IsBehind c.args.now l.press.press.at)) c.gather.ensures.press c.publish.ensures.behind
+
+pub returns-clause-next : goal.returns-clause-next
+returns-clause-next g c =
+    subst (λ (l : LockedValue _ _). IfOk c.publish.result (λ told. IsNextShown c.args.now l.board.shown told c.publish.new.press.board.shown)) c.gather.ensures.press c.publish.ensures.next
+
+pub returns-clause-still : goal.returns-clause-still
+returns-clause-still g c =
+    subst (λ (l : LockedValue _ _). IfErr c.publish.result (IsStill c.args.now l.board.shown c.publish.new.press.board.shown)) c.gather.ensures.press c.publish.ensures.still
 
 pub returns-clause-refused : goal.returns-clause-refused
 returns-clause-refused g c =

@@ -3,7 +3,6 @@ use Rattle.std.specs.Prelude.{Ok, Err}
 use Rattle.json_api.specs.Reply.{published_spelling}
 use Rattle.json_api.specs.Refused.{refused_spelling}
 use Rattle.session_lines.specs.Texts.{published_in_reply, unpublished_as}
-use Rattle.session_lines.specs.Sessions.{state_of}
 use Rattle.session_lines.proofs.handler.Handler.answer_publish.Goals as goal
 
 pub returns-in-Ok-clause-ok : goal.returns-in-Ok-clause-ok
@@ -12,17 +11,10 @@ returns-in-Ok-clause-ok g c =
       text,
       c.append_published.ensures ∙ ap (λ (l : List ℕ). l ++ text ++ 10 ∷ []) c.in_ok-reserve.ensures.items,
       record {
-        clock = c.now-now.result;
-        read = c.now-now.ensures;
+        clock = c.in-Ok.ensures.0;
+        read = c.in-Ok.ensures.1;
         outcome = Ok c.in-Ok.published;
-        comes = record {
-          learned = c.publish.ensures.learned;
-          published = c.in-Ok.ensures.published;
-          later = c.in-Ok.ensures.later;
-          moment = c.in-Ok.ensures.moment;
-          unpublished = tt;
-          cause = tt;
-        };
+        comes = c.in-Ok.ensures.2;
         kept = refl;
         text_is = refl;
         changed_is = refl;
@@ -35,17 +27,10 @@ returns-in-Err-clause-ok g c =
       text,
       c.append_unpublished.ensures ∙ ap (λ (l : List ℕ). l ++ text ++ 10 ∷ []) c.in_ok-reserve.ensures.items,
       record {
-        clock = c.now-now.result;
-        read = c.now-now.ensures;
+        clock = c.in-Err.ensures.0;
+        read = c.in-Err.ensures.1;
         outcome = Err c.in-Err.fault;
-        comes = record {
-          learned = c.publish.ensures.learned;
-          published = tt;
-          later = tt;
-          moment = tt;
-          unpublished = c.in-Err.ensures.refused;
-          cause = c.in-Err.ensures.cause;
-        };
+        comes = c.in-Err.ensures.2;
         kept = c.keep_publication.ensures;
         text_is = refl;
         changed_is = c.fault_changes_editions-changed.ensures;
