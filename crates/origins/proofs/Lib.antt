@@ -8,3 +8,5 @@ pub mod Printed
 pub mod Same
 pub mod Told
 pub mod ReadPrefix
+pub mod Begun
+pub mod Read

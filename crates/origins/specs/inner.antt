@@ -1,3 +1,4 @@
 -- Scaffolding: words that only private contracts, invariants and proofs need.
 pub mod Told
 pub mod Fronts
+pub mod Quick

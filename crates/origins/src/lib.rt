@@ -9,6 +9,7 @@ mod fronts;
 mod grammar;
 mod laws;
 mod making;
+mod quick;
 mod reading;
 mod writing;
 

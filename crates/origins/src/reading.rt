@@ -10,6 +10,7 @@ ghost use Rattle.origins.specs.Origin.{ReadsOrigin, MakesOrigin, SpellsOrigin, p
 
 use crate::fronts::{after, skip_blanks, split_before};
 use crate::grammar::{WrittenPrefix, read_prefix};
+use crate::quick::read_quickly;
 use crate::{Origin, Prefix};
 use ip_text::read_as_number;
 use thiserror::Error;
@@ -64,6 +65,18 @@ fn make_origin(prefix: WrittenPrefix, asn: u32) -> Result<Origin, OriginFault>
     Origin::new(prefix, max as u8, asn).ok_or(OriginFault::MaxLength)
 }
 
+// Reads an origin that may be written in any way. Few are.
+#[inline(never)]
+fn read_any(text: &[u8]) -> Result<Origin, OriginFault>
+    ensures reads { ReadsOrigin text.now result }
+    ensures spelled { (origin : Origin) → SpellsOrigin text.now origin → result ≡ Ok origin }
+{
+    let Some((prefix, asn)) = read_parts(text) else {
+        return Err(OriginFault::BadOrigin);
+    };
+    make_origin(prefix, asn)
+}
+
 /// Reads an origin, as `10.0.0.0/16-24 => 64496`.
 ///
 /// The maximum may be left out where it is the length. Round `=>` stand any number of spaces and
@@ -74,10 +87,11 @@ pub fn read_origin(text: &str) -> Result<Origin, OriginFault>
     // A text that spells an origin is read to it and to nothing else.
     ensures spelled { (origin : Origin) → SpellsOrigin text.now origin → result ≡ Ok origin }
 {
-    let Some((prefix, asn)) = read_parts(text.as_bytes()) else {
-        return Err(OriginFault::BadOrigin);
-    };
-    make_origin(prefix, asn)
+    let text = text.as_bytes();
+    match read_quickly(text) {
+        Some((prefix, asn)) => make_origin(prefix, asn),
+        None => read_any(text),
+    }
 }
 
 impl Prefix {
