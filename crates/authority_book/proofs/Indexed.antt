@@ -3,6 +3,9 @@ use Rattle.std.proofs.Common.{◌≡◌, ℕ, ◌+◌, ◌<◌, length, get_or, 
 use Rattle.std.specs.Prelude.{Some, None, not, ◌||◌}
 use Rattle.std.specs.BTreeSet.{BTreeSet, contains, Updates}
 use Rattle.std.specs.List.{IsDistinct}
+use Rattle.std.specs.Ordering.{is_lt}
+use Rattle.std.specs.declared.cmp.Ordering.{Ordering}
+use Rattle.std.specs.declared.cmp.Ordering.TheVariants.{Less, Equal, Greater}
 use Rattle.std.specs.List.Sorted.{IsPermutation, IsSorted}
 use Rattle.std.proofs.lemmas.List.{append-nil, append_assoc}
 use Rattle.std.proofs.lemmas.List.Folds.{list_any-append}
@@ -59,3 +62,13 @@ ascending_from_neighbours (x ∷ xs) up unlike = sorted_from_all_adjacent origin
     let here = get_or (x ∷ xs) k x in
     let next = get_or (x ∷ xs) (k + 1) x in
     less_from (origin_cmp here next) (origin_cmp next here) (origin_total.antisymm next here) (unlike k x within) (up k x (omega arith) within))
+
+less_told : (o : Ordering) → is_lt o ≡ true → o ≡ Less
+less_told Less e = refl
+less_told Equal e = absurd (cc)
+less_told Greater e = absurd (cc)
+
+-- Neighbours of which each is below the next ascend.
+pub ascending_from_steps : (xs : List Origin) → ((k : ℕ) (d : Origin) → k + 1 < length xs → is_lt (origin_cmp (get_or xs k d) (get_or xs (k + 1) d)) ≡ true) → IsAscending xs
+ascending_from_steps [] steps = ascending-nil
+ascending_from_steps (x ∷ xs) steps = sorted_from_all_adjacent origin_total (x ∷ xs) x (λ k within. less_told _ (steps k x within))

@@ -142,6 +142,12 @@ fn index_many(alloc: Global, items: &[Origin]) -> Result<Index, AllocError>
     ensures { IfOk result (IsIndexed items.now) }
 {
     let mut sorted = items.to_vec(alloc)?;
+    if is_rising(items) {
+        return Ok(Index {
+            sorted,
+            repeated: None,
+        });
+    }
     sorted.sort_unstable();
     let repeated = if is_ascending(&sorted) {
         None
@@ -158,6 +164,18 @@ fn copy_index(alloc: Global, index: &Index) -> Result<Index, AllocError>
         sorted: index.sorted.as_slice().to_vec(alloc)?,
         repeated: index.repeated,
     })
+}
+
+// Whether each origin of a list is above the one before it, as most callers give them.
+fn is_rising(items: &[Origin]) -> bool
+    ensures { IsTrue result → IsAscending items.now }
+{
+    for place in 1..items.len() {
+        if !items[place - 1].cmp(&items[place]).is_lt() {
+            return false;
+        }
+    }
+    true
 }
 
 // Whether each origin of a sorted list is above the one before it.

@@ -1,7 +1,9 @@
-use Rattle.std.proofs.Common.{◌≡◌, sym, ◌∙◌, rules}
+use Rattle.std.proofs.Common.{◌≡◌, List, ap, sym, ◌∙◌, rules}
 use Rattle.std.specs.List.Sorted.{IsPermutation}
-use Rattle.std.proofs.lemmas.List.Sorted.{list_any-IsPermutation}
-use Rattle.authority_book.specs.Origins.{origin_cmp, is_same, first_repeated}
+use Rattle.std.proofs.lemmas.List.Sorted.{list_any-IsPermutation, IsPermutation-refl}
+use Rattle.authority_book.specs.Origins.{origin_cmp, is_same, is_there, first_repeated, IsAscending}
+use Rattle.origins.specs.declared.Origin.{Origin}
+use Rattle.authority_book.proofs.OriginOrder.{sorted_from_ascending}
 use Rattle.authority_book.proofs.Indexed.{none_from_ascending}
 use Rattle.authority_book.proofs.origin_lists.index_many.Goals as goal
 use Rattle.authority_book.proofs.origin_lists.index_many.Goals.{then-is_ascending, else-is_ascending+in_ok-repeated}
@@ -9,6 +11,17 @@ use Rattle.authority_book.proofs.origin_lists.index_many.Goals.{then-is_ascendin
 pub is_ascending-requires : goal.is_ascending-requires
 unfolding origin_cmp
 is_ascending-requires c = rw c.deref.ensures.value c.sort_unstable.ensures.sorted
+
+pub returns-then-is_rising : goal.returns-then-is_rising
+returns-then-is_rising c =
+    let items = c.args.items.now in
+    let same : c.in_ok-sorted.sorted.items ≡ items = search rules in
+    let up : IsAscending items = c.is_rising.ensures (search rules) in
+    record {
+      sorted = rw same (sorted_from_ascending items up);
+      members = λ o. ap (λ (l : List Origin). is_there l o) same;
+      first = sym (none_from_ascending items items (IsPermutation-refl items) up);
+    }
 
 pub returns : goal.returns
 unfolding origin_cmp
