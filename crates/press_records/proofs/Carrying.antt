@@ -11,7 +11,6 @@ use Rattle.pub_set.specs.declared.steps.Change.{Change}
 use Rattle.pub_set.specs.declared.steps.Change.TheVariants.{Put, Withdraw}
 use Rattle.pub_set.specs.Objects.{uri_cmp, AllAbove}
 use Rattle.pub_set.specs.Changes.{Contents, uri_of, left_by, after, after_all}
-use Rattle.pub_set.specs.Queries.{code_of, first_refusal}
 use Rattle.pub_set.specs.laws.UriLaws.{other_below}
 use Rattle.record_forms.specs.Form.{AreBytes}
 use Rattle.record_forms.specs.Outcome.{Gives}
@@ -23,7 +22,6 @@ use Rattle.press_records.specs.Changes.{RawChange, raw_changes, put_over, withdr
 use Rattle.press_records.specs.inner.Taking.{AreTaken, AreNone}
 use Rattle.press_records.specs.laws.ChangeLaws.{changes-law}
 use Rattle.press_records.specs.laws.RiseLaws.{above-behind, tail-rises}
-use Rattle.press_records.proofs.Applying.{refused, none-refused, all-fit}
 
 -- ---- what was changed before
 
@@ -140,17 +138,6 @@ pub after-more : (held : Contents) (done more : List Change) → after_all held 
 after-more held [] more = refl
 after-more held (change ∷ done) more = after-more (after held change) done more
 
-none-later : (change : Change) (later : Option (ℕ × List ℕ)) (code : Option ℕ) → refused change later code ≡ None → later ≡ None
-none-later change later None e = e
-none-later change later (Some n) e = absurd cc
-
-later-none : (held : Contents) (done rest : List Change) → first_refusal [] held (done ++ rest) ≡ None
-    → first_refusal [] (after_all held done) rest ≡ None
-later-none held [] rest e = e
-later-none held (change ∷ done) rest e =
-    later-none (after held change) done rest
-    (none-later change (first_refusal [] (after held change) (done ++ rest)) (code_of [] (held (uri_of change)) change) e)
-
 -- ---- so far
 
 abbrev behind : List Change → Option (List Change × List ℕ) → Option (List Change × List ℕ)
@@ -222,15 +209,7 @@ one-more held count start told left rest batch now change more so_far read up =
       led = so_far.led;
     }
 
--- The batch can be carried out.
-pub batch-applies : (held : Contents) (count : ℕ) (start : List ℕ) (told : List Change) (left : ℕ) (rest : List ℕ) (batch : List Change)
-    (now : Contents) → AreSoFar held count start told left rest batch now → first_refusal [] now batch ≡ None
-batch-applies held count start told left rest batch now so_far =
-    ap (λ (c : Contents). first_refusal [] c batch) so_far.led
-    ∙ later-none held so_far.done batch
-    (ap (first_refusal [] held) (sym so_far.split) ∙ none-refused held told so_far.rise (all-fit held told so_far.good))
-
--- It was.
+-- The batch was carried out.
 pub carried : (held : Contents) (count : ℕ) (start : List ℕ) (told : List Change) (left : ℕ) (rest : List ℕ) (batch : List Change)
     (now new : Contents) → AreSoFar held count start told left rest batch now → new ≡ after_all now batch
     → AreSoFar held count start told left rest [] new

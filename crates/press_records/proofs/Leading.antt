@@ -14,7 +14,7 @@ use Rattle.press_records.specs.Rows.{RowValue, key_rows}
 use Rattle.press_records.specs.Edition.{EditionValue, StandingValue, Fields, edition_fields, edition_of, edition_told, editions, may_follow, is_next, is_dated, is_cut, are_live}
 use Rattle.press_records.specs.Views.{edition_value}
 use Rattle.press_records.specs.declared.edition.ReadEdition.{ReadEdition}
-use Rattle.press_records.specs.inner.Taking.{FrontLists, Front, front_lists, edition_fronts, fields_with, AreNone}
+use Rattle.press_records.specs.inner.Taking.{Front, front_lists, edition_fronts, fields_with, AreNone}
 
 -- ---- a reading that goes on behind another
 

@@ -1,9 +1,8 @@
 //! What stands after the editions that the records of a journal tell, carried out one after another.
 
-ghost use Rattle.std.specs.Prelude.{◌≡◌, [], None, map, IfOk, OnOk, OnErr};
+ghost use Rattle.std.specs.Prelude.{◌≡◌, map, IfOk, OnOk, OnErr};
 ghost use Rattle.pub_set.specs.Objects.{content_at};
 ghost use Rattle.pub_set.specs.Changes.{after_all};
-ghost use Rattle.pub_set.specs.Queries.{first_refusal};
 ghost use Rattle.record_forms.specs.Form.{Spells};
 ghost use Rattle.record_forms.specs.Forms.{read_whole};
 ghost use Rattle.record_forms.specs.Outcome.{Gives, IsUnlessMemory};
@@ -16,7 +15,7 @@ use crate::fronts::{edition_behind, edition_front};
 use crate::taking::take_changes;
 use items::Items;
 use key_roll::KeyRow;
-use pub_set::{Change, ObjectSet, QueryRefused};
+use pub_set::{Change, ObjectSet};
 use record_forms::ReadFault;
 use std::alloc::{AllocError, Global};
 use std::marker::Model;
@@ -88,7 +87,6 @@ impl Recovered {
     }
 
     /// Carries out an edition that was read over what stands. What it puts is moved, not copied.
-    #[tactic(auto, using(crate::proofs::Applying::changes_apply))]
     pub fn advance(&mut self, alloc: Global, edition: ReadEdition) -> Result<(), AllocError>
         requires { (editions (recovered_standing self.old)).good (edition_value edition) }
         ensures done { OnOk result (recovered_standing self.new
@@ -189,20 +187,15 @@ impl Recovered {
     }
 }
 
-// Changes, none of which is refused.
+// Changes over the set that they were read over, so that no hash has to be looked at.
 #[tactic(auto, using(crate::proofs::Applying::same_contents))]
 pub(crate) fn carry_out(
     alloc: Global,
     set: &mut ObjectSet,
     changes: Vec<Change>,
 ) -> Result<(), AllocError>
-    requires { first_refusal [] (content_at set.old) changes.items ≡ None }
     ensures done { OnOk result (content_at set.new ≡ after_all (content_at set.old) changes.items) }
     ensures kept { OnErr result (set.new ≡ set.old) }
 {
-    match set.query(alloc, "", changes) {
-        Ok(()) => Ok(()),
-        Err(QueryRefused::Memory) => Err(AllocError),
-        Err(QueryRefused::Query { .. }) => unreachable!(),
-    }
+    set.apply(alloc, changes)
 }

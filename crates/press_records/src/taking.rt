@@ -1,9 +1,8 @@
 //! The changes of an edition, carried out while they are read.
 
-ghost use Rattle.std.specs.Prelude.{◌≡◌, [], None, IfOk, IfErr, OnOk};
+ghost use Rattle.std.specs.Prelude.{◌≡◌, [], IfOk, IfErr, OnOk};
 ghost use Rattle.pub_set.specs.Objects.{content_at};
 ghost use Rattle.pub_set.specs.Changes.{after_all};
-ghost use Rattle.pub_set.specs.Queries.{first_refusal};
 ghost use Rattle.press_records.specs.inner.Taking.{AreTaken, AreNone};
 
 use crate::changes::{change_over, rises_behind};
@@ -70,7 +69,6 @@ pub(crate) fn take_changes<'a>(
 
 // Carries out what was read, and begins anew.
 fn flush(alloc: Global, set: &mut ObjectSet, batch: &mut Batch) -> Result<(), AllocError>
-    requires { first_refusal [] (content_at set.old) batch.old.changes.items ≡ None }
     ensures led { OnOk result (content_at set.new ≡ after_all (content_at set.old) batch.old.changes.items) }
     ensures empty { OnOk result (batch.new.changes.items ≡ []) }
 {

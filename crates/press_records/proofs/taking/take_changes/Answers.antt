@@ -5,7 +5,7 @@ use Rattle.pub_set.specs.declared.objects.Object.{Object}
 use Rattle.pub_set.specs.Objects.{content_at}
 use Rattle.press_records.specs.Changes.{uris_rise}
 use Rattle.press_records.specs.declared.taking.Batch.{Batch}
-use Rattle.press_records.proofs.Carrying.{AreSoFar, one-further, stopped-by, unrisen, batch-applies, carried, all-taken}
+use Rattle.press_records.proofs.Carrying.{AreSoFar, one-further, stopped-by, unrisen, carried, all-taken}
 use Rattle.press_records.proofs.taking.take_changes.Goals as goal
 use Rattle.press_records.proofs.taking.take_changes.Goals.{then-batch-most+in_ok-flush, else-batch-most}
 
@@ -32,20 +32,6 @@ returns-then-not-rises_behind-clause-none c =
     (c.args.count - (c.loop.counter + 1)) c.loop.left.now c.loop.batch.changes.items (content_at c.loop.set) change c.in_ok-change.rest.now
     (omega (arith, c.loop-test.true)) c.loop.invariant c.in_ok-change.ensures
     (tested c.loop.taken.items c.deref.result.now change c.rises_behind.result false c.deref.ensures.value c.rises_behind.ensures c.if-not-rises_behind.true)
-
-pub flush-requires : goal.flush-requires
-flush-requires c =
-    let held = content_at c.args.set.now in
-    let told = c.loop.taken.items in
-    let batch = c.loop.batch.changes.items in
-    let now = content_at c.loop.set in
-    let n = c.args.count - (c.loop.counter + 1) in
-    let change = c.in_ok-change.change in
-    let more = one-further held c.args.count c.args.bytes.now told c.push.new.self.items (c.args.count - c.loop.counter) n c.loop.left.now
-    batch c.push-in-loop.new.self.items now change c.in_ok-change.rest.now (omega (arith, c.loop-test.true)) c.loop.invariant c.in_ok-change.ensures
-    (tested told c.deref.result.now change c.rises_behind.result true c.deref.ensures.value c.rises_behind.ensures c.if-not-rises_behind.false)
-    (pushed told c.push.new.self.items c.in_ok-copy.field-0 change c.in_ok-push.ensures.items c.in_ok-copy.ensures) c.in_ok-push-2.ensures.items in
-    batch-applies held c.args.count c.args.bytes.now c.push.new.self.items n c.in_ok-change.rest.now c.push-in-loop.new.self.items now more
 
 pub loop-preserved : goal.loop-preserved
 loop-preserved c =
@@ -78,11 +64,6 @@ loop-preserved c =
           (subst (λ (b : List Change). AreSoFar held count start told_then n rest b now) (sym items) more)
           )
     ]
-
-pub flush-requires-2 : goal.flush-requires-2
-flush-requires-2 c =
-    batch-applies (content_at c.args.set.now) c.args.count c.args.bytes.now c.loop.taken.items (c.args.count - c.loop.counter) c.loop.left.now
-    c.loop.batch.changes.items (content_at c.loop.set) c.loop.invariant
 
 pub returns-clause-taken : goal.returns-clause-taken
 returns-clause-taken c =
