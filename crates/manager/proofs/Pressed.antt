@@ -142,6 +142,8 @@ module _ {D O : Type 0} (outlet_of : OutletGhosts O) (named : Named) (press : St
           last = pressed_shown shown shown_is;
           serial = behind.serial;
           moment = behind.moment;
+          serial_is = sym (ap (λ (p : PublishedNumbers). p.serial) told_is);
+          moment_is = sym (ap (λ (p : PublishedNumbers). p.moment) told_is);
         }
 
     -- the disk failed

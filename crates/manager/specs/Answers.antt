@@ -53,7 +53,7 @@ pub record IsBehind (clock : ℕ) (at : PublishedStateValue) (told : PublishedNu
   pub moment : told.moment ≡ moment_behind clock at.moment
 
 -- One edition more is shown, which was made at this clock behind the one that was shown last: it has the
--- next serial; and the clock's moment, or that just behind the last one.
+-- next serial; and the clock's moment, or that just behind the last one. Both are what is told of it.
 pub record IsNextShown (clock : ℕ) (old : List ShownEdition) (told : PublishedNumbers)
     (new : List ShownEdition) : Type 0 where
   pub before : List ShownEdition
@@ -63,6 +63,8 @@ pub record IsNextShown (clock : ℕ) (old : List ShownEdition) (told : Published
   pub last : new ≡ old ++ edition ∷ []
   pub serial : told.serial ≡ standing.sheet.serial + 1
   pub moment : told.moment ≡ moment_behind clock standing.sheet.moment
+  pub serial_is : edition.sheet.serial ≡ told.serial
+  pub moment_is : edition.sheet.moment ≡ told.moment
 
 -- So behind all that was seen before, and perhaps behind editions that weren't.
 pub record IsNewlyShown (clock : ℕ) (seen : List ShownEdition) (told : PublishedNumbers)

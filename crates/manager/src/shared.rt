@@ -61,7 +61,7 @@ impl<N: Names, D: Disk, S: Signer + Send, O: Outlet> Manager<N, D, S, O> {
     /// Publishes all that the desks have accepted, which is no less than the pass has seen, and shows it to the
     /// pass, at the clock's next reading.
     ///
-    /// The clock is read here, once, so that no edition is made which its caller's clock doesn't tell of. The
+    /// The clock is read here, once, so that no edition is made at a time that isn't a reading of its caller's clock. The
     /// press's lock is held from then on. Each desk's lock is taken while its commands are gathered and given
     /// back before the next: so a command waits for no signature.
     pub fn publish<C: Clock, R: Threads + Wait + Sync>(
