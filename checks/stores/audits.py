@@ -63,8 +63,7 @@ def of_state(krillc, folder, harm):
         if found_in(folder) != kept:
             return f"an audit leaves {sorted(found_in(folder).items() ^ kept.items())}"
     done = run(krillc, folder, "run", *BASES)
-    # where a first record was begun it was said then
-    is_told = "desk-00" in kept and len(kept.get("press", b"")) <= len(HEAD)
+    is_told = "desk-00" in kept
     if done.returncode or (NEW_ANCHOR in done.stderr) != is_told:
         return f"a run behind an audit: status {done.returncode}, {done.stderr!r}"
     return None

@@ -45,6 +45,11 @@ const UNNAMED: &str = "krill-data/.audit";
 /// How many bytes a journal without records has at most.
 const EMPTY_JOURNAL: u64 = 17;
 
+/// Where a journal's first gate stands, and the byte that opens it.
+const FIRST_GATE: u64 = 16;
+
+const OPEN: u8 = 1;
+
 /// A press that is shorter has no edition: it may lack even the record of its store, which opening writes.
 const SMALL_PRESS: u64 = 4096;
 
@@ -248,9 +253,12 @@ fn begins_anew(rt: &HostRuntime, disks: &mut Disks) -> Result<bool, DiskStop> {
     Ok(false)
 }
 
-/// Whether the journal in the file is longer than one without records.
+/// Whether a record stands in the file's journal: its first gate is open then. A record that a stop has left half
+/// written stands behind one that is closed.
 fn holds_records(rt: &HostRuntime, disk: &mut FileDisk) -> Result<bool, DiskStop> {
-    Ok(disk.len(rt.alloc())? > EMPTY_JOURNAL)
+    let mut gate = [0];
+    let read = disk.read(rt.alloc(), FIRST_GATE, &mut gate)?;
+    Ok(read == 1 && gate[0] == OPEN)
 }
 
 /// Says that relying parties need a new locator.
