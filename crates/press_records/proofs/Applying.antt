@@ -1,4 +1,4 @@
--- The changes of an edition apply to what stood.
+-- What a set that changes were applied to holds.
 use Rattle.std.proofs.Common.{◌≡◌, List}
 use Rattle.std.proofs.Math.Path.{fun_ext}
 use Rattle.pub_set.specs.declared.steps.Change.{Change}

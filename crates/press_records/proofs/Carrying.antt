@@ -1,7 +1,7 @@
 -- Changes that are carried out while they are read.
 use Rattle.std.proofs.Common.{◌≡◌, ℕ, suc, ◌-◌, ◌&&◌, length, Bool, true, false, cond, List, [], ◌∷◌, ◌++◌, Option, Some, None, refl, sym, ap, subst, ◌∙◌, append_assoc, append-nil, arith, inl, inr}
 use Rattle.std.specs.Prelude.{Err}
-use Rattle.std.specs.List.{AllByRecursion, slice_get}
+use Rattle.std.specs.List.{slice_get}
 use Rattle.std.specs.Option.{option_map}
 use Rattle.std.specs.Ordering.{is_lt}
 use Rattle.std.specs.declared.cmp.Ordering.TheVariants.{Less}
@@ -148,7 +148,6 @@ pub record AreSoFar (held : Contents) (count : ℕ) (start : List ℕ) (told : L
     (rest : List ℕ) (batch : List Change) (now : Contents) : Type 0 where
   pub read : so_many (changes held).read count start ≡ behind told (so_many (changes held).read left rest)
   pub rise : uris_rise told ≡ true
-  pub good : AllByRecursion (changes held).good told
   pub bytes : AreBytes rest
   pub done : List Change
   pub split : told ≡ done ++ batch
@@ -162,17 +161,11 @@ pub at-first : (held : Contents) (count : ℕ) (start : List ℕ) → AreBytes s
 at-first held count start are = record {
   read = behind-none (so_many (changes held).read count start);
   rise = refl;
-  good = tt;
   bytes = are;
   done = [];
   split = refl;
   led = refl;
 }
-
-all-more : (held : Contents) (all : List Change) (change : Change) → AllByRecursion (changes held).good all → (changes held).good change
-    → AllByRecursion (changes held).good (all ++ change ∷ [])
-all-more held [] change good one = (one, tt)
-all-more held (first ∷ all) change good one = (good.0, all-more held all change good.1 one)
 
 abbrev next_of : Contents → ℕ → Change × List ℕ → Option (List Change × List ℕ)
 next_of held left x = so_many (changes held).read left x.1 >>= (λ xs. Some (x.0 ∷ xs.0, xs.1))
@@ -202,7 +195,6 @@ one-more held count start told left rest batch now change more so_far read up =
       read = so_far.read ∙ ap (behind told) (one held left rest) ∙ ap (λ (r : Option (Change × List ℕ)). behind told (r >>= next_of held left)) first
           ∙ behind-one told change (so_many (changes held).read left more);
       rise = up;
-      good = all-more held told change so_far.good taken.0;
       bytes = bytes-rest ((changes held).spelling change) more (subst AreBytes taken.1 so_far.bytes);
       done = so_far.done;
       split = split;
@@ -216,7 +208,6 @@ pub carried : (held : Contents) (count : ℕ) (start : List ℕ) (told : List Ch
 carried held count start told left rest batch now new so_far led = record {
   read = so_far.read;
   rise = so_far.rise;
-  good = so_far.good;
   bytes = so_far.bytes;
   done = told;
   split = sym (append-nil told);

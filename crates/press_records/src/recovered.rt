@@ -86,9 +86,8 @@ impl Recovered {
         }
     }
 
-    /// Carries out an edition that was read over what stands. What it puts is moved, not copied.
+    /// Carries out an edition, as a rule one that was read over what stands. What it puts is moved, not copied.
     pub fn advance(&mut self, alloc: Global, edition: ReadEdition) -> Result<(), AllocError>
-        requires { (editions (recovered_standing self.old)).good (edition_value edition) }
         ensures done { OnOk result (recovered_standing self.new
             ≡ after_edition (recovered_standing self.old) (edition_value edition)) }
         ensures kept { OnErr result (self.new ≡ self.old) }
