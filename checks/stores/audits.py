@@ -1,14 +1,17 @@
 """What `krillc audit` leaves of a store without editions: all as it was, so that a later run has its own bases, and says that a
 new trust anchor begins."""
 import json, os, shutil, subprocess
+from functools import partial
 
 DATA, LEFT_OVER = "krill-data", ".audit"
-HEAD = b"KRILLJOURNAL0001\x00"
+HEADER = b"KRILLJOURNAL0001"
+HEAD = HEADER + b"\x00"
 NOTHING = {"moment": 0, "objects": 0, "origins": 0, "points": 0, "serial": 0}
 OTHER_BASES = ("--rsync", "rsync://other.example/m/", "--rrdp", "https://other.example/rrdp/")
 BASES = ("--rsync", "rsync://rpki.my.example/repo/", "--rrdp", "https://rpki.my.example/rrdp/")
 COMMAND = '{"command":"roas update","ca":"ta","add":["10.0.0.0/16 => 64496"]}\n'
 NEW_ANCHOR = "a new trust anchor begins"
+DAMAGED = 3
 
 
 def run(krillc, folder, *words, lines=""):
@@ -33,6 +36,12 @@ def write(path, content):
         file.write(content)
 
 
+def write_alone(data, name, content):
+    """One file, and no other."""
+    lose_all(data)
+    write(os.path.join(data, name), content)
+
+
 def lose_all(data):
     """A folder in which nothing stands."""
     for name in os.listdir(data):
@@ -45,12 +54,16 @@ STATES = {
     "an empty press": lambda data: write(os.path.join(data, "press"), b""),
     "the head of a press": lambda data: write(os.path.join(data, "press"), HEAD),
     "a press whose first record was cut short": lambda data: write(os.path.join(data, "press"), HEAD + bytes(8) + b"\x30half"),
+    "a press of a journal's least bytes": lambda data: write(os.path.join(data, "press"), HEADER + b"\x01"),
     "no press and no desk but one": lambda data: [os.unlink(os.path.join(data, it)) for it in os.listdir(data) if it != "desk-00"],
+    "a desk of a journal's least bytes alone": lambda data: write_alone(data, "desk-00", HEADER + b"\x01"),
     "an empty folder": lose_all,
 }
+# Those without a command, behind which no trust anchor was told of.
+WITHOUT_COMMANDS = {"a desk of a journal's least bytes alone", "an empty folder"}
 
 
-def of_state(krillc, folder, harm):
+def of_state(krillc, folder, name, harm):
     """What is wrong with an audit of such a store and with the run behind it, if anything."""
     data = os.path.join(folder, DATA)
     run(krillc, folder, "run", lines=COMMAND)
@@ -63,9 +76,23 @@ def of_state(krillc, folder, harm):
         if found_in(folder) != kept:
             return f"an audit leaves {sorted(found_in(folder).items() ^ kept.items())}"
     done = run(krillc, folder, "run", *BASES)
-    is_told = "desk-00" in kept
+    is_told = name not in WITHOUT_COMMANDS
     if done.returncode or (NEW_ANCHOR in done.stderr) != is_told:
         return f"a run behind an audit: status {done.returncode}, {done.stderr!r}"
+    return None
+
+
+def of_no_journal(krillc, folder):
+    """A press that is no journal is refused, and nobody is told that a new trust anchor begins: it has to be restored."""
+    press = os.path.join(folder, DATA, "press")
+    run(krillc, folder, "run", lines=COMMAND)
+    for content in (bytes(64), b"KRILLJOURNAL0002\x00" + bytes(9), b"KRILLJOURNAL0002\x01" + bytes(9)):
+        write(press, content)
+        done = run(krillc, folder, "run")
+        with open(press, "rb") as file:
+            kept = file.read()
+        if done.returncode != DAMAGED or NEW_ANCHOR in done.stderr or "device 64" not in done.stderr or kept != content:
+            return f"a press of {content!r}: status {done.returncode}, {done.stderr!r}"
     return None
 
 
@@ -98,8 +125,8 @@ def of_nothing(krillc, folder):
 
 def try_audits(krillc):
     """What is wrong, and how many stores were tried."""
-    tries = {name: lambda krillc, folder, harm=harm: of_state(krillc, folder, harm) for name, harm in STATES.items()}
-    tries |= {"what is left over": of_left_over, "no store": of_nothing}
+    tries = {name: partial(of_state, name=name, harm=harm) for name, harm in STATES.items()}
+    tries |= {"no journal": of_no_journal, "what is left over": of_left_over, "no store": of_nothing}
     wrong = []
     for name, attempt in tries.items():
         os.mkdir("audited")

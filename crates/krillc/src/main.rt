@@ -45,10 +45,10 @@ const UNNAMED: &str = "krill-data/.audit";
 /// How many bytes a journal without records has at most.
 const EMPTY_JOURNAL: u64 = 17;
 
-/// Where a journal's first gate stands, and the byte that opens it.
-const FIRST_GATE: u64 = 16;
+/// What a journal begins with, and what it begins with where it has a record: its first gate is open then.
+const HEADER: &[u8] = b"KRILLJOURNAL0001";
 
-const OPEN: u8 = 1;
+const FIRST_RECORD: &[u8] = b"KRILLJOURNAL0001\x01";
 
 /// A press that is shorter has no edition: it may lack even the record of its store, which opening writes.
 const SMALL_PRESS: u64 = 4096;
@@ -242,7 +242,7 @@ fn asks_to_sign(words: &[String]) -> bool {
 
 /// Whether desks hold commands, and the press has no edition and no store yet.
 fn begins_anew(rt: &HostRuntime, disks: &mut Disks) -> Result<bool, DiskStop> {
-    if holds_records(rt, &mut disks.press)? {
+    if !is_begun_anew(rt, &mut disks.press)? {
         return Ok(false);
     }
     for desk in disks.desks.iter_mut() {
@@ -253,12 +253,25 @@ fn begins_anew(rt: &HostRuntime, disks: &mut Disks) -> Result<bool, DiskStop> {
     Ok(false)
 }
 
-/// Whether a record stands in the file's journal: its first gate is open then. A record that a stop has left half
-/// written stands behind one that is closed.
+/// Whether opening takes the file for a journal without records: it is too short for one, or its first gate is closed,
+/// behind which a stop may have left a record half written. What has another header isn't opened.
+fn is_begun_anew(rt: &HostRuntime, disk: &mut FileDisk) -> Result<bool, DiskStop> {
+    if disk.len(rt.alloc())? <= EMPTY_JOURNAL {
+        return Ok(true);
+    }
+    Ok(begins_with(rt, disk, HEADER)? && !begins_with(rt, disk, FIRST_RECORD)?)
+}
+
+/// Whether a record stands in the file's journal.
 fn holds_records(rt: &HostRuntime, disk: &mut FileDisk) -> Result<bool, DiskStop> {
-    let mut gate = [0];
-    let read = disk.read(rt.alloc(), FIRST_GATE, &mut gate)?;
-    Ok(read == 1 && gate[0] == OPEN)
+    Ok(disk.len(rt.alloc())? > EMPTY_JOURNAL && begins_with(rt, disk, FIRST_RECORD)?)
+}
+
+/// Whether the file begins with these bytes, of which there are no more than a journal without records has.
+fn begins_with(rt: &HostRuntime, disk: &mut FileDisk, bytes: &[u8]) -> Result<bool, DiskStop> {
+    let mut head = [0; EMPTY_JOURNAL as usize];
+    let read = disk.read(rt.alloc(), 0, &mut head)?;
+    Ok(head[..read].starts_with(bytes))
 }
 
 /// Says that relying parties need a new locator.
