@@ -36,12 +36,6 @@ def write(path, content):
         file.write(content)
 
 
-def write_alone(data, name, content):
-    """One file, and no other."""
-    lose_all(data)
-    write(os.path.join(data, name), content)
-
-
 def lose_all(data):
     """A folder in which nothing stands."""
     for name in os.listdir(data):
@@ -56,14 +50,11 @@ STATES = {
     "a press whose first record was cut short": lambda data: write(os.path.join(data, "press"), HEAD + bytes(8) + b"\x30half"),
     "a press of a journal's least bytes": lambda data: write(os.path.join(data, "press"), HEADER + b"\x01"),
     "no press and no desk but one": lambda data: [os.unlink(os.path.join(data, it)) for it in os.listdir(data) if it != "desk-00"],
-    "a desk of a journal's least bytes alone": lambda data: write_alone(data, "desk-00", HEADER + b"\x01"),
     "an empty folder": lose_all,
 }
-# Those without a command, behind which no trust anchor was told of.
-WITHOUT_COMMANDS = {"a desk of a journal's least bytes alone", "an empty folder"}
 
 
-def of_state(krillc, folder, name, harm):
+def of_state(krillc, folder, harm):
     """What is wrong with an audit of such a store and with the run behind it, if anything."""
     data = os.path.join(folder, DATA)
     run(krillc, folder, "run", lines=COMMAND)
@@ -76,9 +67,22 @@ def of_state(krillc, folder, name, harm):
         if found_in(folder) != kept:
             return f"an audit leaves {sorted(found_in(folder).items() ^ kept.items())}"
     done = run(krillc, folder, "run", *BASES)
-    is_told = name not in WITHOUT_COMMANDS
+    is_told = "desk-00" in kept
     if done.returncode or (NEW_ANCHOR in done.stderr) != is_told:
         return f"a run behind an audit: status {done.returncode}, {done.stderr!r}"
+    return None
+
+
+def of_least_desk(krillc, folder):
+    """A desk of no more bytes than a journal without records has holds no command, whatever they are: so no trust anchor was
+    told of that ends."""
+    run(krillc, folder, "run")
+    data = os.path.join(folder, DATA)
+    lose_all(data)
+    write(os.path.join(data, "desk-00"), HEADER + b"\x01")
+    done = run(krillc, folder, "run")
+    if done.returncode or NEW_ANCHOR in done.stderr:
+        return f"status {done.returncode}, {done.stderr!r}"
     return None
 
 
@@ -125,8 +129,9 @@ def of_nothing(krillc, folder):
 
 def try_audits(krillc):
     """What is wrong, and how many stores were tried."""
-    tries = {name: partial(of_state, name=name, harm=harm) for name, harm in STATES.items()}
-    tries |= {"no journal": of_no_journal, "what is left over": of_left_over, "no store": of_nothing}
+    tries = {name: partial(of_state, harm=harm) for name, harm in STATES.items()}
+    tries |= {"a desk's least bytes": of_least_desk, "no journal": of_no_journal}
+    tries |= {"what is left over": of_left_over, "no store": of_nothing}
     wrong = []
     for name, attempt in tries.items():
         os.mkdir("audited")
